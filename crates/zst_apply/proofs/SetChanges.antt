@@ -1,9 +1,9 @@
 -- What calls on a set answer, one after another, is what a record's call answers.
-use Rattle.std.proofs.Common.{◌≡◌, ℕ, Bool, [], ◌∷◌, List, Result, Ok, Err, refl, sym, subst}
+use Rattle.std.proofs.Common.{◌≡◌, ℕ, [], ◌∷◌, List, Result, Ok, Err, refl, sym, subst}
 use Rattle.std.specs.Prelude.{None, IfErr, OnErr, OnOk}
-use Rattle.zst_outside.specs.Images.{DiskState}
 use Rattle.zst_space.specs.FreeSectors.{FreeSectors}
-use Rattle.zst_block.specs.Blocks.{FitsDisk, Has, SparesTaken}
+use Rattle.zst_block.specs.Blocks.{Has, SparesTaken}
+use Rattle.zst_block.specs.IoStates.{IoState}
 use Rattle.zst_block.specs.IoCalls.{Looks, Works}
 use Rattle.zst_block.proofs.IoCallLemmas.{Works-after, Works-looks}
 use Rattle.zst_model.specs.declared.refusals.faults.Quantity.TheVariants as quantities
@@ -49,38 +49,38 @@ fits_then set made (Ok done) kept fit fits = fit
 fits_then set made (Err fault) kept fit fits = subst SetFits (sym kept) fits
 
 -- a call that only read, and is refused
-pub refused_after : {number most block : ℕ} {old : DiskState} {space : FreeSectors} {failed : Bool} {new : DiskState} {left : FreeSectors} {failed' : Bool} {set : ObjSet}
-    (definition : ℕ → DatedState → Result DatedState Refusal) (fault : ObjFault) → FitsDisk old.size space → Looks old space failed new left failed' (stop_of {T = Unit {0}} (Err fault))
-    → ((index : ℕ) (state : DatedState) → new.honest → SetHolds (Has old.seen space) set state → RefusesRecord index (definition index state) fault)
-    → LimitOfIndex fault → NotRedacted fault → (new.honest → IfSetDamaged {T = Unit {0}} (Err fault) (apply_damage (SparesTaken space old.seen) old.size set))
-    → Changed number definition most block old space failed new left failed' set set (Err fault)
-refused_after definition fault fits looks refuses limits unredacted damaged = record {
+pub refused_after : {number most block : ℕ} {old new : IoState} {set : ObjSet}
+    (definition : ℕ → DatedState → Result DatedState Refusal) (fault : ObjFault) → Looks old new (stop_of {T = Unit {0}} (Err fault))
+    → ((index : ℕ) (state : DatedState) → new.disk.honest → SetHolds (Has old.disk.seen old.space) set state → RefusesRecord index (definition index state) fault)
+    → LimitOfIndex fault → NotRedacted fault → (new.disk.honest → IfSetDamaged {T = Unit {0}} (Err fault) (apply_damage (SparesTaken old.space old.disk.seen) old.disk.size set))
+    → Changed number definition most block old new set set (Err fault)
+refused_after definition fault looks refuses limits unredacted damaged = record {
   changed = refuses;
   tight = λ index state honest tight dated. refuses index state honest tight.holds;
-  keeps = record { limits = limits; never_redacted = unredacted; damaged = damaged; kept = refl; levels = λ fit. fit; works = Works-looks fits looks };
+  keeps = record { limits = limits; never_redacted = unredacted; damaged = damaged; kept = refl; levels = λ fit. fit; works = Works-looks looks };
 }
 
-module _ {number most block : ℕ} {old : DiskState} {space : FreeSectors} {failed : Bool} {new : DiskState} {left : FreeSectors} {failed' : Bool} {set made : ObjSet} where
+module _ {number most block : ℕ} {old new : IoState} {set made : ObjSet} where
   -- a call that answers what the item makes
   pub changed_by : (item : Item) (makes : DatedState → Result DatedState Refusal) (result : Result (Unit {0}) ObjFault)
-      → ((index : ℕ) (state : DatedState) → new.honest → SetHolds (Has old.seen space) set state → received number index item state ≡ for_record index (makes state))
-      → ((state : DatedState) → new.honest → SetHolds (Has old.seen space) set state → Changes (SetHolds (Has new.seen left) made) (makes state) result)
-      → ((state : DatedState) → new.honest → SetIsTight (Has old.seen space) set state → DatedUpTo number state → Changes (SetIsTight (Has new.seen left) made) (makes state) result)
-      → Keeps most block old space failed new left failed' set made result
-      → Changed number (λ index. received number index item) most block old space failed new left failed' set made result
+      → ((index : ℕ) (state : DatedState) → new.disk.honest → SetHolds (Has old.disk.seen old.space) set state → received number index item state ≡ for_record index (makes state))
+      → ((state : DatedState) → new.disk.honest → SetHolds (Has old.disk.seen old.space) set state → Changes (SetHolds (Has new.disk.seen new.space) made) (makes state) result)
+      → ((state : DatedState) → new.disk.honest → SetIsTight (Has old.disk.seen old.space) set state → DatedUpTo number state → Changes (SetIsTight (Has new.disk.seen new.space) made) (makes state) result)
+      → Keeps most block old new set made result
+      → Changed number (λ index. received number index item) most block old new set made result
   changed_by item makes result is changes tightly keeps = record {
-    changed = λ index state honest holds. applies_as number index item state (makes state) (is index state honest holds) (SetHolds (Has new.seen left) made) result (changes state honest holds);
-    tight = λ index state honest tight dated. applies_as number index item state (makes state) (is index state honest tight.holds) (SetIsTight (Has new.seen left) made) result (tightly state honest tight dated);
+    changed = λ index state honest holds. applies_as number index item state (makes state) (is index state honest holds) (SetHolds (Has new.disk.seen new.space) made) result (changes state honest holds);
+    tight = λ index state honest tight dated. applies_as number index item state (makes state) (is index state honest tight.holds) (SetIsTight (Has new.disk.seen new.space) made) result (tightly state honest tight dated);
     keeps = keeps;
   }
 
   -- an item is all that a record says; what it may take is more
-  pub record_changed : {fewer other : ℕ} (item : Item) (result : Result (Unit {0}) ObjFault) → Changed number (λ index. received number index item) fewer other old space failed new left failed' set made result
-      → Works most block old space failed new left failed' (stop_of result)
-      → Changed number (λ index. received_all number index (item ∷ [])) most block old space failed new left failed' set made result
+  pub record_changed : {fewer other : ℕ} (item : Item) (result : Result (Unit {0}) ObjFault) → Changed number (λ index. received number index item) fewer other old new set made result
+      → Works most block old new (stop_of result)
+      → Changed number (λ index. received_all number index (item ∷ [])) most block old new set made result
   record_changed item result did works = record {
-    changed = λ index state honest holds. all_applied number index item state (SetHolds (Has new.seen left) made) result (did.changed index state honest holds);
-    tight = λ index state honest tight dated. all_applied number index item state (SetIsTight (Has new.seen left) made) result (did.tight index state honest tight dated);
+    changed = λ index state honest holds. all_applied number index item state (SetHolds (Has new.disk.seen new.space) made) result (did.changed index state honest holds);
+    tight = λ index state honest tight dated. all_applied number index item state (SetIsTight (Has new.disk.seen new.space) made) result (did.tight index state honest tight dated);
     keeps = record {
       limits = did.keeps.limits;
       never_redacted = did.keeps.never_redacted;
@@ -92,15 +92,15 @@ module _ {number most block : ℕ} {old : DiskState} {space : FreeSectors} {fail
   }
 
   -- a call behind one that read
-  pub changed_after : {mid : DiskState} {less : FreeSectors} {fails : Bool} (definition : ℕ → DatedState → Result DatedState Refusal) (result : Result (Unit {0}) ObjFault) → Looks old space failed mid less fails None
-      → Changed number definition most block mid less fails new left failed' set made result → Changed number definition most block old space failed new left failed' set made result
-  changed_after {mid} {less} {fails} definition result looks did = record {
-    changed = λ index state honest holds. did.changed index state honest (look_on (λ (seen : List ℕ) (free : FreeSectors). SetHolds (Has seen free) set state) _ _ _ _ _ _ _ looks holds);
-    tight = λ index state honest tight dated. did.tight index state honest (look_on (λ (seen : List ℕ) (free : FreeSectors). SetIsTight (Has seen free) set state) _ _ _ _ _ _ _ looks tight) dated;
+  pub changed_after : {mid : IoState} (definition : ℕ → DatedState → Result DatedState Refusal) (result : Result (Unit {0}) ObjFault) → Looks old mid None
+      → Changed number definition most block mid new set made result → Changed number definition most block old new set made result
+  changed_after definition result looks did = record {
+    changed = λ index state honest holds. did.changed index state honest (look_on (λ (seen : List ℕ) (free : FreeSectors). SetHolds (Has seen free) set state) looks holds);
+    tight = λ index state honest tight dated. did.tight index state honest (look_on (λ (seen : List ℕ) (free : FreeSectors). SetIsTight (Has seen free) set state) looks tight) dated;
     keeps = record {
       limits = did.keeps.limits;
       never_redacted = did.keeps.never_redacted;
-      damaged = λ honest. told_before _ _ _ _ _ _ _ looks set result (did.keeps.damaged honest);
+      damaged = λ honest. told_before looks set result (did.keeps.damaged honest);
       kept = did.keeps.kept;
       levels = did.keeps.levels;
       works = Works-after looks did.keeps.works;

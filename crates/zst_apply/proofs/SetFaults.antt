@@ -1,9 +1,9 @@
 -- What calls one after another tell of damage and of limits.
-use Rattle.std.proofs.Common.{Bool, inl, inr, ◌⊎◌, ℕ, List, subst, Result, Err}
+use Rattle.std.proofs.Common.{inl, inr, ◌⊎◌, ℕ, List, subst, Result, Err}
 use Rattle.std.specs.Prelude.{Option, IfErr}
-use Rattle.zst_outside.specs.Images.{DiskState}
 use Rattle.zst_space.specs.FreeSectors.{FreeSectors}
 use Rattle.zst_block.specs.Blocks.{SparesTaken}
+use Rattle.zst_block.specs.IoStates.{IoState}
 use Rattle.zst_block.specs.IoCalls.{Looks}
 use Rattle.zst_block.specs.declared.fault.BlockFault.{BlockFault}
 use Rattle.zst_tree.specs.Damage.{IsSeen, NamesNode, SumsUp}
@@ -54,11 +54,11 @@ pub read_told : (space : FreeSectors) (seen : List ℕ) (size : ℕ) (set : ObjS
 read_told space seen size set fault told = slots_told (SparesTaken space seen) size set (Err fault) (set_spared _ _ _ set Dnode (Unit {0}) fault told)
 
 -- what is told after a call that only read is told of what was there
-module _ (old : DiskState) (space : FreeSectors) (failed : Bool) (mid : DiskState) (less : FreeSectors) (fails : Bool) (stop : Option BlockFault) (looks : Looks old space failed mid less fails stop) (set : ObjSet) (result : Result (Unit {0}) ObjFault) where
-  pub told_before : IfSetDamaged result (apply_damage (SparesTaken less mid.seen) mid.size set) → IfSetDamaged result (apply_damage (SparesTaken space old.seen) old.size set)
-  told_before told =
-      look_back (λ (seen : List ℕ) (free : FreeSectors). IfSetDamaged result (apply_damage (SparesTaken free seen) old.size set)) old space failed mid less fails stop looks
-      (subst (λ (size : ℕ). IfSetDamaged result (apply_damage (SparesTaken less mid.seen) size set)) looks.reads.size told)
+pub told_before : {old mid : IoState} {stop : Option BlockFault} → Looks old mid stop → (set : ObjSet) (result : Result (Unit {0}) ObjFault)
+    → IfSetDamaged result (apply_damage (SparesTaken mid.space mid.disk.seen) mid.disk.size set) → IfSetDamaged result (apply_damage (SparesTaken old.space old.disk.seen) old.disk.size set)
+told_before {old} {mid} looks set result told =
+    look_back (λ (seen : List ℕ) (free : FreeSectors). IfSetDamaged result (apply_damage (SparesTaken free seen) old.disk.size set)) looks
+    (subst (λ (size : ℕ). IfSetDamaged result (apply_damage (SparesTaken mid.space mid.disk.seen) size set)) looks.reads.size told)
 
 -- a limit that can't be passed
 inside_limit : (which : Quantity) (limit past : ℕ) → past ≤ limit → (fault : ObjFault) → LimitOnly which limit past fault → LimitOfIndex fault

@@ -1,7 +1,7 @@
 //! The records that say what stands at indices of an object: WRITE, FREE and REDACT.
 ghost use Rattle.std.specs.Prelude.{◌≡◌, ◌+◌, ◌/◌, ◌<◌, ℕ, IfErr, IfOk, length};
-ghost use Rattle.zst_block.specs.Blocks.{FitsDisk, Has};
 ghost use Rattle.zst_block.specs.IoCalls.{Looks};
+ghost use Rattle.zst_block.specs.IoStates.{IsHonest, blocks_of, disk_of, io_of};
 ghost use Rattle.zst_model.specs.declared.states.item.Change.TheVariants.{Write};
 ghost use Rattle.zst_model.specs.declared.states.item.Item.TheVariants.{At};
 ghost use Rattle.zst_model.specs.sends.ReceivedRecords.{received};
@@ -34,16 +34,13 @@ pub(crate) enum Fill {
 // The dnode of an object that has to be there.
 fn object_there<D: Disk>(io: &mut Io<'_, D>, set: &ObjSet, object: u64) -> Result<Dnode, ObjFault>
     requires object { 0 < object }
-    requires fits { FitsDisk (D.state io.old.disk.now).size io.old.space }
-    ensures found { (state : DatedState) → (D.state io.new.disk.now).honest → SetHolds (Has (D.state io.old.disk.now).seen io.old.space) set.now state
-        → FindsThere (Has (D.state io.new.disk.now).seen io.new.space) state object result }
+    ensures found { (state : DatedState) → IsHonest io.new → SetHolds (blocks_of io.old) set.now state
+        → FindsThere (blocks_of io.new) state object result }
     ensures size { IfOk result (λ dnode. 0 < dnode.block_size) }
     ensures limits { IfErr result NotLimit }
     ensures never_redacted { IfErr result NotRedacted }
-    ensures damaged { (D.state io.new.disk.now).honest → IfSetDamaged result (IsDamagedSet (IsSeen (D.state io.old.disk.now).seen) (D.state io.old.disk.now).size set.now) }
-    ensures looks { Looks (D.state io.old.disk.now) io.old.space io.old.failed (D.state io.new.disk.now) io.new.space io.new.failed (stop_of result) }
-    ensures kept_fit { FitsDisk (D.state io.new.disk.now).size io.new.space }
-    ensures same { io.new.disk.ghost_name ≡ io.old.disk.ghost_name }
+    ensures damaged { IsHonest io.new → IfSetDamaged result (IsDamagedSet (IsSeen (disk_of io.old).seen) (disk_of io.old).size set.now) }
+    ensures looks { Looks (io_of io.old) (io_of io.new) (stop_of result) }
 {
     set.attr(io, object)?
         .ok_or(ObjFault::CannotApply(ApplyFault::NoObject))
@@ -70,11 +67,9 @@ pub(crate) fn write_block<D: Disk>(
     number: u64,
 ) -> Result<(), ObjFault>
     requires object { 0 < object }
-    requires fits { FitsDisk (D.state io.old.disk.now).size io.old.space }
     // Nothing is made by the type that it states.
     ensures changed { (kind : ℕ) → Changed number (λ index. received number index (At object (Write offset kind bytes.now))) (640 + length bytes.now / 512) (length bytes.now / 512)
-        (D.state io.old.disk.now) io.old.space io.old.failed (D.state io.new.disk.now) io.new.space io.new.failed set.old set.new result }
-    ensures same { io.new.disk.ghost_name ≡ io.old.disk.ghost_name }
+        (io_of io.old) (io_of io.new) set.old set.new result }
 {
     let dnode = object_there(io, set, object)?;
     check_write(&dnode, offset, bytes.len())?;
@@ -93,10 +88,8 @@ pub(crate) fn fill_range<D: Disk>(
     number: u64,
 ) -> Result<(), ObjFault>
     requires object { 0 < object }
-    requires fits { FitsDisk (D.state io.old.disk.now).size io.old.space }
     ensures changed { Changed number (λ index. received number index (At object (change_of fill offset length))) 1280 16
-        (D.state io.old.disk.now) io.old.space io.old.failed (D.state io.new.disk.now) io.new.space io.new.failed set.old set.new result }
-    ensures same { io.new.disk.ghost_name ≡ io.old.disk.ghost_name }
+        (io_of io.old) (io_of io.new) set.old set.new result }
 {
     let dnode = object_there(io, set, object)?;
     check_range(&dnode, fill, offset, length)?;

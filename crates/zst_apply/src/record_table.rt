@@ -1,6 +1,6 @@
 //! The table of what each record does.
 ghost use Rattle.std.specs.Prelude.{◌≡◌, ◌==◌, length, bit_and};
-ghost use Rattle.zst_block.specs.Blocks.{FitsDisk};
+ghost use Rattle.zst_block.specs.IoStates.{io_of};
 ghost use Rattle.zst_model.specs.sends.Headers.{spill_block};
 ghost use Rattle.zst_record.specs.Heads.{payload_len};
 ghost use Rattle.zst_stream.specs.Items.{items_by, keeps_spill};
@@ -42,13 +42,11 @@ pub fn apply<D: Disk>(
     flags: u32,
     number: u64,
 ) -> Result<(), ObjFault>
-    requires fits { FitsDisk (D.state io.old.disk.now).size io.old.space }
     requires record { IsOfStream covered.now.head.now }
     requires payload { length covered.now.payload.now ≡ payload_len covered.now.head.now }
     // Whatever it answers it takes no more sectors than the record costs, and E24 is of a block of a tree or of its own.
     ensures changed { Changed number (λ index. received_all number index (items_by flags covered.now.payload.now covered.now.head.now)) (record_cost covered.now.head.now) (record_block covered.now.head.now)
-        (D.state io.old.disk.now) io.old.space io.old.failed (D.state io.new.disk.now) io.new.space io.new.failed set.old set.new result }
-    ensures same { io.new.disk.ghost_name ≡ io.old.disk.ghost_name }
+        (io_of io.old) (io_of io.new) set.old set.new result }
 {
     match covered.head {
         Head::Object {

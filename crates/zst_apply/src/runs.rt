@@ -1,6 +1,6 @@
 //! WRITE records of neighbouring blocks of an object, applied at once.
 ghost use Rattle.std.specs.Prelude.{◌≡◌, ◌+◌, ◌*◌, ◌/◌, ◌%◌, ◌^◌, ◌<◌, ◌≤◌, ℕ, List, Some, length, true, false};
-ghost use Rattle.zst_block.specs.Blocks.{FitsDisk, Has};
+ghost use Rattle.zst_block.specs.IoStates.{IsHonest, blocks_of, io_of};
 ghost use Rattle.zst_model.specs.pools.Soundness.{DatedUpTo};
 ghost use Rattle.zst_model.specs.states.DatedState.{DatedState};
 ghost use Rattle.zst_model.specs.states.State.{Object, is_block_size, is_odd_size};
@@ -34,15 +34,13 @@ pub fn write_run<D: Disk>(
     requires group { index % 128 + count ≤ 128 }
     requires inside { index + count ≤ 2 ^ 43 }
     requires long { length bytes.now ≡ count * size }
-    requires fits { FitsDisk (D.state io.old.disk.now).size io.old.space }
-    ensures changed { (records : List (ℕ × ℕ)) (thing : Object) (state : DatedState) → (D.state io.new.disk.now).honest → SetHolds (Has (D.state io.old.disk.now).seen io.old.space) set.old state
+    ensures changed { (records : List (ℕ × ℕ)) (thing : Object) (state : DatedState) → IsHonest io.new → SetHolds (blocks_of io.old) set.old state
         → state.state object ≡ Some thing → thing.attr.block_size ≡ size → length records ≡ count
-        → Applies 0 (SetHolds (Has (D.state io.new.disk.now).seen io.new.space) set.new) (run_received number object size (index * size) records bytes.now state) result }
-    ensures tight { (records : List (ℕ × ℕ)) (thing : Object) (state : DatedState) → (D.state io.new.disk.now).honest → SetIsTight (Has (D.state io.old.disk.now).seen io.old.space) set.old state → DatedUpTo number state
+        → Applies 0 (SetHolds (blocks_of io.new) set.new) (run_received number object size (index * size) records bytes.now state) result }
+    ensures tight { (records : List (ℕ × ℕ)) (thing : Object) (state : DatedState) → IsHonest io.new → SetIsTight (blocks_of io.old) set.old state → DatedUpTo number state
         → state.state object ≡ Some thing → thing.attr.block_size ≡ size → length records ≡ count
-        → Applies 0 (SetIsTight (Has (D.state io.new.disk.now).seen io.new.space) set.new) (run_received number object size (index * size) records bytes.now state) result }
-    ensures keeps { Keeps (count * (size / 512) + 464) (size / 512) (D.state io.old.disk.now) io.old.space io.old.failed (D.state io.new.disk.now) io.new.space io.new.failed set.old set.new result }
-    ensures same { io.new.disk.ghost_name ≡ io.old.disk.ghost_name }
+        → Applies 0 (SetIsTight (blocks_of io.new) set.new) (run_received number object size (index * size) records bytes.now state) result }
+    ensures keeps { Keeps (count * (size / 512) + 464) (size / 512) (io_of io.old) (io_of io.new) set.old set.new result }
 {
     applied_is_state();
     write_blocks(set, io, object, index, size, count, bytes, number)

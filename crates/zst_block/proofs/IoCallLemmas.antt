@@ -5,13 +5,14 @@ use Rattle.zst_outside.specs.Images.{OnlyReads}
 use Rattle.zst_space.specs.FreeSectors.{largest_of, room}
 use Rattle.zst_space.specs.TakenExtents.{without}
 use Rattle.zst_outside.specs.Causes.{Rose-earlier}
-use Rattle.zst_outside.specs.Images.{DiskState, OnlyReads-none, OnlyReads-then}
+use Rattle.zst_outside.specs.Images.{OnlyReads-none, OnlyReads-then}
 use Rattle.zst_space.specs.FreeSectors.{FreeSectors}
-use Rattle.zst_block.specs.Blocks.{FitsDisk, FillsFree}
+use Rattle.zst_block.specs.Blocks.{FillsFree}
 use Rattle.zst_block.proofs.BlocksLaws.{FillsFree-then, FillsFree-reads}
 use Rattle.zst_block.specs.declared.fault.BlockFault.{BlockFault}
 use Rattle.zst_block.specs.declared.fault.BlockFault.TheVariants.{Full, Damaged, DiskFault}
 use Rattle.zst_block.specs.Faults.{is_disk_fault, HasDiskCause}
+use Rattle.zst_block.specs.IoStates.{IoState}
 use Rattle.zst_block.specs.IoCalls.{stop_of, fails, HasCause, TakesAtMost, IsFull, Looks, Works}
 use Rattle.zst_block.specs.declared.ptr.Ptr.{Ptr}
 use Rattle.zst_block.proofs.TakenSectors.{takes}
@@ -24,11 +25,9 @@ HasCause-then : (before mid now : ℕ) (stop : Option BlockFault) → before ≤
 HasCause-then before mid now stop later cause = record { later = omega (arith, later, cause.later); fault = λ is. Rose-earlier before mid now later (cause.fault is) }
 
 -- after a call that ended well, another one
-pub Works-then : {most more block : ℕ} {old : DiskState} {old_space : FreeSectors} {old_failed : Bool} {mid : DiskState} {less : FreeSectors} {mid_failed : Bool} {new : DiskState} {least : FreeSectors} {new_failed : Bool} {stop : Option BlockFault}
-    → Works most block old old_space old_failed mid less mid_failed None → Works more block mid less mid_failed new least new_failed stop → Works (most + more) block old old_space old_failed new least new_failed stop
-Works-then {most} {more} {block} {old} {old_space} {old_failed} {mid} {less} {mid_failed} {new} {least} {new_failed} {stop} first second = record {
-  fills = FillsFree-then old mid new old_space less least first.fills second.fills;
-  fits = second.fits;
+pub Works-then : {most more block : ℕ} {old mid new : IoState} {stop : Option BlockFault} → Works most block old mid None → Works more block mid new stop → Works (most + more) block old new stop
+Works-then {most} {more} {block} {old} {mid} {new} {stop} first second = record {
+  fills = FillsFree-then old.disk mid.disk new.disk old.space mid.space new.space first.fills second.fills;
   takes = record {
     sectors = second.takes.sectors ∙ first.takes.sectors;
     left = omega (arith, first.takes.left, second.takes.left);
@@ -38,63 +37,57 @@ Works-then {most} {more} {block} {old} {old_space} {old_failed} {mid} {less} {mi
   full = λ need largest is.
       let full = second.full need largest is in
       record { shorter = full.shorter; is_longest = full.is_longest; needed = full.needed; before = omega (arith, full.before, first.takes.longest) };
-  failed = second.failed ∙ ap (λ (b : Bool). b || fails stop) (first.failed ∙ or_false old_failed);
-  cause = HasCause-then old.faults mid.faults new.faults stop first.cause.later second.cause;
+  failed = second.failed ∙ ap (λ (b : Bool). b || fails stop) (first.failed ∙ or_false old.failed);
+  cause = HasCause-then old.disk.faults mid.disk.faults new.disk.faults stop first.cause.later second.cause;
+  same = second.same ∙ first.same;
 }
 
 -- after a call that only read, one that writes
-pub Works-after : {more block : ℕ} {old : DiskState} {old_space : FreeSectors} {old_failed : Bool} {mid : DiskState} {less : FreeSectors} {mid_failed : Bool} {new : DiskState} {least : FreeSectors} {new_failed : Bool} {stop : Option BlockFault}
-    → Looks old old_space old_failed mid less mid_failed None → Works more block mid less mid_failed new least new_failed stop → Works more block old old_space old_failed new least new_failed stop
-Works-after {more} {block} {old} {old_space} {old_failed} {mid} {less} {mid_failed} {new} {least} {new_failed} {stop} first second =
-    let same : less ≡ old_space = first.space in
-    let fills : FillsFree old old_space mid less = subst (λ (s : FreeSectors). FillsFree old old_space mid s) (sym same) (FillsFree-reads old mid old_space first.reads) in
+pub Works-after : {more block : ℕ} {old mid new : IoState} {stop : Option BlockFault} → Looks old mid None → Works more block mid new stop → Works more block old new stop
+Works-after {more} {block} {old} {mid} {new} {stop} first second =
+    let same : mid.space ≡ old.space = first.space in
+    let fills : FillsFree old.disk old.space mid.disk mid.space = subst (λ (s : FreeSectors). FillsFree old.disk old.space mid.disk s) (sym same) (FillsFree-reads old.disk mid.disk old.space first.reads) in
     record {
-      fills = FillsFree-then old mid new old_space less least fills second.fills;
-      fits = second.fits;
-      takes = subst (λ (s : FreeSectors). TakesAtMost more s least) same second.takes;
-      full = subst (λ (s : FreeSectors). (need largest : ℕ) → stop ≡ Some (Full need largest) → IsFull more block s least need largest) same second.full;
-      failed = second.failed ∙ ap (λ (b : Bool). b || fails stop) (first.failed ∙ or_false old_failed);
-      cause = HasCause-then old.faults mid.faults new.faults stop first.cause.later second.cause;
+      fills = FillsFree-then old.disk mid.disk new.disk old.space mid.space new.space fills second.fills;
+      takes = subst (λ (s : FreeSectors). TakesAtMost more s new.space) same second.takes;
+      full = subst (λ (s : FreeSectors). (need largest : ℕ) → stop ≡ Some (Full need largest) → IsFull more block s new.space need largest) same second.full;
+      failed = second.failed ∙ ap (λ (b : Bool). b || fails stop) (first.failed ∙ or_false old.failed);
+      cause = HasCause-then old.disk.faults mid.disk.faults new.disk.faults stop first.cause.later second.cause;
+      same = second.same ∙ first.same;
     }
 
--- after a call that only read, the free sectors fit the disk as before
-pub Looks-fits : {old : DiskState} {space : FreeSectors} {old_failed : Bool} {new : DiskState} {less : FreeSectors} {new_failed : Bool} {stop : Option BlockFault}
-    → FitsDisk old.size space → Looks old space old_failed new less new_failed stop → FitsDisk new.size less
-Looks-fits {old} {space} {old_failed} {new} {less} {new_failed} {stop} fits looks =
-    subst (λ (s : FreeSectors). FitsDisk new.size s) (sym looks.space) (subst (λ (n : ℕ). FitsDisk n space) (sym looks.reads.size) fits)
-
-module _ {most block : ℕ} {old : DiskState} {space : FreeSectors} {old_failed : Bool} {new : DiskState} {less : FreeSectors} {new_failed : Bool} {stop : Option BlockFault} where
+module _ {most block : ℕ} {old new : IoState} {stop : Option BlockFault} where
   -- a call that only reads takes nothing
-  pub Works-looks : FitsDisk old.size space → Looks old space old_failed new less new_failed stop → Works most block old space old_failed new less new_failed stop
-  Works-looks fits looks = record {
-    fills = subst (λ (s : FreeSectors). FillsFree old space new s) (sym looks.space) (FillsFree-reads old new space looks.reads);
-    fits = Looks-fits fits looks;
-    takes = subst (λ (s : FreeSectors). TakesAtMost most space s) (sym looks.space) (record { sectors = refl; left = omega arith; longest = omega arith; unbroken = λ none. none });
+  pub Works-looks : Looks old new stop → Works most block old new stop
+  Works-looks looks = record {
+    fills = subst (λ (s : FreeSectors). FillsFree old.disk old.space new.disk s) (sym looks.space) (FillsFree-reads old.disk new.disk old.space looks.reads);
+    takes = subst (λ (s : FreeSectors). TakesAtMost most old.space s) (sym looks.space) (record { sectors = refl; left = omega arith; longest = omega arith; unbroken = λ none. none });
     full = λ need largest is. absurd (looks.never_full need largest is);
     failed = looks.failed;
     cause = looks.cause;
+    same = looks.same;
   }
 
   -- who takes fewer sectors takes no more
-  pub Works-more : {fewer : ℕ} → fewer ≤ most → Works fewer block old space old_failed new less new_failed stop → Works most block old space old_failed new less new_failed stop
+  pub Works-more : {fewer : ℕ} → fewer ≤ most → Works fewer block old new stop → Works most block old new stop
   Works-more le works = record {
     fills = works.fills;
-    fits = works.fits;
     takes = record { sectors = works.takes.sectors; left = omega (arith, works.takes.left, le); longest = omega (arith, works.takes.longest, le); unbroken = works.takes.unbroken };
     full = λ need largest is. let full = works.full need largest is in record { shorter = full.shorter; is_longest = full.is_longest; needed = full.needed; before = omega (arith, full.before, le) };
     failed = works.failed;
     cause = works.cause;
+    same = works.same;
   }
 
   -- without a block of a length of its own, with one
-  pub Works-block : Works most 16 old space old_failed new less new_failed stop → Works most block old space old_failed new less new_failed stop
+  pub Works-block : Works most 16 old new stop → Works most block old new stop
   Works-block works = record {
     fills = works.fills;
-    fits = works.fits;
     takes = works.takes;
     full = λ need largest is. let full = works.full need largest is in record { shorter = full.shorter; is_longest = full.is_longest; needed = inl (only full.needed); before = full.before };
     failed = works.failed;
     cause = works.cause;
+    same = works.same;
   }
     where
       only : {need : ℕ} → (need ≡ 16) ⊎ (need ≡ 16) → need ≡ 16
@@ -102,24 +95,25 @@ module _ {most block : ℕ} {old : DiskState} {space : FreeSectors} {old_failed 
       only (inr is) = is
 
 -- a call that does nothing
-pub Looks-none : (disk : DiskState) (space : FreeSectors) (failed : Bool) → Looks disk space failed disk space failed None
-Looks-none disk space failed = record {
-  reads = OnlyReads-none disk;
+pub Looks-none : (io : IoState) → Looks io io None
+Looks-none io = record {
+  reads = OnlyReads-none io.disk;
   space = refl;
   never_full = λ need largest is. absurd (cc);
-  failed = sym (or_false failed);
+  failed = sym (or_false io.failed);
   cause = record { later = omega arith; fault = λ is. absurd (cc) };
+  same = refl;
 }
 
 -- two calls that only read
-pub Looks-then : {old : DiskState} {space : FreeSectors} {old_failed : Bool} {mid : DiskState} {less : FreeSectors} {mid_failed : Bool} {new : DiskState} {least : FreeSectors} {new_failed : Bool} {stop : Option BlockFault}
-    → Looks old space old_failed mid less mid_failed None → Looks mid less mid_failed new least new_failed stop → Looks old space old_failed new least new_failed stop
-Looks-then {old} {space} {old_failed} {mid} {less} {mid_failed} {new} {least} {new_failed} {stop} first second = record {
-  reads = OnlyReads-then old mid new first.reads second.reads;
+pub Looks-then : {old mid new : IoState} {stop : Option BlockFault} → Looks old mid None → Looks mid new stop → Looks old new stop
+Looks-then {old} {mid} {new} {stop} first second = record {
+  reads = OnlyReads-then old.disk mid.disk new.disk first.reads second.reads;
   space = second.space ∙ first.space;
   never_full = second.never_full;
-  failed = second.failed ∙ ap (λ (b : Bool). b || fails stop) (first.failed ∙ or_false old_failed);
-  cause = HasCause-then old.faults mid.faults new.faults stop first.cause.later second.cause;
+  failed = second.failed ∙ ap (λ (b : Bool). b || fails stop) (first.failed ∙ or_false old.failed);
+  cause = HasCause-then old.disk.faults mid.disk.faults new.disk.faults stop first.cause.later second.cause;
+  same = second.same ∙ first.same;
 }
 
 -- a call stops at a fault of the disk where its answer is one
@@ -137,30 +131,33 @@ cause_of : {T : Type 0} → (before now : ℕ) (result : Result T BlockFault) �
 cause_of before now result cause = record { later = cause.later; fault = λ is. cause.fault (err_of result DiskFault is) }
 
 -- a call that answers as a read does
-pub Looks-read : {T : Type 0} → (old : DiskState) (space : FreeSectors) (old_failed : Bool) (new : DiskState) (less : FreeSectors) (new_failed : Bool) (result : Result T BlockFault)
-    → OnlyReads old new → less ≡ space → ((need largest : ℕ) → ¬ (result ≡ Err (Full need largest))) → new_failed ≡ (old_failed || is_disk_fault result) → HasDiskCause old.faults new.faults result
-    → Looks old space old_failed new less new_failed (stop_of result)
-Looks-read old space old_failed new less new_failed result reads same never failed cause = record {
+pub Looks-read : {T : Type 0} → (old new : IoState) (result : Result T BlockFault)
+    → OnlyReads old.disk new.disk → new.space ≡ old.space → ((need largest : ℕ) → ¬ (result ≡ Err (Full need largest))) → new.failed ≡ (old.failed || is_disk_fault result)
+    → HasDiskCause old.disk.faults new.disk.faults result → new.reference ≡ old.reference
+    → Looks old new (stop_of result)
+Looks-read old new result reads space never failed cause same = record {
   reads = reads;
-  space = same;
+  space = space;
   never_full = λ need largest is. never need largest (err_of result (Full need largest) is);
-  failed = failed ∙ ap (λ (b : Bool). old_failed || b) (sym (fails_is result));
-  cause = cause_of old.faults new.faults result cause;
+  failed = failed ∙ ap (λ (b : Bool). old.failed || b) (sym (fails_is result));
+  cause = cause_of old.disk.faults new.disk.faults result cause;
+  same = same;
 }
 
 -- a call that answers as a write of a block does
-pub Works-write : (count : ℕ) (old : DiskState) (space : FreeSectors) (old_failed : Bool) (new : DiskState) (less : FreeSectors) (new_failed : Bool) (result : Result Ptr BlockFault)
-    → FillsFree old space new less → FitsDisk new.size less → (count ≤ largest_of space → less ≡ without space count) → (largest_of space < count → less ≡ space) → room space ≤ room less + count
-    → ((need largest : ℕ) → (result ≡ Err (Full need largest)) ↔ ((need ≡ count) × (largest ≡ largest_of space) × (largest < need)))
-    → new_failed ≡ (old_failed || is_disk_fault result) → HasDiskCause old.faults new.faults result
-    → Works count count old space old_failed new less new_failed (stop_of result)
-Works-write count old space old_failed new less new_failed result fills fits after untouched left full_is failed cause = record {
+pub Works-write : (count : ℕ) (old new : IoState) (result : Result Ptr BlockFault)
+    → FillsFree old.disk old.space new.disk new.space → (count ≤ largest_of old.space → new.space ≡ without old.space count) → (largest_of old.space < count → new.space ≡ old.space)
+    → room old.space ≤ room new.space + count
+    → ((need largest : ℕ) → (result ≡ Err (Full need largest)) ↔ ((need ≡ count) × (largest ≡ largest_of old.space) × (largest < need)))
+    → new.failed ≡ (old.failed || is_disk_fault result) → HasDiskCause old.disk.faults new.disk.faults result → new.reference ≡ old.reference
+    → Works count count old new (stop_of result)
+Works-write count old new result fills after untouched left full_is failed cause same = record {
   fills = fills;
-  fits = fits;
-  takes = takes space less count after untouched left;
+  takes = takes old.space new.space count after untouched left;
   full = λ need largest is.
       let full = (full_is need largest).0 (err_of result (Full need largest) is) in
       record { shorter = full.2; is_longest = full.1 ∙ ap largest_of (sym (untouched (omega (arith, full.0, full.1, full.2)))); needed = inr full.0; before = omega (arith, full.0, full.1, full.2) };
-  failed = failed ∙ ap (λ (b : Bool). old_failed || b) (sym (fails_is result));
-  cause = cause_of old.faults new.faults result cause;
+  failed = failed ∙ ap (λ (b : Bool). old.failed || b) (sym (fails_is result));
+  cause = cause_of old.disk.faults new.disk.faults result cause;
+  same = same;
 }

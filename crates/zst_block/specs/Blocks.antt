@@ -1,10 +1,12 @@
 -- Blocks in an image, and what a write into free sectors leaves of them.
-use Rattle.std.specs.Prelude.{◌≡◌, ℕ, ◌+◌, ◌*◌, ◌/◌, ◌%◌, ◌<◌, ◌≤◌, List, length}
+use Rattle.std.specs.Prelude.{◌≡◌, ℕ, ◌+◌, ◌*◌, ◌/◌, ◌%◌, ◌<◌, ◌≤◌, List, [], ◌∷◌, length}
 use Rattle.zst_fletcher.specs.WeightSum.{weight_sum}
 use Rattle.zst_outside.specs.Images.{DiskState, Leaves, Keeps}
 use Rattle.zst_outside.specs.Ranges.{bytes_at}
-use Rattle.zst_space.specs.FreeSectors.{FreeSectors, IsSpaceFrom, IsFree}
+use Rattle.zst_space.specs.FreeSectors.{FreeSectors, IsSpaceFrom, Rise, IsFree}
 use Rattle.zst_block.specs.declared.ptr.Ptr.{Ptr}
+use Rattle.zst_space.specs.declared.space.Extent.{Extent}
+use denote.Struct.Props as logic
 
 -- the bytes that a pointer names
 abbrev pub named : List ℕ → Ptr → List ℕ
@@ -35,6 +37,18 @@ pub record Has (image : List ℕ) (space : FreeSectors) (ptr : Ptr) (bytes : Lis
 pub record FitsDisk (size : ℕ) (space : FreeSectors) : Type 0 where
   pub extents : IsSpaceFrom 8 space
   pub sectors : 512 * space.sectors ≤ size
+
+-- it is a proposition, so that an Io can keep it
+
+Rise-prop : (from : ℕ) (extents : List Extent) (end : ℕ) → IsProp (Rise from extents end)
+Rise-prop from [] end = Prim.hlevel logic.props
+Rise-prop from (e ∷ es) end = Prim.hlevel (Rise-prop (e.first + e.count) es end, logic.props)
+
+IsSpaceFrom-prop : (from : ℕ) (space : FreeSectors) → IsProp (IsSpaceFrom from space)
+IsSpaceFrom-prop from space = Prim.hlevel (Rise-prop from space.free space.end, logic.props)
+
+pub FitsDisk-prop : (size : ℕ) (space : FreeSectors) → IsProp (FitsDisk size space)
+FitsDisk-prop size space = Prim.hlevel (IsSpaceFrom-prop 8 space, logic.props)
 
 -- every range without a free sector is as before
 pub record SparesTaken (space : FreeSectors) (old new : List ℕ) : Type 0 where

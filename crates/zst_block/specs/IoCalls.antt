@@ -1,10 +1,11 @@
 -- What a call does to the Io: it reads, or it writes blocks into free sectors. Said over the fault at which it stopped, or none, so that one record serves each layer.
 use Rattle.std.specs.Prelude.{◌≡◌, ◌⊎◌, ℕ, ◌+◌, ◌<◌, ◌≤◌, ◌||◌, Bool, true, false, List, [], Option, Some, None, Result, Ok, Err}
 use Rattle.zst_outside.specs.Causes.{Rose}
-use Rattle.zst_outside.specs.Images.{DiskState, OnlyReads}
+use Rattle.zst_outside.specs.Images.{OnlyReads}
 use Rattle.zst_fletcher.specs.WeightSum.{parts_of}
 use Rattle.zst_space.specs.FreeSectors.{FreeSectors, largest_of, room}
-use Rattle.zst_block.specs.Blocks.{FitsDisk, FillsFree}
+use Rattle.zst_block.specs.Blocks.{FillsFree}
+use Rattle.zst_block.specs.IoStates.{IoState}
 use Rattle.zst_block.specs.ReadAnswers.{IsDamage}
 use Rattle.zst_block.specs.declared.ptr.Ptr.{Ptr}
 use Rattle.zst_block.specs.declared.fault.BlockFault.{BlockFault}
@@ -42,21 +43,22 @@ pub record IsFull (most block : ℕ) (old new : FreeSectors) (need largest : ℕ
   pub before : largest_of old < most
 
 -- a call that reads
-pub record Looks (old : DiskState) (old_space : FreeSectors) (old_failed : Bool) (new : DiskState) (new_space : FreeSectors) (new_failed : Bool) (stop : Option BlockFault) : Type 0 where
-  pub reads : OnlyReads old new
-  pub space : new_space ≡ old_space
+pub record Looks (old new : IoState) (stop : Option BlockFault) : Type 0 where
+  pub reads : OnlyReads old.disk new.disk
+  pub space : new.space ≡ old.space
   pub never_full : (need largest : ℕ) → ¬ (stop ≡ Some (Full need largest))
-  pub failed : new_failed ≡ (old_failed || fails stop)
-  pub cause : HasCause old.faults new.faults stop
+  pub failed : new.failed ≡ (old.failed || fails stop)
+  pub cause : HasCause old.disk.faults new.disk.faults stop
+  pub same : new.reference ≡ old.reference
 
 -- a call that writes: it takes so many sectors at most, for blocks of 16 sectors or of so many
-pub record Works (most block : ℕ) (old : DiskState) (old_space : FreeSectors) (old_failed : Bool) (new : DiskState) (new_space : FreeSectors) (new_failed : Bool) (stop : Option BlockFault) : Type 0 where
-  pub fills : FillsFree old old_space new new_space
-  pub fits : FitsDisk new.size new_space
-  pub takes : TakesAtMost most old_space new_space
-  pub full : (need largest : ℕ) → stop ≡ Some (Full need largest) → IsFull most block old_space new_space need largest
-  pub failed : new_failed ≡ (old_failed || fails stop)
-  pub cause : HasCause old.faults new.faults stop
+pub record Works (most block : ℕ) (old new : IoState) (stop : Option BlockFault) : Type 0 where
+  pub fills : FillsFree old.disk old.space new.disk new.space
+  pub takes : TakesAtMost most old.space new.space
+  pub full : (need largest : ℕ) → stop ≡ Some (Full need largest) → IsFull most block old.space new.space need largest
+  pub failed : new.failed ≡ (old.failed || fails stop)
+  pub cause : HasCause old.disk.faults new.disk.faults stop
+  pub same : new.reference ≡ old.reference
 
 -- a refusal of damage tells this pointer, and what stands there has other sums, or the layout isn't as it should be, and then both sums are told alike
 abbrev pub TellsDamage : {T : Type 0} → List ℕ → ℕ → Ptr → Result T BlockFault → Type 0

@@ -2,4 +2,5 @@ pub mod Ptr
 pub mod Faults
 pub mod Blocks
 pub mod ReadAnswers
+pub mod IoStates
 pub mod IoCalls

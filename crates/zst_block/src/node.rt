@@ -1,7 +1,7 @@
 ghost use Rattle.std.specs.Prelude.{◌≡◌, List, ℕ, length};
 
+use crate::block_reads::read_block;
 use crate::fault::BlockFault;
-use crate::io::read_block;
 use crate::ptr::Ptr;
 use std::marker::Model;
 use zst_outside::Disk;

@@ -2,8 +2,8 @@
 ghost use Rattle.std.specs.Prelude.{◌≡◌, ◌+◌, ◌*◌, ◌/◌, ◌^◌, ◌<◌, ℕ, IfErr, IfOk, OnOk, length};
 ghost use Rattle.zst_space.specs.FreeSectors.{IsFree, IsSpaceFrom};
 ghost use Rattle.zst_space.specs.TakenExtents.{without_blocks};
-ghost use Rattle.zst_block.specs.Blocks.{FitsDisk, Has};
 ghost use Rattle.zst_block.specs.IoCalls.{IsFull, TakesAtMost, Works};
+ghost use Rattle.zst_block.specs.IoStates.{blocks_of, io_of};
 ghost use Rattle.zst_leaves.specs.Leaves.{Numbered, TellsNone, stop_of_leaves};
 ghost use Rattle.zst_extents.specs.StoredExtents.{HasExtents, extent_blocks};
 
@@ -64,17 +64,15 @@ pub fn write_extents<D: Disk>(
     alloc: Global,
     number: u64,
 ) -> Result<StoredExtents, LeavesFault>
-    requires fits { FitsDisk (D.state io.old.disk.now).size io.old.space }
     requires few { length io.old.space.free < 2 ^ 30 }
 
     // What stands there afterwards, by pointers with the number, are the extents that are left once so
     // many blocks were taken in turn.
-    ensures there { IfOk result (λ stored. HasExtents (Numbered number (Has (D.state io.new.disk.now).seen io.new.space)) stored.levels stored.root stored.count io.new.space.free) }
+    ensures there { IfOk result (λ stored. HasExtents (Numbered number (blocks_of io.new)) stored.levels stored.root stored.count io.new.space.free) }
     ensures after { OnOk result (io.new.space ≡ without_blocks (extent_blocks (length io.old.space.free)) io.old.space) }
     // Free sectors alone are written: those of these blocks.
-    ensures works { Works (16 * extent_blocks (length io.old.space.free)) 16 (D.state io.old.disk.now) io.old.space io.old.failed (D.state io.new.disk.now) io.new.space io.new.failed (stop_of_leaves result) }
+    ensures works { Works (16 * extent_blocks (length io.old.space.free)) 16 (io_of io.old) (io_of io.new) (stop_of_leaves result) }
     ensures never_damaged { TellsNone result }
-    ensures same { io.new.disk.ghost_name ≡ io.old.disk.ghost_name }
 {
     let blocks = blocks_for(io.space.extents().len());
     let mut left = io.space.copy(alloc)?;

@@ -1,7 +1,8 @@
 // The commit of a directory: the one commit of an event.
 ghost use Rattle.std.specs.Prelude.{◌≡◌, ◌+◌, ◌<◌, ◌≤◌, ◌^◌, ◌||◌, false, ℕ, Bool, List, [], length, IfOk, IfErr, OnOk, OnErr, Err};
 ghost use Rattle.zst_space.specs.FreeSectors.{room};
-ghost use Rattle.zst_block.specs.Blocks.{FitsDisk, FillsFree, Has, KeepsBlocks};
+ghost use Rattle.zst_block.specs.Blocks.{FillsFree, KeepsBlocks};
+ghost use Rattle.zst_block.specs.IoStates.{IsHonest, blocks_of, disk_of, io_of};
 ghost use Rattle.zst_block.specs.Ptr.{hole_of};
 ghost use Rattle.zst_block.specs.IoCalls.{TakesAtMost, Works, fails};
 ghost use Rattle.zst_uber.specs.Slots.{latest};
@@ -37,21 +38,20 @@ pub fn commit_dir<D: Disk>(
     guids: u64,
     dir: Dir,
 ) -> Result<PoolState, CommitFault>
-    requires fits { FitsDisk (D.state io.old.disk.now).size io.old.space }
     requires sectors { io.old.space.sectors ≡ body.now.sectors }
-    requires ready { Ready (D.state io.old.disk.now) body.now }
+    requires ready { Ready (disk_of io.old) body.now }
     requires number { body.now.number < 2 ^ 63 }
-    ensures commits { (tight : Bool) (start : D) (rows : Rows) (pool next : Pool) → (D.state io.new.disk.now).honest → Rests tight (D.state start) body.now rows pool
-        → FillsFree (D.state start) (free_by body.now) (D.state io.old.disk.now) io.old.space
-        → NextIs tight (Has (D.state io.old.disk.now).seen io.old.space) body.now guids dir next
-        → Commits tight (D.state start) (D.state io.new.disk.now) body.now rows pool next result }
+    ensures commits { (tight : Bool) (start : D) (rows : Rows) (pool next : Pool) → IsHonest io.new → Rests tight (D.state start) body.now rows pool
+        → FillsFree (D.state start) (free_by body.now) (disk_of io.old) io.old.space
+        → NextIs tight (blocks_of io.old) body.now guids dir next
+        → Commits tight (D.state start) (disk_of io.new) body.now rows pool next result }
     // A pool's first commit has none before it.
-    ensures over { (tight : Bool) (next : Pool) → (D.state io.new.disk.now).honest → NextIs tight (Has (D.state io.old.disk.now).seen io.old.space) body.now guids dir next
-        → CommitsOver tight (D.state io.old.disk.now) io.old.space (D.state io.new.disk.now) io.new.space next result }
+    ensures over { (tight : Bool) (next : Pool) → IsHonest io.new → NextIs tight (blocks_of io.old) body.now guids dir next
+        → CommitsOver tight (disk_of io.old) io.old.space (disk_of io.new) io.new.space next result }
     ensures number { IfOk result (λ kept. kept.body.number ≡ body.now.number + 1) }
     ensures dir { IfOk result (λ kept. kept.dir ≡ dir) }
     // The blocks that were there still are, over the sectors that the new body leaves free.
-    ensures blocks { IfOk result (λ kept. KeepsBlocks (D.state io.old.disk.now).seen io.old.space (D.state io.new.disk.now).seen (free_by kept.body)) }
+    ensures blocks { IfOk result (λ kept. KeepsBlocks (disk_of io.old).seen io.old.space (disk_of io.new).seen (free_by kept.body)) }
     ensures full { (need largest : ℕ) → result ≡ Err (CommitFault.Full need largest) → IsDirFull io.old.space io.new.space dir need largest }
     // So many sectors at most are taken, and for a directory of one leaf exactly its 16; the body ends where those that
     // are left begin.
@@ -60,14 +60,14 @@ pub fn commit_dir<D: Disk>(
     ensures ends { IfOk result (λ kept. (kept.body.end ≡ io.new.space.end) × (kept.body.sectors ≡ body.now.sectors)) }
     ensures bounded { io.old.space.free ≡ [] → IfOk result (λ kept. kept.body.end ≤ io.old.space.end + dir_sectors (length (dir_bytes dir))) }
     // After a refusal that isn't the disk's free sectors alone were written, and the latest body is the one from before.
-    ensures fills { ¬ (result ≡ Err CommitFault.DiskFault) → OnErr result (FillsFree (D.state io.old.disk.now) io.old.space (D.state io.new.disk.now) io.new.space) }
-    ensures refused { IfErr result (Stays (latest (D.state io.new.disk.now).seen ≡ latest (D.state io.old.disk.now).seen)) }
-    ensures ready { IfOk result (λ kept. Ready (D.state io.new.disk.now) kept.body) }
-    ensures stays { io.new.failed ≡ false → OnErr result (Ready (D.state io.new.disk.now) body.now) }
-    ensures size { (D.state io.new.disk.now).size ≡ (D.state io.old.disk.now).size }
+    ensures fills { ¬ (result ≡ Err CommitFault.DiskFault) → OnErr result (FillsFree (disk_of io.old) io.old.space (disk_of io.new) io.new.space) }
+    ensures refused { IfErr result (Stays (latest (disk_of io.new).seen ≡ latest (disk_of io.old).seen)) }
+    ensures ready { IfOk result (λ kept. Ready (disk_of io.new) kept.body) }
+    ensures stays { io.new.failed ≡ false → OnErr result (Ready (disk_of io.new) body.now) }
+    ensures size { (disk_of io.new).size ≡ (disk_of io.old).size }
     ensures failed { io.new.failed ≡ (io.old.failed || fails (stop_of_commit result)) }
-    ensures cause { HasDiskCause CommitFault.DiskFault (D.state io.old.disk.now).faults (D.state io.new.disk.now).faults result }
-    ensures honest { (D.state io.new.disk.now).honest → (D.state io.old.disk.now).honest }
+    ensures cause { HasDiskCause CommitFault.DiskFault (disk_of io.old).faults (disk_of io.new).faults result }
+    ensures honest { IsHonest io.new → IsHonest io.old }
     ensures same { io.new.disk.ghost_name ≡ io.old.disk.ghost_name }
 {
     let (tree, length) = write_dir(io, alloc, &dir, body.number + 1)?;
@@ -86,11 +86,9 @@ fn write_dir<D: Disk>(
     dir: &Dir,
     number: u64,
 ) -> Result<(Tree, u64), CommitFault>
-    requires fits { FitsDisk (D.state io.old.disk.now).size io.old.space }
-    ensures there { IfOk result (λ written. DirStands (Has (D.state io.new.disk.now).seen io.new.space) written.0.levels written.0.root written.1 dir.now) }
+    ensures there { IfOk result (λ written. DirStands (blocks_of io.new) written.0.levels written.0.root written.1 dir.now) }
     ensures one_leaf { length (dir_bytes dir.now) ≤ 8192 → OnOk result (room io.new.space + 16 ≡ room io.old.space) }
-    ensures works { Works (dir_sectors (length (dir_bytes dir.now))) 16 (D.state io.old.disk.now) io.old.space io.old.failed (D.state io.new.disk.now) io.new.space io.new.failed (stop_of_commit result) }
-    ensures same { io.new.disk.ghost_name ≡ io.old.disk.ghost_name }
+    ensures works { Works (dir_sectors (length (dir_bytes dir.now))) 16 (io_of io.old) (io_of io.new) (stop_of_commit result) }
 {
     let bytes = dir.encode(alloc)?;
     let tree = write_bytes(io, &bytes, number)?;
@@ -100,12 +98,10 @@ fn write_dir<D: Disk>(
 // Writes the bytes of a directory into the leaves of a tree. Those that are too many for a tree of
 // 2 levels find no memory.
 fn write_bytes<D: Disk>(io: &mut Io<'_, D>, bytes: &[u8], number: u64) -> Result<Tree, CommitFault>
-    requires fits { FitsDisk (D.state io.old.disk.now).size io.old.space }
     requires some { 0 < length bytes.now }
-    ensures there { IfOk result (λ tree. HasLeaves (Has (D.state io.new.disk.now).seen io.new.space) tree.levels tree.root bytes.now) }
+    ensures there { IfOk result (λ tree. HasLeaves (blocks_of io.new) tree.levels tree.root bytes.now) }
     ensures one_leaf { length bytes.now ≤ 8192 → OnOk result (room io.new.space + 16 ≡ room io.old.space) }
-    ensures works { Works (dir_sectors (length bytes.now)) 16 (D.state io.old.disk.now) io.old.space io.old.failed (D.state io.new.disk.now) io.new.space io.new.failed (stop_of_commit result) }
-    ensures same { io.new.disk.ghost_name ≡ io.old.disk.ghost_name }
+    ensures works { Works (dir_sectors (length bytes.now)) 16 (io_of io.old) (io_of io.new) (stop_of_commit result) }
 {
     if bytes.len() > MOST {
         return Err(CommitFault::OutOfMemory);

@@ -1,7 +1,7 @@
 // A text is read from its leaves.
 ghost use Rattle.std.specs.Prelude.{◌≡◌, ◌↔◌, ◌+◌, ◌/◌, ◌<◌, ◌≤◌, ℕ, List, [], All, IsTrue, IfErr, IfOk, OnOk, Vec, length};
-ghost use Rattle.zst_block.specs.Blocks.{FitsDisk, Has};
 ghost use Rattle.zst_block.specs.ReadAnswers.{GivesBlock};
+ghost use Rattle.zst_block.specs.IoStates.{IsHonest, blocks_of, disk_of, io_of};
 ghost use Rattle.zst_block.specs.IoCalls.{Looks, stop_of};
 ghost use Rattle.zst_leaves.specs.Damage.{Names, TellsBelow, TellsPtr, TellsText};
 ghost use Rattle.zst_leaves.specs.Leaves.{Appends, BlocksBefore, GivesText, HasLeaves, LeavesBelow, StandsBefore, TellsNone, blocks_for, bytes_below, leaves_for, stop_of_leaves};
@@ -25,17 +25,14 @@ fn stands_before(ptr: &Ptr, end: u64) -> bool
 // Reads the block that a pointer names, where it has this kind and this level, and stands where
 // blocks may.
 fn load_named<D: Disk>(io: &mut Io<'_, D>, kind: u8, level: u8, ptr: Ptr) -> Result<(), BlockFault>
-    requires fits { FitsDisk (D.state io.old.disk.now).size io.old.space }
-    ensures block { (D.state io.new.disk.now).honest → OnOk result (BlocksBefore io.old.space.end (D.state io.old.disk.now).seen ptr io.new.node) }
+    ensures block { IsHonest io.new → OnOk result (BlocksBefore io.old.space.end (disk_of io.old).seen ptr io.new.node) }
     ensures kind { OnOk result (ptr.kind ≡ kind) }
     ensures level { OnOk result (ptr.level ≡ level) }
-    ensures there { (bytes : List ℕ) → (D.state io.new.disk.now).honest → ptr.kind ≡ kind → ptr.level ≡ level → Has (D.state io.old.disk.now).seen io.old.space ptr bytes → length bytes ≡ 8192 → GivesBlock bytes io.new.node result }
-    ensures damaged { (D.state io.new.disk.now).honest → IfErr result (TellsPtr (D.state io.old.disk.now).seen (D.state io.old.disk.now).size (¬ Names kind level io.old.space.end ptr) ptr) }
+    ensures there { (bytes : List ℕ) → IsHonest io.new → ptr.kind ≡ kind → ptr.level ≡ level → blocks_of io.old ptr bytes → length bytes ≡ 8192 → GivesBlock bytes io.new.node result }
+    ensures damaged { IsHonest io.new → IfErr result (TellsPtr (disk_of io.old).seen (disk_of io.old).size (¬ Names kind level io.old.space.end ptr) ptr) }
     ensures long { OnOk result (length io.new.node ≡ 8192) }
-    ensures looks { Looks (D.state io.old.disk.now) io.old.space io.old.failed (D.state io.new.disk.now) io.new.space io.new.failed (stop_of result) }
-    ensures calls { (D.state io.new.disk.now).calls ≤ (D.state io.old.disk.now).calls + 1 }
-    ensures kept_fit { FitsDisk (D.state io.new.disk.now).size io.new.space }
-    ensures same { io.new.disk.ghost_name ≡ io.old.disk.ghost_name }
+    ensures looks { Looks (io_of io.old) (io_of io.new) (stop_of result) }
+    ensures calls { (disk_of io.new).calls ≤ (disk_of io.old).calls + 1 }
 {
     if ptr.kind != kind || ptr.level != level || !stands_before(&ptr, io.space.end()) {
         return Err(BlockFault::of_layout(&ptr));
@@ -58,15 +55,12 @@ fn read_leaf<D: Disk>(
 ) -> Result<(), LeavesFault>
     requires some { 0 < count }
     requires room { count ≤ 8192 }
-    requires fits { FitsDisk (D.state io.old.disk.now).size io.old.space }
-    ensures there { (leaf : List ℕ) → (D.state io.new.disk.now).honest → LeavesBelow (Has (D.state io.old.disk.now).seen io.old.space) 0 ptr leaf → length leaf ≡ count → TellsNone result }
-    ensures only { (D.state io.new.disk.now).honest → OnOk result (Appends (BlocksBefore io.old.space.end (D.state io.old.disk.now).seen) 0 ptr count text.old.items text.new.items) }
-    ensures damaged { (D.state io.new.disk.now).honest → TellsBelow io.old.space.end (D.state io.old.disk.now).seen (D.state io.old.disk.now).size 0 ptr count result }
+    ensures there { (leaf : List ℕ) → IsHonest io.new → LeavesBelow (blocks_of io.old) 0 ptr leaf → length leaf ≡ count → TellsNone result }
+    ensures only { IsHonest io.new → OnOk result (Appends (BlocksBefore io.old.space.end (disk_of io.old).seen) 0 ptr count text.old.items text.new.items) }
+    ensures damaged { IsHonest io.new → TellsBelow io.old.space.end (disk_of io.old).seen (disk_of io.old).size 0 ptr count result }
     ensures long { OnOk result (length text.new.items ≡ length text.old.items + count) }
-    ensures looks { Looks (D.state io.old.disk.now) io.old.space io.old.failed (D.state io.new.disk.now) io.new.space io.new.failed (stop_of_leaves result) }
-    ensures calls { (D.state io.new.disk.now).calls ≤ (D.state io.old.disk.now).calls + 1 }
-    ensures kept_fit { FitsDisk (D.state io.new.disk.now).size io.new.space }
-    ensures same { io.new.disk.ghost_name ≡ io.old.disk.ghost_name }
+    ensures looks { Looks (io_of io.old) (io_of io.new) (stop_of_leaves result) }
+    ensures calls { (disk_of io.new).calls ≤ (disk_of io.old).calls + 1 }
 {
     load_named(io, 1, 0, ptr)?;
     let (front, rest) = io.node.as_slice().split_at(count as usize);
@@ -87,15 +81,12 @@ fn read_below<D: Disk>(
 ) -> Result<(), LeavesFault>
     requires level { level ≤ 3 }
     requires room { count ≤ bytes_below level }
-    requires fits { FitsDisk (D.state io.old.disk.now).size io.old.space }
-    ensures there { (leaves : List ℕ) → (D.state io.new.disk.now).honest → LeavesBelow (Has (D.state io.old.disk.now).seen io.old.space) level ptr leaves → length leaves ≡ count → TellsNone result }
-    ensures only { (D.state io.new.disk.now).honest → OnOk result (Appends (BlocksBefore io.old.space.end (D.state io.old.disk.now).seen) level ptr count text.old.items text.new.items) }
-    ensures damaged { (D.state io.new.disk.now).honest → TellsBelow io.old.space.end (D.state io.old.disk.now).seen (D.state io.old.disk.now).size level ptr count result }
+    ensures there { (leaves : List ℕ) → IsHonest io.new → LeavesBelow (blocks_of io.old) level ptr leaves → length leaves ≡ count → TellsNone result }
+    ensures only { IsHonest io.new → OnOk result (Appends (BlocksBefore io.old.space.end (disk_of io.old).seen) level ptr count text.old.items text.new.items) }
+    ensures damaged { IsHonest io.new → TellsBelow io.old.space.end (disk_of io.old).seen (disk_of io.old).size level ptr count result }
     ensures long { OnOk result (length text.new.items ≡ length text.old.items + count) }
-    ensures looks { Looks (D.state io.old.disk.now) io.old.space io.old.failed (D.state io.new.disk.now) io.new.space io.new.failed (stop_of_leaves result) }
-    ensures calls { (D.state io.new.disk.now).calls ≤ (D.state io.old.disk.now).calls + blocks_for level count }
-    ensures kept_fit { FitsDisk (D.state io.new.disk.now).size io.new.space }
-    ensures same { io.new.disk.ghost_name ≡ io.old.disk.ghost_name }
+    ensures looks { Looks (io_of io.old) (io_of io.new) (stop_of_leaves result) }
+    ensures calls { (disk_of io.new).calls ≤ (disk_of io.old).calls + blocks_for level count }
 {
     if count == 0 {
         return if ptr == Ptr::hole(0) {
@@ -128,21 +119,17 @@ pub fn read_leaves<D: Disk>(
     root: Ptr,
     count: u64,
 ) -> Result<Vec<u8>, LeavesFault>
-    requires fits { FitsDisk (D.state io.old.disk.now).size io.old.space }
-
     // A text that is there is read, unless the disk or the memory fails, and what is read is there.
     // What is damaged is a block to which the root leads: with other sums, or of a pointer that is wrong.
-    ensures there { (text : List ℕ) → (D.state io.new.disk.now).honest → HasLeaves (Has (D.state io.old.disk.now).seen io.old.space) levels root text → length text ≡ count → GivesText text (λ read. read.items) result }
-    ensures only { (D.state io.new.disk.now).honest → IfOk result (λ text. HasLeaves (BlocksBefore io.old.space.end (D.state io.old.disk.now).seen) levels root text.items) }
-    ensures stands { (D.state io.new.disk.now).honest → io.old.space.free ≡ [] → IfOk result (λ text. HasLeaves (Has (D.state io.old.disk.now).seen io.old.space) levels root text.items) }
+    ensures there { (text : List ℕ) → IsHonest io.new → HasLeaves (blocks_of io.old) levels root text → length text ≡ count → GivesText text (λ read. read.items) result }
+    ensures only { IsHonest io.new → IfOk result (λ text. HasLeaves (BlocksBefore io.old.space.end (disk_of io.old).seen) levels root text.items) }
+    ensures stands { IsHonest io.new → io.old.space.free ≡ [] → IfOk result (λ text. HasLeaves (blocks_of io.old) levels root text.items) }
     ensures long { IfOk result (λ text. length text.items ≡ count) }
-    ensures damaged { (D.state io.new.disk.now).honest → TellsText io.old.space.end (D.state io.old.disk.now).seen (D.state io.old.disk.now).size levels root count result }
+    ensures damaged { IsHonest io.new → TellsText io.old.space.end (disk_of io.old).seen (disk_of io.old).size levels root count result }
 
     // It only reads, each block once.
-    ensures looks { Looks (D.state io.old.disk.now) io.old.space io.old.failed (D.state io.new.disk.now) io.new.space io.new.failed (stop_of_leaves result) }
-    ensures calls { (D.state io.new.disk.now).calls ≤ (D.state io.old.disk.now).calls + (leaves_for count + leaves_for count / 127 + 3) }
-    ensures kept_fit { FitsDisk (D.state io.new.disk.now).size io.new.space }
-    ensures same { io.new.disk.ghost_name ≡ io.old.disk.ghost_name }
+    ensures looks { Looks (io_of io.old) (io_of io.new) (stop_of_leaves result) }
+    ensures calls { (disk_of io.new).calls ≤ (disk_of io.old).calls + (leaves_for count + leaves_for count / 127 + 3) }
 {
     if !is_least(levels, count) {
         return Err(LeavesFault::Block(BlockFault::of_layout(&root)));

@@ -2,8 +2,8 @@
 ghost use Rattle.std.specs.Prelude.{◌≡◌, ◌+◌, ◌*◌, ◌/◌, ◌^◌, ◌<◌, ◌≤◌, ℕ, List, IfOk, OnOk, length};
 ghost use Rattle.zst_space.specs.FreeSectors.{room};
 ghost use Rattle.zst_space.specs.TakenExtents.{without, without_blocks};
-ghost use Rattle.zst_block.specs.Blocks.{FitsDisk, Has};
 ghost use Rattle.zst_block.specs.IoCalls.{Works, stop_of};
+ghost use Rattle.zst_block.specs.IoStates.{blocks_of, disk_of, io_of};
 ghost use Rattle.zst_leaves.specs.Leaves.{HasLeaves, IsLeaf, IsOver, LeavesBelow, Numbered, blocks_for, bytes_below, leaves_for};
 ghost use Rattle.zst_leaves.specs.declared.sizes.TheConstants.{MOST_BYTES};
 
@@ -16,14 +16,12 @@ use zst_tree::{Tree, put_child};
 // Writes the last bytes of a text, or as many as a leaf has, as a leaf.
 fn write_leaf<D: Disk>(io: &mut Io<'_, D>, bytes: &[u8], number: u64) -> Result<Ptr, BlockFault>
     requires room { length bytes.now ≤ 8192 }
-    requires fits { FitsDisk (D.state io.old.disk.now).size io.old.space }
-    ensures leaf { IfOk result (λ ptr. IsLeaf (Numbered number (Has (D.state io.new.disk.now).seen io.new.space)) ptr bytes.now) }
-    ensures works { Works 16 16 (D.state io.old.disk.now) io.old.space io.old.failed (D.state io.new.disk.now) io.new.space io.new.failed (stop_of result) }
+    ensures leaf { IfOk result (λ ptr. IsLeaf (Numbered number (blocks_of io.new)) ptr bytes.now) }
+    ensures works { Works 16 16 (io_of io.old) (io_of io.new) (stop_of result) }
     ensures takes { OnOk result (room io.new.space + 16 ≡ room io.old.space) }
     ensures after { OnOk result (io.new.space ≡ without io.old.space 16) }
     ensures never_damaged { (sector : ℕ) (stated found : List ℕ) → ¬ (result ≡ Err (BlockFault.Damaged sector stated found)) }
-    ensures calls { (D.state io.new.disk.now).calls ≤ (D.state io.old.disk.now).calls + 1 }
-    ensures same { io.new.disk.ghost_name ≡ io.old.disk.ghost_name }
+    ensures calls { (disk_of io.new).calls ≤ (disk_of io.old).calls + 1 }
 {
     let mut leaf = [0; 8192];
     put_bytes(&mut leaf, 0, bytes);
@@ -32,13 +30,11 @@ fn write_leaf<D: Disk>(io: &mut Io<'_, D>, bytes: &[u8], number: u64) -> Result<
 
 // Writes the node, of pointers to what has this number, into free sectors.
 fn save_over<D: Disk>(io: &mut Io<'_, D>, level: u8, number: u64) -> Result<Ptr, BlockFault>
-    requires fits { FitsDisk (D.state io.old.disk.now).size io.old.space }
-    ensures over { IfOk result (λ ptr. IsOver (Numbered number (Has (D.state io.new.disk.now).seen io.new.space)) level ptr io.old.node) }
+    ensures over { IfOk result (λ ptr. IsOver (Numbered number (blocks_of io.new)) level ptr io.old.node) }
     ensures after { OnOk result (io.new.space ≡ without io.old.space 16) }
-    ensures works { Works 16 16 (D.state io.old.disk.now) io.old.space io.old.failed (D.state io.new.disk.now) io.new.space io.new.failed (stop_of result) }
+    ensures works { Works 16 16 (io_of io.old) (io_of io.new) (stop_of result) }
     ensures never_damaged { (sector : ℕ) (stated found : List ℕ) → ¬ (result ≡ Err (BlockFault.Damaged sector stated found)) }
-    ensures calls { (D.state io.new.disk.now).calls ≤ (D.state io.old.disk.now).calls + 1 }
-    ensures same { io.new.disk.ghost_name ≡ io.old.disk.ghost_name }
+    ensures calls { (disk_of io.new).calls ≤ (disk_of io.old).calls + 1 }
 {
     let ptr = save(io, level, number)?;
     Ok(Ptr { kind: 3, ..ptr })
@@ -53,14 +49,12 @@ fn write_below<D: Disk>(
 ) -> Result<Ptr, BlockFault>
     requires level { level ≤ 3 }
     requires room { length bytes.now ≤ bytes_below level }
-    requires fits { FitsDisk (D.state io.old.disk.now).size io.old.space }
-    ensures below { IfOk result (λ ptr. LeavesBelow (Numbered number (Has (D.state io.new.disk.now).seen io.new.space)) level ptr bytes.now) }
-    ensures works { Works (16 * blocks_for level (length bytes.now)) 16 (D.state io.old.disk.now) io.old.space io.old.failed (D.state io.new.disk.now) io.new.space io.new.failed (stop_of result) }
+    ensures below { IfOk result (λ ptr. LeavesBelow (Numbered number (blocks_of io.new)) level ptr bytes.now) }
+    ensures works { Works (16 * blocks_for level (length bytes.now)) 16 (io_of io.old) (io_of io.new) (stop_of result) }
     ensures after { OnOk result (io.new.space ≡ without_blocks (blocks_for level (length bytes.now)) io.old.space) }
     ensures one_leaf { level ≡ 0 → 0 < length bytes.now → OnOk result (room io.new.space + 16 ≡ room io.old.space) }
     ensures never_damaged { (sector : ℕ) (stated found : List ℕ) → ¬ (result ≡ Err (BlockFault.Damaged sector stated found)) }
-    ensures calls { (D.state io.new.disk.now).calls ≤ (D.state io.old.disk.now).calls + blocks_for level (length bytes.now) }
-    ensures same { io.new.disk.ghost_name ≡ io.old.disk.ghost_name }
+    ensures calls { (disk_of io.new).calls ≤ (disk_of io.old).calls + blocks_for level (length bytes.now) }
 {
     if bytes.is_empty() {
         return Ok(Ptr::hole(0));
@@ -86,22 +80,20 @@ pub fn write_leaves<D: Disk>(
 ) -> Result<Tree, BlockFault>
     requires some { 0 < length bytes.now }
     requires small { length bytes.now ≤ MOST_BYTES }
-    requires fits { FitsDisk (D.state io.old.disk.now).size io.old.space }
 
     // Each pointer to a leaf or a node has the number.
-    ensures there { IfOk result (λ tree. HasLeaves (Has (D.state io.new.disk.now).seen io.new.space) tree.levels tree.root bytes.now) }
-    ensures numbered { IfOk result (λ tree. HasLeaves (Numbered number (Has (D.state io.new.disk.now).seen io.new.space)) tree.levels tree.root bytes.now) }
+    ensures there { IfOk result (λ tree. HasLeaves (blocks_of io.new) tree.levels tree.root bytes.now) }
+    ensures numbered { IfOk result (λ tree. HasLeaves (Numbered number (blocks_of io.new)) tree.levels tree.root bytes.now) }
     ensures past { IfOk result (λ tree. tree.past ≡ 0) }
     // What is taken are so many blocks in turn.
     ensures after { IfOk result (λ tree. io.new.space ≡ without_blocks (blocks_for tree.levels (length bytes.now)) io.old.space) }
 
     // Free sectors alone are written: 16 for each leaf and for each node above.
-    ensures works { Works (16 * (leaves_for (length bytes.now) + leaves_for (length bytes.now) / 127 + 3)) 16 (D.state io.old.disk.now) io.old.space io.old.failed (D.state io.new.disk.now) io.new.space io.new.failed (stop_of result) }
-    ensures two_levels { length bytes.now ≤ 8192 * 128 ^ 2 → Works (16 * (leaves_for (length bytes.now) + leaves_for (length bytes.now) / 128 + 3)) 16 (D.state io.old.disk.now) io.old.space io.old.failed (D.state io.new.disk.now) io.new.space io.new.failed (stop_of result) }
+    ensures works { Works (16 * (leaves_for (length bytes.now) + leaves_for (length bytes.now) / 127 + 3)) 16 (io_of io.old) (io_of io.new) (stop_of result) }
+    ensures two_levels { length bytes.now ≤ 8192 * 128 ^ 2 → Works (16 * (leaves_for (length bytes.now) + leaves_for (length bytes.now) / 128 + 3)) 16 (io_of io.old) (io_of io.new) (stop_of result) }
     ensures one_leaf { length bytes.now ≤ 8192 → OnOk result (room io.new.space + 16 ≡ room io.old.space) }
     ensures never_damaged { (sector : ℕ) (stated found : List ℕ) → ¬ (result ≡ Err (BlockFault.Damaged sector stated found)) }
-    ensures calls { (D.state io.new.disk.now).calls ≤ (D.state io.old.disk.now).calls + (leaves_for (length bytes.now) + leaves_for (length bytes.now) / 127 + 3) }
-    ensures same { io.new.disk.ghost_name ≡ io.old.disk.ghost_name }
+    ensures calls { (disk_of io.new).calls ≤ (disk_of io.old).calls + (leaves_for (length bytes.now) + leaves_for (length bytes.now) / 127 + 3) }
 {
     let levels = levels_for(bytes.len() as u64);
     let root = write_below(io, levels, bytes, number)?;

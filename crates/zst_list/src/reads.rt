@@ -1,8 +1,8 @@
 // A list is read from its leaves.
 ghost use Rattle.std.specs.Prelude.{◌≡◌, ◌≤◌, [], IfOk};
 ghost use Rattle.zst_fletcher.specs.WeightSum.{parts_of};
-ghost use Rattle.zst_block.specs.Blocks.{FitsDisk, Has};
 ghost use Rattle.zst_block.specs.IoCalls.{Looks};
+ghost use Rattle.zst_block.specs.IoStates.{IsHonest, blocks_of, disk_of, io_of};
 ghost use Rattle.zst_block.specs.declared.fault.BlockFault.TheVariants.{Damaged};
 ghost use Rattle.zst_leaves.specs.Leaves.{stop_of_leaves};
 ghost use Rattle.zst_leaves.specs.declared.fault.LeavesFault.TheVariants.{Block};
@@ -45,19 +45,15 @@ pub fn read_list<D: Disk>(
     root: Ptr,
     count: u64,
 ) -> Result<List, LeavesFault>
-    requires fits { FitsDisk (D.state io.old.disk.now).size io.old.space }
-
     // A list that is there is read, unless the disk or the memory fails, and what is read is there.
-    ensures there { (runs : Runs) → (D.state io.new.disk.now).honest → HasList (Has (D.state io.old.disk.now).seen io.old.space) levels root count runs → GivesList runs (λ list. list) result }
-    ensures stands { (D.state io.new.disk.now).honest → io.old.space.free ≡ [] → IfOk result (λ list. HasList (Has (D.state io.old.disk.now).seen io.old.space) levels root count list) }
+    ensures there { (runs : Runs) → IsHonest io.new → HasList (blocks_of io.old) levels root count runs → GivesList runs (λ list. list) result }
+    ensures stands { IsHonest io.new → io.old.space.free ≡ [] → IfOk result (λ list. HasList (blocks_of io.old) levels root count list) }
 
     // What is damaged is a block to which the root leads, or what stands there is the text of no list.
-    ensures damaged { (D.state io.new.disk.now).honest → TellsList io.old.space.end (D.state io.old.disk.now).seen (D.state io.old.disk.now).size levels root count result }
+    ensures damaged { IsHonest io.new → TellsList io.old.space.end (disk_of io.old).seen (disk_of io.old).size levels root count result }
 
     // It only reads.
-    ensures looks { Looks (D.state io.old.disk.now) io.old.space io.old.failed (D.state io.new.disk.now) io.new.space io.new.failed (stop_of_leaves result) }
-    ensures kept_fit { FitsDisk (D.state io.new.disk.now).size io.new.space }
-    ensures same { io.new.disk.ghost_name ≡ io.old.disk.ghost_name }
+    ensures looks { Looks (io_of io.old) (io_of io.new) (stop_of_leaves result) }
 {
     if count == 0 {
         return Ok(List::empty(alloc));

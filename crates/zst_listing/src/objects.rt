@@ -1,7 +1,7 @@
 //! The lines of the objects of a set.
 ghost use Rattle.std.specs.Prelude.{◌≡◌, [], ◌∷◌, ◌++◌, IfErr, IfOk, OnOk, string_bytes};
-ghost use Rattle.zst_block.specs.Blocks.{FitsDisk, Has};
 ghost use Rattle.zst_block.specs.IoCalls.{Looks};
+ghost use Rattle.zst_block.specs.IoStates.{IsHonest, blocks_of, disk_of, io_of};
 ghost use Rattle.zst_listing.specs.Listing.{IfListDamaged, IsOfBlock, ListsObjects, dnode_line, pointer_word, stop_of};
 ghost use Rattle.zst_model.specs.states.DatedState.{DatedState};
 ghost use Rattle.zst_objset.specs.Damage.{IsDamagedSet};
@@ -60,12 +60,10 @@ pub fn list_objects<D: Disk>(
     alloc: Global,
     set: &ObjSet,
 ) -> Result<Reply, ListFault>
-    requires fits { FitsDisk (D.state io.old.disk.now).size io.old.space }
-    ensures told { (state : DatedState) → (D.state io.new.disk.now).honest → SetHolds (Has (D.state io.old.disk.now).seen io.old.space) set.now state → ListsObjects state result }
+    ensures told { (state : DatedState) → IsHonest io.new → SetHolds (blocks_of io.old) set.now state → ListsObjects state result }
     ensures known { IfErr result IsOfBlock }
-    ensures damaged { (D.state io.new.disk.now).honest → IfListDamaged result (IsDamagedSet (IsSeen (D.state io.old.disk.now).seen) (D.state io.old.disk.now).size set.now) }
-    ensures looks { Looks (D.state io.old.disk.now) io.old.space io.old.failed (D.state io.new.disk.now) io.new.space io.new.failed (stop_of result) }
-    ensures same { io.new.disk.ghost_name ≡ io.old.disk.ghost_name }
+    ensures damaged { IsHonest io.new → IfListDamaged result (IsDamagedSet (IsSeen (disk_of io.old).seen) (disk_of io.old).size set.now) }
+    ensures looks { Looks (io_of io.old) (io_of io.new) (stop_of result) }
 {
     let mut lines = Vec::new(alloc);
     let mut from = 1;

@@ -1,5 +1,5 @@
 -- What may be told as damaged of a set, from the block up.
-use Rattle.std.proofs.Common.{◌≡◌, ◌⊎◌, inl, inr, ⊎_elim, ℕ, zero, suc, ◌*◌, ◌^◌, ◌<◌, ◌≤◌, Bool, List, length, refl, sym, ◌∙◌, ap, subst, arith}
+use Rattle.std.proofs.Common.{◌≡◌, ◌⊎◌, inl, inr, ⊎_elim, ℕ, zero, suc, ◌*◌, ◌^◌, ◌<◌, ◌≤◌, List, length, refl, sym, ◌∙◌, ap, subst, arith}
 use Rattle.std.specs.Prelude.{Option, Some, Result, Ok, Err, OnOk}
 use Rattle.std.proofs.lemmas.Bool.{cases_lt}
 use Rattle.zst_bytes.specs.Bytes.{bytes_at}
@@ -8,6 +8,7 @@ use Rattle.zst_outside.specs.Images.{DiskState}
 use Rattle.zst_space.specs.FreeSectors.{FreeSectors}
 use Rattle.zst_block.specs.Blocks.{FillsFree, Has, SparesTaken}
 use Rattle.zst_block.proofs.BlocksLaws.{IsBlock-length}
+use Rattle.zst_block.specs.IoStates.{IoState}
 use Rattle.zst_block.specs.IoCalls.{Looks}
 use Rattle.zst_block.specs.declared.fault.BlockFault.{BlockFault}
 use Rattle.zst_block.specs.declared.fault.BlockFault.TheVariants.{Full, Damaged, DiskFault}
@@ -174,12 +175,12 @@ module _ (images : List ℕ → Type 0) (size : ℕ) (right : ℕ → Ptr → Ty
   object_told result told = IfSetDamaged-weaker _ _ (λ sector stated found damaged. inl damaged) result told
 
 -- what is told of a tree after a call that only reads is told of it before
-pub told_before : (right : FreeSectors → List ℕ → ℕ → Ptr → Type 0) (level : ℕ) (root : Ptr) (old : DiskState) (space : FreeSectors) (failed : Bool) (new : DiskState) (less : FreeSectors) (fails : Bool) (stop : Option BlockFault)
-    → Looks old space failed new less fails stop → (fault : BlockFault) → TellsNode (SparesTaken less new.seen) new.size (right less new.seen) level root fault → TellsNode (SparesTaken space old.seen) old.size (right space old.seen) level root fault
-told_before right level root old space failed new less fails stop looks fault told =
-    subst (λ (s : FreeSectors). TellsNode (SparesTaken s old.seen) old.size (right s old.seen) level root fault) looks.space
-    (subst (λ (n : ℕ). TellsNode (SparesTaken less old.seen) n (right less old.seen) level root fault) looks.reads.size
-    (subst (λ (seen : List ℕ). TellsNode (SparesTaken less seen) new.size (right less seen) level root fault) looks.reads.seen told))
+pub told_before : {old new : IoState} {stop : Option BlockFault} (right : FreeSectors → List ℕ → ℕ → Ptr → Type 0) (level : ℕ) (root : Ptr) → Looks old new stop
+    → (fault : BlockFault) → TellsNode (SparesTaken new.space new.disk.seen) new.disk.size (right new.space new.disk.seen) level root fault → TellsNode (SparesTaken old.space old.disk.seen) old.disk.size (right old.space old.disk.seen) level root fault
+told_before {old} {new} right level root looks fault told =
+    subst (λ (space : FreeSectors). TellsNode (SparesTaken space old.disk.seen) old.disk.size (right space old.disk.seen) level root fault) looks.space
+    (subst (λ (size : ℕ). TellsNode (SparesTaken new.space old.disk.seen) size (right new.space old.disk.seen) level root fault) looks.reads.size
+    (subst (λ (seen : List ℕ). TellsNode (SparesTaken new.space seen) new.disk.size (right new.space seen) level root fault) looks.reads.seen told))
 
 -- a node that doesn't sum up what a read gives doesn't sum up what may stand there
 pub sums_spared : (space : FreeSectors) (seen : List ℕ) (size level : ℕ) (root : Ptr) (fault : BlockFault) → TellsNode (IsSeen seen) size (SumsUp (IsSeen seen)) level root fault → TellsNode (SparesTaken space seen) size (SumsUp (SparesTaken space seen)) level root fault

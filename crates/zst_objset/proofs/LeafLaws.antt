@@ -1,12 +1,13 @@
 -- Leaves, as they are read and written.
 use Rattle.std.specs.Prelude.{Option, Some, None}
-use Rattle.std.proofs.Common.{◌≡◌, ◌⊎◌, inl, inr, ℕ, zero, suc, ◌+◌, ◌*◌, ◌/◌, ◌%◌, ◌^◌, ◌<◌, ◌≤◌, Bool, true, false, List, length, refl, sym, ◌∙◌, ap, subst, arith}
+use Rattle.std.proofs.Common.{◌≡◌, ◌⊎◌, inl, inr, ℕ, zero, suc, ◌+◌, ◌*◌, ◌/◌, ◌%◌, ◌^◌, ◌<◌, ◌≤◌, true, false, List, length, refl, sym, ◌∙◌, ap, subst, arith}
 use Rattle.std.proofs.lemmas.Bool.{false≢true}
 use Rattle.std.proofs.lemmas.Bool.Decides.{nat_tests}
 use Rattle.zst_bytes.specs.Bytes.{bytes_at}
 use Rattle.zst_outside.specs.Images.{DiskState}
 use Rattle.zst_space.specs.FreeSectors.{FreeSectors}
 use Rattle.zst_block.specs.Blocks.{FillsFree, Has, KeepsBlocks}
+use Rattle.zst_block.specs.IoStates.{IoState}
 use Rattle.zst_block.specs.IoCalls.{Looks}
 use Rattle.zst_block.proofs.BlocksLaws.{KeepsBlocks-fills}
 use Rattle.zst_block.specs.declared.fault.BlockFault.{BlockFault}
@@ -23,18 +24,17 @@ use Rattle.zst_objset.specs.Sets.{any_there, HasSlots, HasSlotsIn, IsHole, IsLea
 use Rattle.zst_objset.proofs.OneState.{hole_kind}
 
 -- what is so over what a read gives and what is free is so after a call that only reads, and was so before it
-module _ (P : List ℕ → FreeSectors → Type 0) (old : DiskState) (space : FreeSectors) (failed : Bool) (new : DiskState) (less : FreeSectors) (fails : Bool) (stop : Option BlockFault) (looks : Looks old space failed new less fails stop) where
-  pub look_on : P old.seen space → P new.seen less
-  look_on is = subst (λ (s : FreeSectors). P new.seen s) (sym looks.space) (subst (λ (bytes : List ℕ). P bytes space) (sym looks.reads.seen) is)
+module _ {old new : IoState} {stop : Option BlockFault} (P : List ℕ → FreeSectors → Type 0) (looks : Looks old new stop) where
+  pub look_on : P old.disk.seen old.space → P new.disk.seen new.space
+  look_on is = subst (λ (s : FreeSectors). P new.disk.seen s) (sym looks.space) (subst (λ (bytes : List ℕ). P bytes old.space) (sym looks.reads.seen) is)
 
-  pub look_back : P new.seen less → P old.seen space
-  look_back is = subst (λ (s : FreeSectors). P old.seen s) looks.space (subst (λ (bytes : List ℕ). P bytes less) looks.reads.seen is)
+  pub look_back : P new.disk.seen new.space → P old.disk.seen old.space
+  look_back is = subst (λ (s : FreeSectors). P old.disk.seen s) looks.space (subst (λ (bytes : List ℕ). P bytes new.space) looks.reads.seen is)
 
 -- a call that reads, and then one that writes into free sectors, leave the blocks that were there
-pub keeps_on : (old : DiskState) (space : FreeSectors) (failed : Bool) (mid : DiskState) (between : FreeSectors) (fails : Bool) (stop : Option BlockFault) (new : DiskState) (less : FreeSectors) → Looks old space failed mid between fails stop
-    → FillsFree mid between new less → KeepsBlocks old.seen space new.seen less
-keeps_on old space failed mid between fails stop new less looks fills ptr bytes has =
-    KeepsBlocks-fills mid new between less fills ptr bytes (look_on (λ (seen : List ℕ) (s : FreeSectors). Has seen s ptr bytes) old space failed mid between fails stop looks has)
+pub keeps_on : {old mid : IoState} {new : DiskState} {less : FreeSectors} {stop : Option BlockFault} → Looks old mid stop → FillsFree mid.disk mid.space new less → KeepsBlocks old.disk.seen old.space new.seen less
+keeps_on {old} {mid} {new} {less} looks fills ptr bytes has =
+    KeepsBlocks-fills mid.disk new mid.space less fills ptr bytes (look_on (λ (seen : List ℕ) (space : FreeSectors). Has seen space ptr bytes) looks has)
 
 -- a pointer that isn't a hole is that of a leaf
 pub leaf_of : (has : Blocks) (snap : DatedState) (j : ℕ) (ptr : Ptr) → LeafIs has snap j ptr → (ptr.kind ≡ 0 → ⊥) → IsLeaf has snap j ptr

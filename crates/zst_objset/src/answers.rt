@@ -1,7 +1,7 @@
 //! The calls that read a set.
 ghost use Rattle.std.specs.Prelude.{◌≡◌, ◌+◌, ◌<◌, ◌≤◌, ◌^◌, false, IfErr, IfOk, IfSome, OnOk, List, ℕ, Some, length};
-ghost use Rattle.zst_block.specs.Blocks.{FitsDisk, Has};
 ghost use Rattle.zst_block.specs.Ptr.{is_flat};
+ghost use Rattle.zst_block.specs.IoStates.{IsHonest, blocks_of, disk_of, io_of};
 ghost use Rattle.zst_block.specs.IoCalls.{Looks};
 ghost use Rattle.zst_dnode.specs.Dnode.{DnodeFits};
 ghost use Rattle.zst_dnode.specs.Slot.{SlotFits};
@@ -30,15 +30,13 @@ use zst_tree::ObjSet;
 /// What stands at a number: of an absent one its date.
 pub(crate) fn slot<D: Disk>(set: &ObjSet, io: &mut Io<'_, D>, object: u64) -> Result<Slot, ObjFault>
     requires object { (0 < object) × (object < 2 ^ 48) }
-    requires fits { FitsDisk (D.state io.old.disk.now).size io.old.space }
-    ensures found { (snap : DatedState) → (D.state io.new.disk.now).honest → SetHolds (Has (D.state io.old.disk.now).seen io.old.space) set.now snap
-        → FindsSlot (Has (D.state io.new.disk.now).seen io.new.space) snap object result }
+    ensures found { (snap : DatedState) → IsHonest io.new → SetHolds (blocks_of io.old) set.now snap
+        → FindsSlot (blocks_of io.new) snap object result }
     ensures ranges { IfOk result SlotFits }
     ensures known { IfErr result IsOfBlock }
-    ensures damaged { (D.state io.new.disk.now).honest → IfSetDamaged result (IsDamagedSet (IsSeen (D.state io.old.disk.now).seen) (D.state io.old.disk.now).size set.now) }
-    ensures looks { Looks (D.state io.old.disk.now) io.old.space io.old.failed (D.state io.new.disk.now) io.new.space io.new.failed (stop_of result) }
-    ensures calls { (D.state io.new.disk.now).calls ≤ (D.state io.old.disk.now).calls + 8 }
-    ensures same { io.new.disk.ghost_name ≡ io.old.disk.ghost_name }
+    ensures damaged { IsHonest io.new → IfSetDamaged result (IsDamagedSet (IsSeen (disk_of io.old).seen) (disk_of io.old).size set.now) }
+    ensures looks { Looks (io_of io.old) (io_of io.new) (stop_of result) }
+    ensures calls { (disk_of io.new).calls ≤ (disk_of io.old).calls + 8 }
 {
     match slot_at(set, io, object) {
         Ok(slot) => Ok(slot),
@@ -53,15 +51,13 @@ pub(crate) fn attr<D: Disk>(
     object: u64,
 ) -> Result<Option<Dnode>, ObjFault>
     requires object { 0 < object }
-    requires fits { FitsDisk (D.state io.old.disk.now).size io.old.space }
-    ensures found { (snap : DatedState) → (D.state io.new.disk.now).honest → SetHolds (Has (D.state io.old.disk.now).seen io.old.space) set.now snap
-        → FindsObject (Has (D.state io.new.disk.now).seen io.new.space) snap object result }
+    ensures found { (snap : DatedState) → IsHonest io.new → SetHolds (blocks_of io.old) set.now snap
+        → FindsObject (blocks_of io.new) snap object result }
     ensures ranges { IfOk result (λ found. IfSome found DnodeFits) }
     ensures known { IfErr result IsOfBlock }
-    ensures damaged { (D.state io.new.disk.now).honest → IfSetDamaged result (IsDamagedSet (IsSeen (D.state io.old.disk.now).seen) (D.state io.old.disk.now).size set.now) }
-    ensures looks { Looks (D.state io.old.disk.now) io.old.space io.old.failed (D.state io.new.disk.now) io.new.space io.new.failed (stop_of result) }
-    ensures calls { (D.state io.new.disk.now).calls ≤ (D.state io.old.disk.now).calls + 8 }
-    ensures same { io.new.disk.ghost_name ≡ io.old.disk.ghost_name }
+    ensures damaged { IsHonest io.new → IfSetDamaged result (IsDamagedSet (IsSeen (disk_of io.old).seen) (disk_of io.old).size set.now) }
+    ensures looks { Looks (io_of io.old) (io_of io.new) (stop_of result) }
+    ensures calls { (disk_of io.new).calls ≤ (disk_of io.old).calls + 8 }
 {
     match dnode_at(set, io, object) {
         Ok(found) => Ok(found),
@@ -76,21 +72,18 @@ pub(crate) fn object_there<D: Disk>(
     object: u64,
 ) -> Result<Dnode, ObjFault>
     requires object { 0 < object }
-    requires fits { FitsDisk (D.state io.old.disk.now).size io.old.space }
-    ensures found { (snap : DatedState) → (D.state io.new.disk.now).honest → SetHolds (Has (D.state io.old.disk.now).seen io.old.space) set.now snap
-        → FindsThere (Has (D.state io.new.disk.now).seen io.new.space) snap object result }
-    ensures tight { (snap : DatedState) → (D.state io.new.disk.now).honest → SetIsTight (Has (D.state io.old.disk.now).seen io.old.space) set.now snap
+    ensures found { (snap : DatedState) → IsHonest io.new → SetHolds (blocks_of io.old) set.now snap
+        → FindsThere (blocks_of io.new) snap object result }
+    ensures tight { (snap : DatedState) → IsHonest io.new → SetIsTight (blocks_of io.old) set.now snap
         → IfOk result (λ dnode. IsTightSlot snap object (There dnode)) }
     ensures ranges { IfOk result DnodeFits }
     ensures limits { IfErr result NotLimit }
     ensures unredacted { IfErr result NotRedacted }
     ensures bound { OnOk result (object < 2 ^ 48) }
-    ensures stands { (D.state io.new.disk.now).honest → IfOk result (StandsIn (IsSeen (D.state io.old.disk.now).seen) set.now) }
-    ensures damaged { (D.state io.new.disk.now).honest → IfSetDamaged result (IsDamagedSet (IsSeen (D.state io.old.disk.now).seen) (D.state io.old.disk.now).size set.now) }
-    ensures looks { Looks (D.state io.old.disk.now) io.old.space io.old.failed (D.state io.new.disk.now) io.new.space io.new.failed (stop_of result) }
-    ensures calls { (D.state io.new.disk.now).calls ≤ (D.state io.old.disk.now).calls + 8 }
-    ensures kept_fit { FitsDisk (D.state io.new.disk.now).size io.new.space }
-    ensures same { io.new.disk.ghost_name ≡ io.old.disk.ghost_name }
+    ensures stands { IsHonest io.new → IfOk result (StandsIn (IsSeen (disk_of io.old).seen) set.now) }
+    ensures damaged { IsHonest io.new → IfSetDamaged result (IsDamagedSet (IsSeen (disk_of io.old).seen) (disk_of io.old).size set.now) }
+    ensures looks { Looks (io_of io.old) (io_of io.new) (stop_of result) }
+    ensures calls { (disk_of io.new).calls ≤ (disk_of io.old).calls + 8 }
 {
     match dnode_at(set, io, object) {
         Ok(Some(dnode)) => Ok(dnode),
@@ -108,14 +101,12 @@ fn read_leaf<D: Disk>(
     into: &mut [u8],
 ) -> Result<Cell, ObjFault>
     requires index { index < 2 ^ 43 }
-    requires fits { FitsDisk (D.state io.old.disk.now).size io.old.space }
-    ensures read { (block : Block) → (D.state io.new.disk.now).honest → BlockIs (Has (D.state io.old.disk.now).seen io.old.space) ptr block → BlockFits (length into.old) block
+    ensures read { (block : Block) → IsHonest io.new → BlockIs (blocks_of io.old) ptr block → BlockFits (length into.old) block
         → ReadsBlock (block_found object index block) into.new result }
     ensures limits { IfErr result NotLimit }
-    ensures damaged { (D.state io.new.disk.now).honest → IfSetDamaged result (IsDamagedData (IsSeen (D.state io.old.disk.now).seen) (D.state io.old.disk.now).size (length into.old) ptr) }
-    ensures looks { Looks (D.state io.old.disk.now) io.old.space io.old.failed (D.state io.new.disk.now) io.new.space io.new.failed (stop_of result) }
-    ensures calls { (D.state io.new.disk.now).calls ≤ (D.state io.old.disk.now).calls + 1 }
-    ensures same { io.new.disk.ghost_name ≡ io.old.disk.ghost_name }
+    ensures damaged { IsHonest io.new → IfSetDamaged result (IsDamagedData (IsSeen (disk_of io.old).seen) (disk_of io.old).size (length into.old) ptr) }
+    ensures looks { Looks (io_of io.old) (io_of io.new) (stop_of result) }
+    ensures calls { (disk_of io.new).calls ≤ (disk_of io.old).calls + 1 }
 {
     match ptr.kind {
         0 => {
@@ -133,13 +124,11 @@ fn read_leaf<D: Disk>(
 
 // Reads a block of data as long as the buffer.
 fn read_data<D: Disk>(io: &mut Io<'_, D>, ptr: Ptr, into: &mut [u8]) -> Result<Cell, ObjFault>
-    requires fits { FitsDisk (D.state io.old.disk.now).size io.old.space }
-    ensures read { (bytes : List ℕ) → (D.state io.new.disk.now).honest → Has (D.state io.old.disk.now).seen io.old.space ptr bytes → length bytes ≡ length into.old → ReadsData bytes into.new result }
+    ensures read { (bytes : List ℕ) → IsHonest io.new → blocks_of io.old ptr bytes → length bytes ≡ length into.old → ReadsData bytes into.new result }
     ensures limits { IfErr result NotLimit }
-    ensures damaged { is_flat ptr ≡ false → (D.state io.new.disk.now).honest → IfSetDamaged result (IsDamagedData (IsSeen (D.state io.old.disk.now).seen) (D.state io.old.disk.now).size (length into.old) ptr) }
-    ensures looks { Looks (D.state io.old.disk.now) io.old.space io.old.failed (D.state io.new.disk.now) io.new.space io.new.failed (stop_of result) }
-    ensures calls { (D.state io.new.disk.now).calls ≤ (D.state io.old.disk.now).calls + 1 }
-    ensures same { io.new.disk.ghost_name ≡ io.old.disk.ghost_name }
+    ensures damaged { is_flat ptr ≡ false → IsHonest io.new → IfSetDamaged result (IsDamagedData (IsSeen (disk_of io.old).seen) (disk_of io.old).size (length into.old) ptr) }
+    ensures looks { Looks (io_of io.old) (io_of io.new) (stop_of result) }
+    ensures calls { (disk_of io.new).calls ≤ (disk_of io.old).calls + 1 }
 {
     if ptr.length as usize != into.len() {
         return Err(ObjFault::Block(BlockFault::of_layout(&ptr)));
@@ -160,14 +149,12 @@ pub(crate) fn read_block<D: Disk>(
     into: &mut [u8],
 ) -> Result<Cell, ObjFault>
     requires object { 0 < object }
-    requires fits { FitsDisk (D.state io.old.disk.now).size io.old.space }
-    ensures read { (snap : DatedState) → (D.state io.new.disk.now).honest → SetHolds (Has (D.state io.old.disk.now).seen io.old.space) set.now snap
+    ensures read { (snap : DatedState) → IsHonest io.new → SetHolds (blocks_of io.old) set.now snap
         → ((there : Object) → snap.state object ≡ Some there → length into.old ≡ there.attr.block_size) → ReadsBlock (found_at object index snap) into.new result }
     ensures limits { IfErr result (LimitOnly quantities.Block index_bound (index + 1)) }
-    ensures damaged { (D.state io.new.disk.now).honest → IfSetDamaged result (IsDamagedBlock (IsSeen (D.state io.old.disk.now).seen) (D.state io.old.disk.now).size (length into.old) set.now) }
-    ensures looks { Looks (D.state io.old.disk.now) io.old.space io.old.failed (D.state io.new.disk.now) io.new.space io.new.failed (stop_of result) }
-    ensures calls { (D.state io.new.disk.now).calls ≤ (D.state io.old.disk.now).calls + 16 }
-    ensures same { io.new.disk.ghost_name ≡ io.old.disk.ghost_name }
+    ensures damaged { IsHonest io.new → IfSetDamaged result (IsDamagedBlock (IsSeen (disk_of io.old).seen) (disk_of io.old).size (length into.old) set.now) }
+    ensures looks { Looks (io_of io.old) (io_of io.new) (stop_of result) }
+    ensures calls { (disk_of io.new).calls ≤ (disk_of io.old).calls + 16 }
 {
     let dnode = match object_there(set, io, object) {
         Ok(dnode) => dnode,

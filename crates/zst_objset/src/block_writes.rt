@@ -1,6 +1,6 @@
 //! The calls that write blocks of an object.
 ghost use Rattle.std.specs.Prelude.{true, false, ℕ, List, ◌*◌, ◌≡◌, ◌+◌, ◌/◌, ◌%◌, ◌<◌, ◌≤◌, ◌^◌, ◌&&◌, not, nat_lt, IfErr, IfOk, None, OnErr, OnOk, length};
-ghost use Rattle.zst_block.specs.Blocks.{FitsDisk, Has, SparesTaken};
+ghost use Rattle.zst_block.specs.IoStates.{IsHonest, blocks_of, disk_of, io_of, IsSparedBy};
 ghost use Rattle.zst_block.specs.IoCalls.{Works, stop_of as block_stop};
 ghost use Rattle.zst_model.specs.declared.refusals.faults.Quantity.TheVariants as quantities;
 ghost use Rattle.zst_model.specs.pools.Soundness.{DatedUpTo};
@@ -74,15 +74,13 @@ fn put_data<D: Disk>(
     requires some { 0 < length bytes.now }
     requires whole { length bytes.now % 512 ≡ 0 }
     requires small { length bytes.now < 2 ^ 32 }
-    requires fits { FitsDisk (D.state io.old.disk.now).size io.old.space }
-    ensures puts { (map : Map) → (D.state io.new.disk.now).honest → TreeIs (Has (D.state io.old.disk.now).seen io.old.space) tree map
-        → Delivers (PutsData (Has (D.state io.new.disk.now).seen io.new.space) map index bytes.now number) result }
-    ensures dated { (map : Map) → (D.state io.new.disk.now).honest → TreeIs (Has (D.state io.old.disk.now).seen io.old.space) tree map → TreeDatedUpTo number tree → IfOk result (TreeDatedUpTo number) }
+    ensures puts { (map : Map) → IsHonest io.new → TreeIs (blocks_of io.old) tree map
+        → Delivers (PutsData (blocks_of io.new) map index bytes.now number) result }
+    ensures dated { (map : Map) → IsHonest io.new → TreeIs (blocks_of io.old) tree map → TreeDatedUpTo number tree → IfOk result (TreeDatedUpTo number) }
     ensures levels { IfOk result (λ made. made.levels ≤ 7) }
     ensures root { IfOk result (PutsDataRoot tree (length bytes.now)) }
-    ensures damaged { (D.state io.new.disk.now).honest → NamesDamage (SparesTaken io.old.space (D.state io.old.disk.now).seen) (D.state io.old.disk.now).size NamesNode tree.levels tree.root result }
-    ensures works { Works (length bytes.now / 512 + 224) (length bytes.now / 512) (D.state io.old.disk.now) io.old.space io.old.failed (D.state io.new.disk.now) io.new.space io.new.failed (block_stop result) }
-    ensures same { io.new.disk.ghost_name ≡ io.old.disk.ghost_name }
+    ensures damaged { IsHonest io.new → NamesDamage (IsSparedBy io.old) (disk_of io.old).size NamesNode tree.levels tree.root result }
+    ensures works { Works (length bytes.now / 512 + 224) (length bytes.now / 512) (io_of io.old) (io_of io.new) (block_stop result) }
 {
     let block = write(io, bytes, 0, number)?;
     let mut made = tree;
@@ -100,18 +98,16 @@ pub(crate) fn write_block<D: Disk>(
     number: u64,
 ) -> Result<(), ObjFault>
     requires object { 0 < object }
-    requires fits { FitsDisk (D.state io.old.disk.now).size io.old.space }
-    ensures changed { (state : DatedState) → (D.state io.new.disk.now).honest → SetHolds (Has (D.state io.old.disk.now).seen io.old.space) set.old state
-        → Changes (SetHolds (Has (D.state io.new.disk.now).seen io.new.space) set.new) (block_written number object index bytes.now state) result }
-    ensures tight { (state : DatedState) → (D.state io.new.disk.now).honest → SetIsTight (Has (D.state io.old.disk.now).seen io.old.space) set.old state → DatedUpTo number state
-        → Changes (SetIsTight (Has (D.state io.new.disk.now).seen io.new.space) set.new) (block_written number object index bytes.now state) result }
+    ensures changed { (state : DatedState) → IsHonest io.new → SetHolds (blocks_of io.old) set.old state
+        → Changes (SetHolds (blocks_of io.new) set.new) (block_written number object index bytes.now state) result }
+    ensures tight { (state : DatedState) → IsHonest io.new → SetIsTight (blocks_of io.old) set.old state → DatedUpTo number state
+        → Changes (SetIsTight (blocks_of io.new) set.new) (block_written number object index bytes.now state) result }
     ensures limits { IfErr result (LimitOnly quantities.Block index_bound (index + 1)) }
     ensures unredacted { IfErr result NotRedacted }
-    ensures damaged { (D.state io.new.disk.now).honest → IfSetDamaged result (IsDamagedObject (SparesTaken io.old.space (D.state io.old.disk.now).seen) (D.state io.old.disk.now).size NamesNode set.old) }
+    ensures damaged { IsHonest io.new → IfSetDamaged result (IsDamagedObject (IsSparedBy io.old) (disk_of io.old).size NamesNode set.old) }
     ensures kept { OnErr result (set.new ≡ set.old) }
     ensures levels { OnOk result (SetFits set.new) }
-    ensures works { Works (640 + length bytes.now / 512) (length bytes.now / 512) (D.state io.old.disk.now) io.old.space io.old.failed (D.state io.new.disk.now) io.new.space io.new.failed (stop_of result) }
-    ensures same { io.new.disk.ghost_name ≡ io.old.disk.ghost_name }
+    ensures works { Works (640 + length bytes.now / 512) (length bytes.now / 512) (io_of io.old) (io_of io.new) (stop_of result) }
 {
     applied_is_state();
     let dnode = match object_there(set, io, object) {
@@ -143,12 +139,10 @@ fn write_each<D: Disk>(
     requires small { size < 2 ^ 32 }
     requires long { length bytes.now ≡ length into.old * size }
     requires index { index + length into.old < 2 ^ 64 }
-    requires fits { FitsDisk (D.state io.old.disk.now).size io.old.space }
-    ensures written { OnOk result (AreSoFar (Has (D.state io.new.disk.now).seen io.new.space) number size index bytes.now into.new (length into.old)) }
+    ensures written { OnOk result (AreSoFar (blocks_of io.new) number size index bytes.now into.new (length into.old)) }
     ensures long { length into.new ≡ length into.old }
     ensures never_damaged { (sector : ℕ) (stated found : List ℕ) → ¬ (result ≡ Err (BlockFault.Damaged sector stated found)) }
-    ensures works { Works (length into.old * (size / 512)) (size / 512) (D.state io.old.disk.now) io.old.space io.old.failed (D.state io.new.disk.now) io.new.space io.new.failed (block_stop result) }
-    ensures same { io.new.disk.ghost_name ≡ io.old.disk.ghost_name }
+    ensures works { Works (length into.old * (size / 512)) (size / 512) (io_of io.old) (io_of io.new) (block_stop result) }
 {
     for k in 0..into.len() {
         let block = &bytes[k * size..(k + 1) * size];
@@ -180,15 +174,13 @@ fn put_blocks<D: Disk>(
     requires whole { size % 512 ≡ 0 }
     requires small { size < 2 ^ 32 }
     requires long { length bytes.now ≡ count * size }
-    requires fits { FitsDisk (D.state io.old.disk.now).size io.old.space }
-    ensures puts { (map : Map) → (D.state io.new.disk.now).honest → TreeIs (Has (D.state io.old.disk.now).seen io.old.space) tree map
-        → Delivers (PutsBlocks (Has (D.state io.new.disk.now).seen io.new.space) map number size count index bytes.now) result }
-    ensures dated { (map : Map) → (D.state io.new.disk.now).honest → TreeIs (Has (D.state io.old.disk.now).seen io.old.space) tree map → TreeDatedUpTo number tree → IfOk result (TreeDatedUpTo number) }
+    ensures puts { (map : Map) → IsHonest io.new → TreeIs (blocks_of io.old) tree map
+        → Delivers (PutsBlocks (blocks_of io.new) map number size count index bytes.now) result }
+    ensures dated { (map : Map) → IsHonest io.new → TreeIs (blocks_of io.old) tree map → TreeDatedUpTo number tree → IfOk result (TreeDatedUpTo number) }
     ensures levels { IfOk result (λ made. made.levels ≤ 7) }
     ensures root { IfOk result (λ made. (0 < made.levels) × NamesNode made.levels made.root) }
-    ensures damaged { (D.state io.new.disk.now).honest → NamesDamage (SparesTaken io.old.space (D.state io.old.disk.now).seen) (D.state io.old.disk.now).size NamesNode tree.levels tree.root result }
-    ensures works { Works (count * (size / 512) + 224) (size / 512) (D.state io.old.disk.now) io.old.space io.old.failed (D.state io.new.disk.now) io.new.space io.new.failed (block_stop result) }
-    ensures same { io.new.disk.ghost_name ≡ io.old.disk.ghost_name }
+    ensures damaged { IsHonest io.new → NamesDamage (IsSparedBy io.old) (disk_of io.old).size NamesNode tree.levels tree.root result }
+    ensures works { Works (count * (size / 512) + 224) (size / 512) (io_of io.old) (io_of io.new) (block_stop result) }
 {
     write_each(io, index, size, bytes, number, leaves)?;
     let mut made = tree;
@@ -214,18 +206,16 @@ pub fn write_blocks<D: Disk>(
     requires group { index % 128 + count ≤ 128 }
     requires inside { index + count ≤ 2 ^ 43 }
     requires long { length bytes.now ≡ count * size }
-    requires fits { FitsDisk (D.state io.old.disk.now).size io.old.space }
-    ensures changed { (state : DatedState) → (D.state io.new.disk.now).honest → SetHolds (Has (D.state io.old.disk.now).seen io.old.space) set.old state
-        → Changes (SetHolds (Has (D.state io.new.disk.now).seen io.new.space) set.new) (blocks_written number object size count index bytes.now state) result }
-    ensures tight { (state : DatedState) → (D.state io.new.disk.now).honest → SetIsTight (Has (D.state io.old.disk.now).seen io.old.space) set.old state → DatedUpTo number state
-        → Changes (SetIsTight (Has (D.state io.new.disk.now).seen io.new.space) set.new) (blocks_written number object size count index bytes.now state) result }
+    ensures changed { (state : DatedState) → IsHonest io.new → SetHolds (blocks_of io.old) set.old state
+        → Changes (SetHolds (blocks_of io.new) set.new) (blocks_written number object size count index bytes.now state) result }
+    ensures tight { (state : DatedState) → IsHonest io.new → SetIsTight (blocks_of io.old) set.old state → DatedUpTo number state
+        → Changes (SetIsTight (blocks_of io.new) set.new) (blocks_written number object size count index bytes.now state) result }
     ensures limits { IfErr result NotLimit }
     ensures unredacted { IfErr result NotRedacted }
-    ensures damaged { (D.state io.new.disk.now).honest → IfSetDamaged result (IsDamagedObject (SparesTaken io.old.space (D.state io.old.disk.now).seen) (D.state io.old.disk.now).size NamesNode set.old) }
+    ensures damaged { IsHonest io.new → IfSetDamaged result (IsDamagedObject (IsSparedBy io.old) (disk_of io.old).size NamesNode set.old) }
     ensures kept { OnErr result (set.new ≡ set.old) }
     ensures levels { OnOk result (SetFits set.new) }
-    ensures works { Works (count * (size / 512) + 464) (size / 512) (D.state io.old.disk.now) io.old.space io.old.failed (D.state io.new.disk.now) io.new.space io.new.failed (stop_of result) }
-    ensures same { io.new.disk.ghost_name ≡ io.old.disk.ghost_name }
+    ensures works { Works (count * (size / 512) + 464) (size / 512) (io_of io.old) (io_of io.new) (stop_of result) }
 {
     applied_is_state();
     let dnode = match object_there(set, io, object) {

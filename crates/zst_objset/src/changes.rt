@@ -1,7 +1,7 @@
 //! The calls that change a set.
 ghost use Rattle.std.specs.Prelude.{◌≡◌, ◌+◌, ◌/◌, ◌<◌, ◌^◌, ℕ, Ok, OnErr, OnOk, length, IfErr};
-ghost use Rattle.zst_block.specs.Blocks.{FitsDisk, Has, SparesTaken};
 ghost use Rattle.zst_block.specs.Ptr.{PtrFits};
+ghost use Rattle.zst_block.specs.IoStates.{IsHonest, blocks_of, disk_of, io_of, IsSparedBy};
 ghost use Rattle.zst_block.specs.IoCalls.{Works};
 ghost use Rattle.zst_dnode.specs.Dnode.{DnodeFits};
 ghost use Rattle.zst_dnode.specs.declared.slot.Slot.TheVariants.{There};
@@ -65,21 +65,19 @@ pub(crate) fn put_there<D: Disk>(
 ) -> Result<(), ObjFault>
     requires object { (0 < object) × (object < 2 ^ 48) }
     requires dnode { DnodeFits dnode }
-    requires fits { FitsDisk (D.state io.old.disk.now).size io.old.space }
-    ensures changed { (before now : DatedState) → (D.state io.new.disk.now).honest → SetHolds (Has (D.state io.old.disk.now).seen io.old.space) set.old before
-        → PutsSlot (Has (D.state io.old.disk.now).seen io.old.space) before now object (object + 1) (There dnode)
-        → Changes (SetHolds (Has (D.state io.new.disk.now).seen io.new.space) set.new) (Ok now) result }
-    ensures tight { (before now : DatedState) → (D.state io.new.disk.now).honest → SetIsTight (Has (D.state io.old.disk.now).seen io.old.space) set.old before
-        → PutsSlot (Has (D.state io.old.disk.now).seen io.old.space) before now object (object + 1) (There dnode) → IsTightSlot now object (There dnode)
-        → Changes (SetIsTight (Has (D.state io.new.disk.now).seen io.new.space) set.new) (Ok now) result }
+    ensures changed { (before now : DatedState) → IsHonest io.new → SetHolds (blocks_of io.old) set.old before
+        → PutsSlot (blocks_of io.old) before now object (object + 1) (There dnode)
+        → Changes (SetHolds (blocks_of io.new) set.new) (Ok now) result }
+    ensures tight { (before now : DatedState) → IsHonest io.new → SetIsTight (blocks_of io.old) set.old before
+        → PutsSlot (blocks_of io.old) before now object (object + 1) (There dnode) → IsTightSlot now object (There dnode)
+        → Changes (SetIsTight (blocks_of io.new) set.new) (Ok now) result }
     ensures limits { IfErr result NotLimit }
     ensures unredacted { IfErr result NotRedacted }
-    ensures damaged { (D.state io.new.disk.now).honest → IfSetDamaged result (IsDamagedSet (SparesTaken io.old.space (D.state io.old.disk.now).seen) (D.state io.old.disk.now).size set.old) }
-    ensures within { (D.state io.new.disk.now).honest → OnOk result (IsSetWithin (SparesTaken io.old.space (D.state io.old.disk.now).seen) (D.state io.old.disk.now).size set.old (SparesTaken io.new.space (D.state io.new.disk.now).seen) set.new) }
+    ensures damaged { IsHonest io.new → IfSetDamaged result (IsDamagedSet (IsSparedBy io.old) (disk_of io.old).size set.old) }
+    ensures within { IsHonest io.new → OnOk result (IsSetWithin (IsSparedBy io.old) (disk_of io.old).size set.old (IsSparedBy io.new) set.new) }
     ensures kept { OnErr result (set.new ≡ set.old) }
     ensures levels { OnOk result (SetFits set.new) }
-    ensures works { Works 240 16 (D.state io.old.disk.now) io.old.space io.old.failed (D.state io.new.disk.now) io.new.space io.new.failed (stop_of result) }
-    ensures same { io.new.disk.ghost_name ≡ io.old.disk.ghost_name }
+    ensures works { Works 240 16 (io_of io.old) (io_of io.new) (stop_of result) }
 {
     match put_in_leaf(*set, io, object, object + 1, &Slot::There(dnode)) {
         Ok(made) => {
@@ -99,21 +97,19 @@ pub(crate) fn put_dnode<D: Disk>(
 ) -> Result<(), ObjFault>
     requires object { (0 < object) × (object < 2 ^ 48) }
     requires dnode { DnodeFits dnode }
-    requires fits { FitsDisk (D.state io.old.disk.now).size io.old.space }
-    ensures changed { (number : ℕ) (change : Change) (state : DatedState) → (D.state io.new.disk.now).honest → SetHolds (Has (D.state io.old.disk.now).seen io.old.space) set.old state
-        → MakesDnode (Has (D.state io.old.disk.now).seen io.old.space) number object change state dnode
-        → Changes (SetHolds (Has (D.state io.new.disk.now).seen io.new.space) set.new) (changed number (At object change) state) result }
-    ensures tight { (number : ℕ) (change : Change) (state : DatedState) → (D.state io.new.disk.now).honest → SetIsTight (Has (D.state io.old.disk.now).seen io.old.space) set.old state
-        → MakesDnode (Has (D.state io.old.disk.now).seen io.old.space) number object change state dnode → IsTightDnode number object change state dnode
-        → Changes (SetIsTight (Has (D.state io.new.disk.now).seen io.new.space) set.new) (changed number (At object change) state) result }
+    ensures changed { (number : ℕ) (change : Change) (state : DatedState) → IsHonest io.new → SetHolds (blocks_of io.old) set.old state
+        → MakesDnode (blocks_of io.old) number object change state dnode
+        → Changes (SetHolds (blocks_of io.new) set.new) (changed number (At object change) state) result }
+    ensures tight { (number : ℕ) (change : Change) (state : DatedState) → IsHonest io.new → SetIsTight (blocks_of io.old) set.old state
+        → MakesDnode (blocks_of io.old) number object change state dnode → IsTightDnode number object change state dnode
+        → Changes (SetIsTight (blocks_of io.new) set.new) (changed number (At object change) state) result }
     ensures limits { IfErr result NotLimit }
     ensures unredacted { IfErr result NotRedacted }
-    ensures damaged { (D.state io.new.disk.now).honest → IfSetDamaged result (IsDamagedSet (SparesTaken io.old.space (D.state io.old.disk.now).seen) (D.state io.old.disk.now).size set.old) }
-    ensures within { (D.state io.new.disk.now).honest → OnOk result (IsSetWithin (SparesTaken io.old.space (D.state io.old.disk.now).seen) (D.state io.old.disk.now).size set.old (SparesTaken io.new.space (D.state io.new.disk.now).seen) set.new) }
+    ensures damaged { IsHonest io.new → IfSetDamaged result (IsDamagedSet (IsSparedBy io.old) (disk_of io.old).size set.old) }
+    ensures within { IsHonest io.new → OnOk result (IsSetWithin (IsSparedBy io.old) (disk_of io.old).size set.old (IsSparedBy io.new) set.new) }
     ensures kept { OnErr result (set.new ≡ set.old) }
     ensures levels { OnOk result (SetFits set.new) }
-    ensures works { Works 240 16 (D.state io.old.disk.now) io.old.space io.old.failed (D.state io.new.disk.now) io.new.space io.new.failed (stop_of result) }
-    ensures same { io.new.disk.ghost_name ≡ io.old.disk.ghost_name }
+    ensures works { Works 240 16 (io_of io.old) (io_of io.new) (stop_of result) }
 {
     applied_is_state();
     put_there(set, io, object, dnode)
@@ -129,18 +125,16 @@ pub(crate) fn put_spill<D: Disk>(
 ) -> Result<(), ObjFault>
     requires object { 0 < object }
     requires spill { IsSpill bytes.now }
-    requires fits { FitsDisk (D.state io.old.disk.now).size io.old.space }
-    ensures changed { (state : DatedState) → (D.state io.new.disk.now).honest → SetHolds (Has (D.state io.old.disk.now).seen io.old.space) set.old state
-        → Changes (SetHolds (Has (D.state io.new.disk.now).seen io.new.space) set.new) (spill_put number object bytes.now state) result }
-    ensures tight { (state : DatedState) → (D.state io.new.disk.now).honest → SetIsTight (Has (D.state io.old.disk.now).seen io.old.space) set.old state → DatedUpTo number state
-        → Changes (SetIsTight (Has (D.state io.new.disk.now).seen io.new.space) set.new) (spill_put number object bytes.now state) result }
+    ensures changed { (state : DatedState) → IsHonest io.new → SetHolds (blocks_of io.old) set.old state
+        → Changes (SetHolds (blocks_of io.new) set.new) (spill_put number object bytes.now state) result }
+    ensures tight { (state : DatedState) → IsHonest io.new → SetIsTight (blocks_of io.old) set.old state → DatedUpTo number state
+        → Changes (SetIsTight (blocks_of io.new) set.new) (spill_put number object bytes.now state) result }
     ensures limits { IfErr result NotLimit }
     ensures unredacted { IfErr result NotRedacted }
-    ensures damaged { (D.state io.new.disk.now).honest → IfSetDamaged result (IsDamagedSet (SparesTaken io.old.space (D.state io.old.disk.now).seen) (D.state io.old.disk.now).size set.old) }
+    ensures damaged { IsHonest io.new → IfSetDamaged result (IsDamagedSet (IsSparedBy io.old) (disk_of io.old).size set.old) }
     ensures kept { OnErr result (set.new ≡ set.old) }
     ensures levels { OnOk result (SetFits set.new) }
-    ensures works { Works (640 + length bytes.now / 512) (length bytes.now / 512) (D.state io.old.disk.now) io.old.space io.old.failed (D.state io.new.disk.now) io.new.space io.new.failed (stop_of result) }
-    ensures same { io.new.disk.ghost_name ≡ io.old.disk.ghost_name }
+    ensures works { Works (640 + length bytes.now / 512) (length bytes.now / 512) (io_of io.old) (io_of io.new) (stop_of result) }
 {
     let dnode = match object_there(set, io, object) {
         Ok(dnode) => dnode,

@@ -1,6 +1,6 @@
 //! The call that frees a range of numbers.
 ghost use Rattle.std.specs.Prelude.{◌≡◌, ◌+◌, ◌*◌, ◌/◌, ◌<◌, ◌≤◌, ◌^◌, IfErr, IfOk, OnErr};
-ghost use Rattle.zst_block.specs.Blocks.{FitsDisk, Has, SparesTaken};
+ghost use Rattle.zst_block.specs.IoStates.{IsHonest, blocks_of, disk_of, io_of, IsSparedBy};
 ghost use Rattle.zst_block.specs.IoCalls.{Works, stop_of as block_stop_of};
 ghost use Rattle.zst_model.specs.declared.refusals.faults.Quantity.TheVariants as quantities;
 ghost use Rattle.zst_model.specs.states.DatedState.{DatedState};
@@ -35,16 +35,14 @@ fn free_in_leaf<D: Disk>(
     requires order { first ≤ below }
     requires bound { below ≤ 2 ^ 48 }
     requires leaf { below ≤ 16 * (first / 16) + 16 }
-    requires fits { FitsDisk (D.state io.old.disk.now).size io.old.space }
-    ensures frees { (state : DatedState) → (D.state io.new.disk.now).honest → SetHolds (Has (D.state io.old.disk.now).seen io.old.space) set state
-        → Delivers (λ made. SetHolds (Has (D.state io.new.disk.now).seen io.new.space) made (freed number first below state)) result }
-    ensures tight { (state : DatedState) → (D.state io.new.disk.now).honest → SetIsTight (Has (D.state io.old.disk.now).seen io.old.space) set state
-        → IfOk result (λ made. SetIsTight (Has (D.state io.new.disk.now).seen io.new.space) made (freed number first below state)) }
-    ensures damaged { (D.state io.new.disk.now).honest → IfDamaged result (IsDamagedSet (SparesTaken io.old.space (D.state io.old.disk.now).seen) (D.state io.old.disk.now).size set) }
-    ensures within { (D.state io.new.disk.now).honest → IfOk result (IsSetWithin (SparesTaken io.old.space (D.state io.old.disk.now).seen) (D.state io.old.disk.now).size set (SparesTaken io.new.space (D.state io.new.disk.now).seen)) }
-    ensures works { Works 240 16 (D.state io.old.disk.now) io.old.space io.old.failed (D.state io.new.disk.now) io.new.space io.new.failed (block_stop_of result) }
+    ensures frees { (state : DatedState) → IsHonest io.new → SetHolds (blocks_of io.old) set state
+        → Delivers (λ made. SetHolds (blocks_of io.new) made (freed number first below state)) result }
+    ensures tight { (state : DatedState) → IsHonest io.new → SetIsTight (blocks_of io.old) set state
+        → IfOk result (λ made. SetIsTight (blocks_of io.new) made (freed number first below state)) }
+    ensures damaged { IsHonest io.new → IfDamaged result (IsDamagedSet (IsSparedBy io.old) (disk_of io.old).size set) }
+    ensures within { IsHonest io.new → IfOk result (IsSetWithin (IsSparedBy io.old) (disk_of io.old).size set (IsSparedBy io.new)) }
+    ensures works { Works 240 16 (io_of io.old) (io_of io.new) (block_stop_of result) }
     ensures levels { SetFits set → IfOk result SetFits }
-    ensures same { io.new.disk.ghost_name ≡ io.old.disk.ghost_name }
 {
     if first == below {
         return Ok(set);
@@ -64,16 +62,14 @@ fn free_leaves<D: Disk>(
     requires first { 0 < first }
     requires order { first ≤ below }
     requires bound { below ≤ 2 ^ 44 }
-    requires fits { FitsDisk (D.state io.old.disk.now).size io.old.space }
-    ensures frees { (state : DatedState) → (D.state io.new.disk.now).honest → SetHolds (Has (D.state io.old.disk.now).seen io.old.space) set state
-        → Delivers (λ made. SetHolds (Has (D.state io.new.disk.now).seen io.new.space) made (freed number (16 * first) (16 * below) state)) result }
-    ensures tight { (state : DatedState) → (D.state io.new.disk.now).honest → SetIsTight (Has (D.state io.old.disk.now).seen io.old.space) set state
-        → IfOk result (λ made. SetIsTight (Has (D.state io.new.disk.now).seen io.new.space) made (freed number (16 * first) (16 * below) state)) }
-    ensures damaged { (D.state io.new.disk.now).honest → IfDamaged result (IsDamagedSet (SparesTaken io.old.space (D.state io.old.disk.now).seen) (D.state io.old.disk.now).size set) }
-    ensures within { (D.state io.new.disk.now).honest → IfOk result (IsSetWithin (SparesTaken io.old.space (D.state io.old.disk.now).seen) (D.state io.old.disk.now).size set (SparesTaken io.new.space (D.state io.new.disk.now).seen)) }
-    ensures works { Works 320 16 (D.state io.old.disk.now) io.old.space io.old.failed (D.state io.new.disk.now) io.new.space io.new.failed (block_stop_of result) }
+    ensures frees { (state : DatedState) → IsHonest io.new → SetHolds (blocks_of io.old) set state
+        → Delivers (λ made. SetHolds (blocks_of io.new) made (freed number (16 * first) (16 * below) state)) result }
+    ensures tight { (state : DatedState) → IsHonest io.new → SetIsTight (blocks_of io.old) set state
+        → IfOk result (λ made. SetIsTight (blocks_of io.new) made (freed number (16 * first) (16 * below) state)) }
+    ensures damaged { IsHonest io.new → IfDamaged result (IsDamagedSet (IsSparedBy io.old) (disk_of io.old).size set) }
+    ensures within { IsHonest io.new → IfOk result (IsSetWithin (IsSparedBy io.old) (disk_of io.old).size set (IsSparedBy io.new)) }
+    ensures works { Works 320 16 (io_of io.old) (io_of io.new) (block_stop_of result) }
     ensures levels { SetFits set → IfOk result SetFits }
-    ensures same { io.new.disk.ghost_name ≡ io.old.disk.ghost_name }
 {
     if first == below {
         return Ok(set);
@@ -98,15 +94,13 @@ fn free_range<D: Disk>(
     requires first { 0 < first }
     requires order { first ≤ below }
     requires bound { below ≤ 2 ^ 48 }
-    requires fits { FitsDisk (D.state io.old.disk.now).size io.old.space }
-    ensures frees { (state : DatedState) → (D.state io.new.disk.now).honest → SetHolds (Has (D.state io.old.disk.now).seen io.old.space) set state
-        → Delivers (λ made. SetHolds (Has (D.state io.new.disk.now).seen io.new.space) made (freed number first below state)) result }
-    ensures tight { (state : DatedState) → (D.state io.new.disk.now).honest → SetIsTight (Has (D.state io.old.disk.now).seen io.old.space) set state
-        → IfOk result (λ made. SetIsTight (Has (D.state io.new.disk.now).seen io.new.space) made (freed number first below state)) }
-    ensures damaged { (D.state io.new.disk.now).honest → IfDamaged result (IsDamagedSet (SparesTaken io.old.space (D.state io.old.disk.now).seen) (D.state io.old.disk.now).size set) }
-    ensures works { Works 800 16 (D.state io.old.disk.now) io.old.space io.old.failed (D.state io.new.disk.now) io.new.space io.new.failed (block_stop_of result) }
+    ensures frees { (state : DatedState) → IsHonest io.new → SetHolds (blocks_of io.old) set state
+        → Delivers (λ made. SetHolds (blocks_of io.new) made (freed number first below state)) result }
+    ensures tight { (state : DatedState) → IsHonest io.new → SetIsTight (blocks_of io.old) set state
+        → IfOk result (λ made. SetIsTight (blocks_of io.new) made (freed number first below state)) }
+    ensures damaged { IsHonest io.new → IfDamaged result (IsDamagedSet (IsSparedBy io.old) (disk_of io.old).size set) }
+    ensures works { Works 800 16 (io_of io.old) (io_of io.new) (block_stop_of result) }
     ensures levels { SetFits set → IfOk result SetFits }
-    ensures same { io.new.disk.ghost_name ≡ io.old.disk.ghost_name }
 {
     let whole = first.div_ceil(16);
     let last = below / 16;
@@ -128,18 +122,16 @@ pub(crate) fn free_objects<D: Disk>(
     number: u64,
 ) -> Result<(), ObjFault>
     requires first { 0 < first }
-    requires fits { FitsDisk (D.state io.old.disk.now).size io.old.space }
-    ensures changed { (state : DatedState) → (D.state io.new.disk.now).honest → SetHolds (Has (D.state io.old.disk.now).seen io.old.space) set.old state
-        → Changes (SetHolds (Has (D.state io.new.disk.now).seen io.new.space) set.new) (objects_freed number first count state) result }
-    ensures tight { (state : DatedState) → (D.state io.new.disk.now).honest → SetIsTight (Has (D.state io.old.disk.now).seen io.old.space) set.old state
-        → Changes (SetIsTight (Has (D.state io.new.disk.now).seen io.new.space) set.new) (objects_freed number first count state) result }
+    ensures changed { (state : DatedState) → IsHonest io.new → SetHolds (blocks_of io.old) set.old state
+        → Changes (SetHolds (blocks_of io.new) set.new) (objects_freed number first count state) result }
+    ensures tight { (state : DatedState) → IsHonest io.new → SetIsTight (blocks_of io.old) set.old state
+        → Changes (SetIsTight (blocks_of io.new) set.new) (objects_freed number first count state) result }
     ensures limits { IfErr result (LimitOnly quantities.Object number_bound (first + count)) }
     ensures unredacted { IfErr result NotRedacted }
-    ensures damaged { (D.state io.new.disk.now).honest → IfSetDamaged result (IsDamagedSet (SparesTaken io.old.space (D.state io.old.disk.now).seen) (D.state io.old.disk.now).size set.old) }
+    ensures damaged { IsHonest io.new → IfSetDamaged result (IsDamagedSet (IsSparedBy io.old) (disk_of io.old).size set.old) }
     ensures kept { OnErr result (set.new ≡ set.old) }
     ensures levels { SetFits set.old → SetFits set.new }
-    ensures works { Works 1280 16 (D.state io.old.disk.now) io.old.space io.old.failed (D.state io.new.disk.now) io.new.space io.new.failed (stop_of result) }
-    ensures same { io.new.disk.ghost_name ≡ io.old.disk.ghost_name }
+    ensures works { Works 1280 16 (io_of io.old) (io_of io.new) (stop_of result) }
 {
     if first.saturating_add(count) > NUMBER_BOUND {
         return Err(ObjFault::Limit {

@@ -1,7 +1,7 @@
 //! The leaves of a set, read and written.
-ghost use Rattle.std.specs.Prelude.{◌≡◌, ◌⊎◌, ◌+◌, ◌*◌, ◌^◌, ◌<◌, ◌≤◌, true, ℕ, IfOk, OnOk, length};
-ghost use Rattle.zst_block.specs.Blocks.{FitsDisk, Has};
+ghost use Rattle.std.specs.Prelude.{◌≡◌, ◌+◌, ◌^◌, ◌<◌, ◌≤◌, true, ℕ, IfOk, OnOk};
 ghost use Rattle.zst_block.specs.Ptr.{is_lawful};
+ghost use Rattle.zst_block.specs.IoStates.{IsHonest, blocks_of, disk_of, io_of};
 ghost use Rattle.zst_block.specs.IoCalls.{Looks, Works, stop_of};
 ghost use Rattle.zst_dnode.specs.declared.slot.Slot.{Slot};
 ghost use Rattle.zst_model.specs.states.DatedState.{DatedState};
@@ -24,18 +24,15 @@ use zst_tree::ObjSet;
 /// its date; no object has the number 0, whose slot stays as it began.
 pub fn load_slots<D: Disk>(io: &mut Io<'_, D>, ptr: Ptr, leaf: u64) -> Result<(), BlockFault>
     requires leaf { leaf < 2 ^ 44 }
-    requires fits { FitsDisk (D.state io.old.disk.now).size io.old.space }
-    ensures slots { (snap : DatedState) → (D.state io.new.disk.now).honest → LeafIs (Has (D.state io.old.disk.now).seen io.old.space) snap leaf ptr
-        → Delivers (λ done. HasSlots (Has (D.state io.old.disk.now).seen io.old.space) snap leaf io.new.node) result }
+    ensures slots { (snap : DatedState) → IsHonest io.new → LeafIs (blocks_of io.old) snap leaf ptr
+        → Delivers (λ done. HasSlots (blocks_of io.old) snap leaf io.new.node) result }
     // So it is where the blocks of some pairs aren't read.
-    ensures slots_in { (snap : DatedState) (pairs : Pairs) → (D.state io.new.disk.now).honest → LeafIn (Has (D.state io.old.disk.now).seen io.old.space) (outside pairs (Has (D.state io.old.disk.now).seen io.old.space)) snap leaf ptr
-        → Delivers (λ done. HasSlotsIn (Has (D.state io.old.disk.now).seen io.old.space) (outside pairs (Has (D.state io.old.disk.now).seen io.old.space)) snap leaf io.new.node) result }
-    ensures loaded { (D.state io.new.disk.now).honest → OnOk result (IsLoaded (IsSeen (D.state io.old.disk.now).seen) ptr io.new.node) }
-    ensures damaged { (D.state io.new.disk.now).honest → IfDamaged result (IsDamagedLeaf (IsSeen (D.state io.old.disk.now).seen) (D.state io.old.disk.now).size ptr) }
-    ensures looks { Looks (D.state io.old.disk.now) io.old.space io.old.failed (D.state io.new.disk.now) io.new.space io.new.failed (stop_of result) }
-    ensures calls { (D.state io.new.disk.now).calls ≤ (D.state io.old.disk.now).calls + 1 }
-    ensures kept_fit { FitsDisk (D.state io.new.disk.now).size io.new.space }
-    ensures same { io.new.disk.ghost_name ≡ io.old.disk.ghost_name }
+    ensures slots_in { (snap : DatedState) (pairs : Pairs) → IsHonest io.new → LeafIn (blocks_of io.old) (outside pairs (blocks_of io.old)) snap leaf ptr
+        → Delivers (λ done. HasSlotsIn (blocks_of io.old) (outside pairs (blocks_of io.old)) snap leaf io.new.node) result }
+    ensures loaded { IsHonest io.new → OnOk result (IsLoaded (IsSeen (disk_of io.old).seen) ptr io.new.node) }
+    ensures damaged { IsHonest io.new → IfDamaged result (IsDamagedLeaf (IsSeen (disk_of io.old).seen) (disk_of io.old).size ptr) }
+    ensures looks { Looks (io_of io.old) (io_of io.new) (stop_of result) }
+    ensures calls { (disk_of io.new).calls ≤ (disk_of io.old).calls + 1 }
 {
     if ptr.kind != 0 {
         return load(io, ptr);
@@ -49,14 +46,12 @@ pub fn load_slots<D: Disk>(io: &mut Io<'_, D>, ptr: Ptr, leaf: u64) -> Result<()
 
 // Saves the node as a leaf, in place of the one that this pointer stood for.
 pub(crate) fn save_slots<D: Disk>(io: &mut Io<'_, D>, was: &Ptr) -> Result<Ptr, BlockFault>
-    requires fits { FitsDisk (D.state io.old.disk.now).size io.old.space }
-    ensures names { (slots : ℕ → Slot) → Spells io.old.node slots → Delivers (λ ptr. NamesSlots (Has (D.state io.new.disk.now).seen io.new.space) ptr io.old.node slots) result }
+    ensures names { (slots : ℕ → Slot) → Spells io.old.node slots → Delivers (λ ptr. NamesSlots (blocks_of io.new) ptr io.old.node slots) result }
     ensures lawful { IfOk result (λ ptr. is_lawful ptr ≡ true) }
     ensures damaged { IfDamaged result (TellsLacking io.old.node was.now) }
-    ensures wrote { IfOk result (λ ptr. Has (D.state io.new.disk.now).seen io.new.space ptr io.old.node) }
+    ensures wrote { IfOk result (λ ptr. blocks_of io.new ptr io.old.node) }
     ensures some { OnOk result (HasAllSlots io.old.node) }
-    ensures works { Works 16 16 (D.state io.old.disk.now) io.old.space io.old.failed (D.state io.new.disk.now) io.new.space io.new.failed (stop_of result) }
-    ensures same { io.new.disk.ghost_name ≡ io.old.disk.ghost_name }
+    ensures works { Works 16 16 (io_of io.old) (io_of io.new) (stop_of result) }
 {
     match summed_up(&io.node) {
         None => Err(BlockFault::of_layout(was)),
@@ -76,19 +71,16 @@ pub(crate) fn find_slots<D: Disk>(
     leaf: u64,
 ) -> Result<Ptr, BlockFault>
     requires leaf { leaf < 2 ^ 44 }
-    requires fits { FitsDisk (D.state io.old.disk.now).size io.old.space }
-    ensures slots { (snap : DatedState) → (D.state io.new.disk.now).honest → SetHolds (Has (D.state io.old.disk.now).seen io.old.space) set.now snap
-        → Delivers (λ was. HasSlots (Has (D.state io.old.disk.now).seen io.old.space) snap leaf io.new.node) result }
-    ensures tight { (snap : DatedState) → (D.state io.new.disk.now).honest → SetIsTight (Has (D.state io.old.disk.now).seen io.old.space) set.now snap
+    ensures slots { (snap : DatedState) → IsHonest io.new → SetHolds (blocks_of io.old) set.now snap
+        → Delivers (λ was. HasSlots (blocks_of io.old) snap leaf io.new.node) result }
+    ensures tight { (snap : DatedState) → IsHonest io.new → SetIsTight (blocks_of io.old) set.now snap
         → OnOk result (AreTight snap leaf io.new.node) }
     ensures levels { OnOk result (set.now.tree.levels ≤ 7) }
-    ensures hangs { (D.state io.new.disk.now).honest → IfOk result (HangsIn (MayHave (IsSeen (D.state io.old.disk.now).seen)) set.now.tree) }
-    ensures loaded { (D.state io.new.disk.now).honest → IfOk result (λ was. IsLoaded (IsSeen (D.state io.old.disk.now).seen) was io.new.node) }
-    ensures damaged { (D.state io.new.disk.now).honest → IfDamaged result (IsDamagedSet (IsSeen (D.state io.old.disk.now).seen) (D.state io.old.disk.now).size set.now) }
-    ensures looks { Looks (D.state io.old.disk.now) io.old.space io.old.failed (D.state io.new.disk.now) io.new.space io.new.failed (stop_of result) }
-    ensures calls { (D.state io.new.disk.now).calls ≤ (D.state io.old.disk.now).calls + 8 }
-    ensures kept_fit { FitsDisk (D.state io.new.disk.now).size io.new.space }
-    ensures same { io.new.disk.ghost_name ≡ io.old.disk.ghost_name }
+    ensures hangs { IsHonest io.new → IfOk result (HangsIn (MayHave (IsSeen (disk_of io.old).seen)) set.now.tree) }
+    ensures loaded { IsHonest io.new → IfOk result (λ was. IsLoaded (IsSeen (disk_of io.old).seen) was io.new.node) }
+    ensures damaged { IsHonest io.new → IfDamaged result (IsDamagedSet (IsSeen (disk_of io.old).seen) (disk_of io.old).size set.now) }
+    ensures looks { Looks (io_of io.old) (io_of io.new) (stop_of result) }
+    ensures calls { (disk_of io.new).calls ≤ (disk_of io.old).calls + 8 }
 {
     if set.tree.levels > 7 {
         return Err(BlockFault::of_layout(&set.tree.root));

@@ -1,6 +1,7 @@
 ghost use Rattle.std.specs.Prelude.{◌≡◌, ◌/◌, ◌+◌, ◌<◌, ◌≤◌, ℕ, List, length, IfErr, IfOk, IfSome, OnErr, OnOk, Some};
 ghost use Rattle.zst_space.specs.FreeSectors.{FreeSectors};
-ghost use Rattle.zst_block.specs.Blocks.{FitsDisk, Has, SparesTaken};
+ghost use Rattle.zst_block.specs.Blocks.{Has};
+ghost use Rattle.zst_block.specs.IoStates.{IsHonest, blocks_of, disk_of, io_of, IsSparedBy};
 ghost use Rattle.zst_block.specs.IoCalls.{Looks, Works};
 ghost use Rattle.zst_block.specs.declared.ptr.Ptr.{Ptr};
 ghost use Rattle.zst_dnode.specs.Dnode.{DnodeFits};
@@ -61,40 +62,34 @@ pub trait Objects<D: Disk> {
     /// The dnode of an object.
     fn attr(&self, io: &mut Io<'_, D>, object: u64) -> Result<Option<Dnode>, ObjFault>
         requires object { 0 < object }
-        requires fits { FitsDisk (D.state io.old.disk.now).size io.old.space }
-        ensures found { (state : DatedState) → (D.state io.new.disk.now).honest → holds self.now (Has (D.state io.old.disk.now).seen io.old.space) state
-            → FindsObject (Has (D.state io.new.disk.now).seen io.new.space) state object result }
+        ensures found { (state : DatedState) → IsHonest io.new → holds self.now (blocks_of io.old) state
+            → FindsObject (blocks_of io.new) state object result }
         ensures ranges { IfOk result (λ found. IfSome found DnodeFits) }
         ensures known { IfErr result IsOfBlock }
-        ensures damaged { (D.state io.new.disk.now).honest → IfSetDamaged result (slot_damage (IsSeen (D.state io.old.disk.now).seen) (D.state io.old.disk.now).size self.now) }
-        ensures looks { Looks (D.state io.old.disk.now) io.old.space io.old.failed (D.state io.new.disk.now) io.new.space io.new.failed (stop_of result) }
-        ensures calls { (D.state io.new.disk.now).calls ≤ (D.state io.old.disk.now).calls + 8 }
-        ensures same { io.new.disk.ghost_name ≡ io.old.disk.ghost_name };
+        ensures damaged { IsHonest io.new → IfSetDamaged result (slot_damage (IsSeen (disk_of io.old).seen) (disk_of io.old).size self.now) }
+        ensures looks { Looks (io_of io.old) (io_of io.new) (stop_of result) }
+        ensures calls { (disk_of io.new).calls ≤ (disk_of io.old).calls + 8 };
 
     /// What stands at a number: of an absent one its date.
     fn slot(&self, io: &mut Io<'_, D>, object: u64) -> Result<Slot, ObjFault>
         requires object { (0 < object) × (object < number_bound) }
-        requires fits { FitsDisk (D.state io.old.disk.now).size io.old.space }
-        ensures found { (state : DatedState) → (D.state io.new.disk.now).honest → holds self.now (Has (D.state io.old.disk.now).seen io.old.space) state
-            → FindsSlot (Has (D.state io.new.disk.now).seen io.new.space) state object result }
+        ensures found { (state : DatedState) → IsHonest io.new → holds self.now (blocks_of io.old) state
+            → FindsSlot (blocks_of io.new) state object result }
         ensures ranges { IfOk result SlotFits }
         ensures known { IfErr result IsOfBlock }
-        ensures damaged { (D.state io.new.disk.now).honest → IfSetDamaged result (slot_damage (IsSeen (D.state io.old.disk.now).seen) (D.state io.old.disk.now).size self.now) }
-        ensures looks { Looks (D.state io.old.disk.now) io.old.space io.old.failed (D.state io.new.disk.now) io.new.space io.new.failed (stop_of result) }
-        ensures calls { (D.state io.new.disk.now).calls ≤ (D.state io.old.disk.now).calls + 8 }
-        ensures same { io.new.disk.ghost_name ≡ io.old.disk.ghost_name };
+        ensures damaged { IsHonest io.new → IfSetDamaged result (slot_damage (IsSeen (disk_of io.old).seen) (disk_of io.old).size self.now) }
+        ensures looks { Looks (io_of io.old) (io_of io.new) (stop_of result) }
+        ensures calls { (disk_of io.new).calls ≤ (disk_of io.old).calls + 8 };
 
     /// The first object from a number on, with its number. A run of holes costs one look.
     fn next_object(&self, io: &mut Io<'_, D>, from: u64) -> Result<Option<(u64, Dnode)>, ObjFault>
         requires from { 0 < from }
-        requires fits { FitsDisk (D.state io.old.disk.now).size io.old.space }
-        ensures found { (state : DatedState) → (D.state io.new.disk.now).honest → holds self.now (Has (D.state io.old.disk.now).seen io.old.space) state
-            → FindsNext (Has (D.state io.new.disk.now).seen io.new.space) state from result }
+        ensures found { (state : DatedState) → IsHonest io.new → holds self.now (blocks_of io.old) state
+            → FindsNext (blocks_of io.new) state from result }
         ensures ranges { IfOk result (λ found. IfSome found (λ next. (from ≤ next.0) × (next.0 < number_bound) × DnodeFits next.1)) }
         ensures known { IfErr result IsOfBlock }
-        ensures damaged { (D.state io.new.disk.now).honest → IfSetDamaged result (slot_damage (IsSeen (D.state io.old.disk.now).seen) (D.state io.old.disk.now).size self.now) }
-        ensures looks { Looks (D.state io.old.disk.now) io.old.space io.old.failed (D.state io.new.disk.now) io.new.space io.new.failed (stop_of result) }
-        ensures same { io.new.disk.ghost_name ≡ io.old.disk.ghost_name };
+        ensures damaged { IsHonest io.new → IfSetDamaged result (slot_damage (IsSeen (disk_of io.old).seen) (disk_of io.old).size self.now) }
+        ensures looks { Looks (io_of io.old) (io_of io.new) (stop_of result) };
 
     /// Reads one index of an object, whose blocks are as long as the buffer.
     fn read_block(
@@ -105,15 +100,13 @@ pub trait Objects<D: Disk> {
         into: &mut [u8],
     ) -> Result<Cell, ObjFault>
         requires object { 0 < object }
-        requires fits { FitsDisk (D.state io.old.disk.now).size io.old.space }
-        ensures read { (state : DatedState) → (D.state io.new.disk.now).honest → holds self.now (Has (D.state io.old.disk.now).seen io.old.space) state
+        ensures read { (state : DatedState) → IsHonest io.new → holds self.now (blocks_of io.old) state
             → ((there : Object) → state.state object ≡ Some there → length into.old ≡ there.attr.block_size)
             → ReadsBlock (found_at object index state) into.new result }
         ensures limits { IfErr result (LimitOnly quantities.Block index_bound (index + 1)) }
-        ensures damaged { (D.state io.new.disk.now).honest → IfSetDamaged result (block_damage (IsSeen (D.state io.old.disk.now).seen) (D.state io.old.disk.now).size (length into.old) self.now) }
-        ensures looks { Looks (D.state io.old.disk.now) io.old.space io.old.failed (D.state io.new.disk.now) io.new.space io.new.failed (stop_of result) }
-        ensures calls { (D.state io.new.disk.now).calls ≤ (D.state io.old.disk.now).calls + 16 }
-        ensures same { io.new.disk.ghost_name ≡ io.old.disk.ghost_name };
+        ensures damaged { IsHonest io.new → IfSetDamaged result (block_damage (IsSeen (disk_of io.old).seen) (disk_of io.old).size (length into.old) self.now) }
+        ensures looks { Looks (io_of io.old) (io_of io.new) (stop_of result) }
+        ensures calls { (disk_of io.new).calls ≤ (disk_of io.old).calls + 16 };
 
     /// Allocates an object, or gives it other attributes.
     fn put_object(
@@ -128,20 +121,18 @@ pub trait Objects<D: Disk> {
         requires object { 0 < object }
         requires head { IsHead head }
         requires bonus { IsBonus bonus.now }
-        requires fits { FitsDisk (D.state io.old.disk.now).size io.old.space }
-        ensures changed { (state : DatedState) → (D.state io.new.disk.now).honest → holds self.old (Has (D.state io.old.disk.now).seen io.old.space) state
-            → Changes (holds self.new (Has (D.state io.new.disk.now).seen io.new.space)) (object_put number object head bonus.now keep_spill state) result }
-        ensures tight { (state : DatedState) → (D.state io.new.disk.now).honest → tight self.old (Has (D.state io.old.disk.now).seen io.old.space) state → DatedUpTo number state
-            → Changes (tight self.new (Has (D.state io.new.disk.now).seen io.new.space)) (object_put number object head bonus.now keep_spill state) result }
+        ensures changed { (state : DatedState) → IsHonest io.new → holds self.old (blocks_of io.old) state
+            → Changes (holds self.new (blocks_of io.new)) (object_put number object head bonus.now keep_spill state) result }
+        ensures tight { (state : DatedState) → IsHonest io.new → tight self.old (blocks_of io.old) state → DatedUpTo number state
+            → Changes (tight self.new (blocks_of io.new)) (object_put number object head bonus.now keep_spill state) result }
         ensures limits { IfErr result (LimitOnly quantities.Object number_bound (object + 1)) }
         ensures unredacted { IfErr result NotRedacted }
-        ensures damaged { (D.state io.new.disk.now).honest → IfSetDamaged result (slot_damage (SparesTaken io.old.space (D.state io.old.disk.now).seen) (D.state io.old.disk.now).size self.old) }
-        ensures within { (D.state io.new.disk.now).honest → OnOk result ((sector : ℕ) (stated found : List ℕ) → slot_damage (SparesTaken io.new.space (D.state io.new.disk.now).seen) (D.state io.old.disk.now).size self.new sector stated found
-            → slot_damage (SparesTaken io.old.space (D.state io.old.disk.now).seen) (D.state io.old.disk.now).size self.old sector stated found) }
+        ensures damaged { IsHonest io.new → IfSetDamaged result (slot_damage (IsSparedBy io.old) (disk_of io.old).size self.old) }
+        ensures within { IsHonest io.new → OnOk result ((sector : ℕ) (stated found : List ℕ) → slot_damage (IsSparedBy io.new) (disk_of io.old).size self.new sector stated found
+            → slot_damage (IsSparedBy io.old) (disk_of io.old).size self.old sector stated found) }
         ensures kept { OnErr result (self.new ≡ self.old) }
         ensures levels { OnOk result (fits self.new) }
-        ensures works { Works 640 16 (D.state io.old.disk.now) io.old.space io.old.failed (D.state io.new.disk.now) io.new.space io.new.failed (stop_of result) }
-        ensures same { io.new.disk.ghost_name ≡ io.old.disk.ghost_name };
+        ensures works { Works 640 16 (io_of io.old) (io_of io.new) (stop_of result) };
 
     /// Gives an object another spill block.
     fn put_spill(
@@ -153,18 +144,16 @@ pub trait Objects<D: Disk> {
     ) -> Result<(), ObjFault>
         requires object { 0 < object }
         requires spill { IsSpill bytes.now }
-        requires fits { FitsDisk (D.state io.old.disk.now).size io.old.space }
-        ensures changed { (state : DatedState) → (D.state io.new.disk.now).honest → holds self.old (Has (D.state io.old.disk.now).seen io.old.space) state
-            → Changes (holds self.new (Has (D.state io.new.disk.now).seen io.new.space)) (spill_put number object bytes.now state) result }
-        ensures tight { (state : DatedState) → (D.state io.new.disk.now).honest → tight self.old (Has (D.state io.old.disk.now).seen io.old.space) state → DatedUpTo number state
-            → Changes (tight self.new (Has (D.state io.new.disk.now).seen io.new.space)) (spill_put number object bytes.now state) result }
+        ensures changed { (state : DatedState) → IsHonest io.new → holds self.old (blocks_of io.old) state
+            → Changes (holds self.new (blocks_of io.new)) (spill_put number object bytes.now state) result }
+        ensures tight { (state : DatedState) → IsHonest io.new → tight self.old (blocks_of io.old) state → DatedUpTo number state
+            → Changes (tight self.new (blocks_of io.new)) (spill_put number object bytes.now state) result }
         ensures limits { IfErr result NotLimit }
         ensures unredacted { IfErr result NotRedacted }
-        ensures damaged { (D.state io.new.disk.now).honest → IfSetDamaged result (slot_damage (SparesTaken io.old.space (D.state io.old.disk.now).seen) (D.state io.old.disk.now).size self.old) }
+        ensures damaged { IsHonest io.new → IfSetDamaged result (slot_damage (IsSparedBy io.old) (disk_of io.old).size self.old) }
         ensures kept { OnErr result (self.new ≡ self.old) }
         ensures levels { OnOk result (fits self.new) }
-        ensures works { Works (640 + length bytes.now / 512) (length bytes.now / 512) (D.state io.old.disk.now) io.old.space io.old.failed (D.state io.new.disk.now) io.new.space io.new.failed (stop_of result) }
-        ensures same { io.new.disk.ghost_name ≡ io.old.disk.ghost_name };
+        ensures works { Works (640 + length bytes.now / 512) (length bytes.now / 512) (io_of io.old) (io_of io.new) (stop_of result) };
 
     /// Frees `count` numbers.
     fn free_objects(
@@ -175,18 +164,16 @@ pub trait Objects<D: Disk> {
         number: u64,
     ) -> Result<(), ObjFault>
         requires first { 0 < first }
-        requires fits { FitsDisk (D.state io.old.disk.now).size io.old.space }
-        ensures changed { (state : DatedState) → (D.state io.new.disk.now).honest → holds self.old (Has (D.state io.old.disk.now).seen io.old.space) state
-            → Changes (holds self.new (Has (D.state io.new.disk.now).seen io.new.space)) (objects_freed number first count state) result }
-        ensures tight { (state : DatedState) → (D.state io.new.disk.now).honest → tight self.old (Has (D.state io.old.disk.now).seen io.old.space) state
-            → Changes (tight self.new (Has (D.state io.new.disk.now).seen io.new.space)) (objects_freed number first count state) result }
+        ensures changed { (state : DatedState) → IsHonest io.new → holds self.old (blocks_of io.old) state
+            → Changes (holds self.new (blocks_of io.new)) (objects_freed number first count state) result }
+        ensures tight { (state : DatedState) → IsHonest io.new → tight self.old (blocks_of io.old) state
+            → Changes (tight self.new (blocks_of io.new)) (objects_freed number first count state) result }
         ensures limits { IfErr result (LimitOnly quantities.Object number_bound (first + count)) }
         ensures unredacted { IfErr result NotRedacted }
-        ensures damaged { (D.state io.new.disk.now).honest → IfSetDamaged result (slot_damage (SparesTaken io.old.space (D.state io.old.disk.now).seen) (D.state io.old.disk.now).size self.old) }
+        ensures damaged { IsHonest io.new → IfSetDamaged result (slot_damage (IsSparedBy io.old) (disk_of io.old).size self.old) }
         ensures kept { OnErr result (self.new ≡ self.old) }
         ensures levels { fits self.old → fits self.new }
-        ensures works { Works 1280 16 (D.state io.old.disk.now) io.old.space io.old.failed (D.state io.new.disk.now) io.new.space io.new.failed (stop_of result) }
-        ensures same { io.new.disk.ghost_name ≡ io.old.disk.ghost_name };
+        ensures works { Works 1280 16 (io_of io.old) (io_of io.new) (stop_of result) };
 
     /// Writes the whole block of one index.
     fn write_block(
@@ -198,18 +185,16 @@ pub trait Objects<D: Disk> {
         number: u64,
     ) -> Result<(), ObjFault>
         requires object { 0 < object }
-        requires fits { FitsDisk (D.state io.old.disk.now).size io.old.space }
-        ensures changed { (state : DatedState) → (D.state io.new.disk.now).honest → holds self.old (Has (D.state io.old.disk.now).seen io.old.space) state
-            → Changes (holds self.new (Has (D.state io.new.disk.now).seen io.new.space)) (block_written number object index bytes.now state) result }
-        ensures tight { (state : DatedState) → (D.state io.new.disk.now).honest → tight self.old (Has (D.state io.old.disk.now).seen io.old.space) state → DatedUpTo number state
-            → Changes (tight self.new (Has (D.state io.new.disk.now).seen io.new.space)) (block_written number object index bytes.now state) result }
+        ensures changed { (state : DatedState) → IsHonest io.new → holds self.old (blocks_of io.old) state
+            → Changes (holds self.new (blocks_of io.new)) (block_written number object index bytes.now state) result }
+        ensures tight { (state : DatedState) → IsHonest io.new → tight self.old (blocks_of io.old) state → DatedUpTo number state
+            → Changes (tight self.new (blocks_of io.new)) (block_written number object index bytes.now state) result }
         ensures limits { IfErr result (LimitOnly quantities.Block index_bound (index + 1)) }
         ensures unredacted { IfErr result NotRedacted }
-        ensures damaged { (D.state io.new.disk.now).honest → IfSetDamaged result (tree_damage (SparesTaken io.old.space (D.state io.old.disk.now).seen) (D.state io.old.disk.now).size NamesNode self.old) }
+        ensures damaged { IsHonest io.new → IfSetDamaged result (tree_damage (IsSparedBy io.old) (disk_of io.old).size NamesNode self.old) }
         ensures kept { OnErr result (self.new ≡ self.old) }
         ensures levels { OnOk result (fits self.new) }
-        ensures works { Works (640 + length bytes.now / 512) (length bytes.now / 512) (D.state io.old.disk.now) io.old.space io.old.failed (D.state io.new.disk.now) io.new.space io.new.failed (stop_of result) }
-        ensures same { io.new.disk.ghost_name ≡ io.old.disk.ghost_name };
+        ensures works { Works (640 + length bytes.now / 512) (length bytes.now / 512) (io_of io.old) (io_of io.new) (stop_of result) };
 
     /// Makes holes of `count` indices.
     fn punch(
@@ -221,18 +206,16 @@ pub trait Objects<D: Disk> {
         number: u64,
     ) -> Result<(), ObjFault>
         requires object { 0 < object }
-        requires fits { FitsDisk (D.state io.old.disk.now).size io.old.space }
-        ensures changed { (state : DatedState) → (D.state io.new.disk.now).honest → holds self.old (Has (D.state io.old.disk.now).seen io.old.space) state
-            → Changes (holds self.new (Has (D.state io.new.disk.now).seen io.new.space)) (holes_made number object first count state) result }
-        ensures tight { (state : DatedState) → (D.state io.new.disk.now).honest → tight self.old (Has (D.state io.old.disk.now).seen io.old.space) state → DatedUpTo number state
-            → Changes (tight self.new (Has (D.state io.new.disk.now).seen io.new.space)) (holes_made number object first count state) result }
+        ensures changed { (state : DatedState) → IsHonest io.new → holds self.old (blocks_of io.old) state
+            → Changes (holds self.new (blocks_of io.new)) (holes_made number object first count state) result }
+        ensures tight { (state : DatedState) → IsHonest io.new → tight self.old (blocks_of io.old) state → DatedUpTo number state
+            → Changes (tight self.new (blocks_of io.new)) (holes_made number object first count state) result }
         ensures limits { IfErr result (LimitOnly quantities.Block index_bound (first + count)) }
         ensures unredacted { IfErr result NotRedacted }
-        ensures damaged { (D.state io.new.disk.now).honest → IfSetDamaged result (tree_damage (SparesTaken io.old.space (D.state io.old.disk.now).seen) (D.state io.old.disk.now).size (SumsUp (SparesTaken io.old.space (D.state io.old.disk.now).seen)) self.old) }
+        ensures damaged { IsHonest io.new → IfSetDamaged result (tree_damage (IsSparedBy io.old) (disk_of io.old).size (SumsUp (IsSparedBy io.old)) self.old) }
         ensures kept { OnErr result (self.new ≡ self.old) }
         ensures levels { OnOk result (fits self.new) }
-        ensures works { Works 1280 16 (D.state io.old.disk.now) io.old.space io.old.failed (D.state io.new.disk.now) io.new.space io.new.failed (stop_of result) }
-        ensures same { io.new.disk.ghost_name ≡ io.old.disk.ghost_name };
+        ensures works { Works 1280 16 (io_of io.old) (io_of io.new) (stop_of result) };
 
     /// Redacts `count` indices.
     fn redact_range(
@@ -244,16 +227,14 @@ pub trait Objects<D: Disk> {
         number: u64,
     ) -> Result<(), ObjFault>
         requires object { 0 < object }
-        requires fits { FitsDisk (D.state io.old.disk.now).size io.old.space }
-        ensures changed { (state : DatedState) → (D.state io.new.disk.now).honest → holds self.old (Has (D.state io.old.disk.now).seen io.old.space) state
-            → Changes (holds self.new (Has (D.state io.new.disk.now).seen io.new.space)) (range_redacted number object first count state) result }
-        ensures tight { (state : DatedState) → (D.state io.new.disk.now).honest → tight self.old (Has (D.state io.old.disk.now).seen io.old.space) state → DatedUpTo number state
-            → Changes (tight self.new (Has (D.state io.new.disk.now).seen io.new.space)) (range_redacted number object first count state) result }
+        ensures changed { (state : DatedState) → IsHonest io.new → holds self.old (blocks_of io.old) state
+            → Changes (holds self.new (blocks_of io.new)) (range_redacted number object first count state) result }
+        ensures tight { (state : DatedState) → IsHonest io.new → tight self.old (blocks_of io.old) state → DatedUpTo number state
+            → Changes (tight self.new (blocks_of io.new)) (range_redacted number object first count state) result }
         ensures limits { IfErr result (LimitOnly quantities.Block index_bound (first + count)) }
         ensures unredacted { IfErr result NotRedacted }
-        ensures damaged { (D.state io.new.disk.now).honest → IfSetDamaged result (tree_damage (SparesTaken io.old.space (D.state io.old.disk.now).seen) (D.state io.old.disk.now).size NamesNode self.old) }
+        ensures damaged { IsHonest io.new → IfSetDamaged result (tree_damage (IsSparedBy io.old) (disk_of io.old).size NamesNode self.old) }
         ensures kept { OnErr result (self.new ≡ self.old) }
         ensures levels { OnOk result (fits self.new) }
-        ensures works { Works 1280 16 (D.state io.old.disk.now) io.old.space io.old.failed (D.state io.new.disk.now) io.new.space io.new.failed (stop_of result) }
-        ensures same { io.new.disk.ghost_name ≡ io.old.disk.ghost_name };
+        ensures works { Works 1280 16 (io_of io.old) (io_of io.new) (stop_of result) };
 }

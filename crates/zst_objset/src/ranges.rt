@@ -1,6 +1,6 @@
 //! The calls that change a range of an object's indices.
 ghost use Rattle.std.specs.Prelude.{◌≡◌, ◌⊎◌, ◌+◌, ◌<◌, ◌≤◌, ◌^◌, ℕ, true, max, IfErr, IfOk, Ok, OnErr, OnOk};
-ghost use Rattle.zst_block.specs.Blocks.{FitsDisk, Has, SparesTaken};
+ghost use Rattle.zst_block.specs.IoStates.{IsHonest, blocks_of, disk_of, io_of, IsSparedBy};
 ghost use Rattle.zst_block.specs.IoCalls.{Looks, Works, stop_of as block_stop};
 ghost use Rattle.zst_dnode.specs.Dnode.{DnodeFits};
 ghost use Rattle.zst_dnode.specs.declared.slot.Slot.TheVariants.{There};
@@ -97,7 +97,7 @@ fn count_in_tree(first: u64, count: u64) -> u64
     ensures range { first + result ≤ 2 ^ 44 }
 {
     if count > 0 && first + count == INDEX_BOUND {
-        zst_tree::INDEX_BOUND - first
+        zst_tree::TREE_INDEX_BOUND - first
     } else {
         count
     }
@@ -113,14 +113,11 @@ fn end_punched<D: Disk>(
 ) -> Result<u64, BlockFault>
     requires levels { dnode.now.levels ≤ 7 }
     requires range { first + count ≤ index_bound }
-    requires fits { FitsDisk (D.state io.old.disk.now).size io.old.space }
-    ensures end { (object : Object) (date : ℕ) (dates : ℕ → ℕ) (map : Map) → (D.state io.new.disk.now).honest → ObjectIs (Has (D.state io.old.disk.now).seen io.old.space) dnode.now object date dates map
+    ensures end { (object : Object) (date : ℕ) (dates : ℕ → ℕ) (map : Map) → IsHonest io.new → ObjectIs (blocks_of io.old) dnode.now object date dates map
         → Delivers (λ end. end ≡ end_of (with_range first count Hole object)) result }
     ensures range { IfOk result (λ end. end ≤ dnode.now.end) }
-    ensures damaged { (D.state io.new.disk.now).honest → NamesDamage (IsSeen (D.state io.old.disk.now).seen) (D.state io.old.disk.now).size (SumsUp (IsSeen (D.state io.old.disk.now).seen)) dnode.now.levels dnode.now.root result }
-    ensures looks { Looks (D.state io.old.disk.now) io.old.space io.old.failed (D.state io.new.disk.now) io.new.space io.new.failed (block_stop result) }
-    ensures kept_fit { FitsDisk (D.state io.new.disk.now).size io.new.space }
-    ensures same { io.new.disk.ghost_name ≡ io.old.disk.ghost_name }
+    ensures damaged { IsHonest io.new → NamesDamage (IsSeen (disk_of io.old).seen) (disk_of io.old).size (SumsUp (IsSeen (disk_of io.old).seen)) dnode.now.levels dnode.now.root result }
+    ensures looks { Looks (io_of io.old) (io_of io.new) (block_stop result) }
 {
     if dnode.end <= first || first + count < dnode.end {
         return Ok(dnode.end);
@@ -155,15 +152,13 @@ fn punched<D: Disk>(
 ) -> Result<Dnode, BlockFault>
     requires dnode { DnodeFits dnode }
     requires range { first + count ≤ index_bound }
-    requires fits { FitsDisk (D.state io.old.disk.now).size io.old.space }
-    ensures made { (k : ℕ) (state : DatedState) → (D.state io.new.disk.now).honest → is_number k ≡ true → IsState state.state → IsThere (Has (D.state io.old.disk.now).seen io.old.space) state k dnode
-        → Delivers (MakesDnode (Has (D.state io.new.disk.now).seen io.new.space) number k (free_of first count (state.state k)) state) result }
-    ensures tight { (k : ℕ) (state : DatedState) → (D.state io.new.disk.now).honest → is_number k ≡ true → IsState state.state → IsThere (Has (D.state io.old.disk.now).seen io.old.space) state k dnode
+    ensures made { (k : ℕ) (state : DatedState) → IsHonest io.new → is_number k ≡ true → IsState state.state → IsThere (blocks_of io.old) state k dnode
+        → Delivers (MakesDnode (blocks_of io.new) number k (free_of first count (state.state k)) state) result }
+    ensures tight { (k : ℕ) (state : DatedState) → IsHonest io.new → is_number k ≡ true → IsState state.state → IsThere (blocks_of io.old) state k dnode
         → DatedUpTo number state → IsTightSlot state k (There dnode) → IfOk result (IsTightDnode number k (free_of first count (state.state k)) state) }
     ensures fits { IfOk result DnodeFits }
-    ensures damaged { (D.state io.new.disk.now).honest → NamesDamage (SparesTaken io.old.space (D.state io.old.disk.now).seen) (D.state io.old.disk.now).size (SumsUp (SparesTaken io.old.space (D.state io.old.disk.now).seen)) dnode.levels dnode.root result }
-    ensures works { Works 320 16 (D.state io.old.disk.now) io.old.space io.old.failed (D.state io.new.disk.now) io.new.space io.new.failed (block_stop result) }
-    ensures same { io.new.disk.ghost_name ≡ io.old.disk.ghost_name }
+    ensures damaged { IsHonest io.new → NamesDamage (IsSparedBy io.old) (disk_of io.old).size (SumsUp (IsSparedBy io.old)) dnode.levels dnode.root result }
+    ensures works { Works 320 16 (io_of io.old) (io_of io.new) (block_stop result) }
 {
     let end = end_punched(io, &dnode, first, count)?;
     let mut tree = tree_of(&dnode);
@@ -183,15 +178,13 @@ fn redacted<D: Disk>(
     requires dnode { DnodeFits dnode }
     requires checked { redaction_check dnode first count ≡ Ok tt }
     requires range { first + count ≤ index_bound }
-    requires fits { FitsDisk (D.state io.old.disk.now).size io.old.space }
-    ensures made { (k : ℕ) (state : DatedState) → (D.state io.new.disk.now).honest → is_number k ≡ true → IsState state.state → IsThere (Has (D.state io.old.disk.now).seen io.old.space) state k dnode
-        → Delivers (MakesDnode (Has (D.state io.new.disk.now).seen io.new.space) number k (redact_of first count (state.state k)) state) result }
-    ensures tight { (k : ℕ) (state : DatedState) → (D.state io.new.disk.now).honest → is_number k ≡ true → IsState state.state → IsThere (Has (D.state io.old.disk.now).seen io.old.space) state k dnode
+    ensures made { (k : ℕ) (state : DatedState) → IsHonest io.new → is_number k ≡ true → IsState state.state → IsThere (blocks_of io.old) state k dnode
+        → Delivers (MakesDnode (blocks_of io.new) number k (redact_of first count (state.state k)) state) result }
+    ensures tight { (k : ℕ) (state : DatedState) → IsHonest io.new → is_number k ≡ true → IsState state.state → IsThere (blocks_of io.old) state k dnode
         → DatedUpTo number state → IsTightSlot state k (There dnode) → IfOk result (IsTightDnode number k (redact_of first count (state.state k)) state) }
     ensures fits { IfOk result DnodeFits }
-    ensures damaged { (D.state io.new.disk.now).honest → NamesDamage (SparesTaken io.old.space (D.state io.old.disk.now).seen) (D.state io.old.disk.now).size NamesNode dnode.levels dnode.root result }
-    ensures works { Works 320 16 (D.state io.old.disk.now) io.old.space io.old.failed (D.state io.new.disk.now) io.new.space io.new.failed (block_stop result) }
-    ensures same { io.new.disk.ghost_name ≡ io.old.disk.ghost_name }
+    ensures damaged { IsHonest io.new → NamesDamage (IsSparedBy io.old) (disk_of io.old).size NamesNode dnode.levels dnode.root result }
+    ensures works { Works 320 16 (io_of io.old) (io_of io.new) (block_stop result) }
 {
     let mut tree = tree_of(&dnode);
     tree.redact(io, first, count, number)?;
@@ -210,15 +203,13 @@ fn range_changed<D: Disk>(
     requires dnode { DnodeFits dnode }
     requires checked { range_check change dnode first count ≡ Ok tt }
     requires range { first + count ≤ index_bound }
-    requires fits { FitsDisk (D.state io.old.disk.now).size io.old.space }
-    ensures made { (k : ℕ) (state : DatedState) → (D.state io.new.disk.now).honest → is_number k ≡ true → IsState state.state → IsThere (Has (D.state io.old.disk.now).seen io.old.space) state k dnode
-        → Delivers (MakesDnode (Has (D.state io.new.disk.now).seen io.new.space) number k (change_of change first count (state.state k)) state) result }
-    ensures tight { (k : ℕ) (state : DatedState) → (D.state io.new.disk.now).honest → is_number k ≡ true → IsState state.state → IsThere (Has (D.state io.old.disk.now).seen io.old.space) state k dnode
+    ensures made { (k : ℕ) (state : DatedState) → IsHonest io.new → is_number k ≡ true → IsState state.state → IsThere (blocks_of io.old) state k dnode
+        → Delivers (MakesDnode (blocks_of io.new) number k (change_of change first count (state.state k)) state) result }
+    ensures tight { (k : ℕ) (state : DatedState) → IsHonest io.new → is_number k ≡ true → IsState state.state → IsThere (blocks_of io.old) state k dnode
         → DatedUpTo number state → IsTightSlot state k (There dnode) → IfOk result (IsTightDnode number k (change_of change first count (state.state k)) state) }
     ensures fits { IfOk result DnodeFits }
-    ensures damaged { (D.state io.new.disk.now).honest → NamesDamage (SparesTaken io.old.space (D.state io.old.disk.now).seen) (D.state io.old.disk.now).size (IsRightNode change (SparesTaken io.old.space (D.state io.old.disk.now).seen)) dnode.levels dnode.root result }
-    ensures works { Works 320 16 (D.state io.old.disk.now) io.old.space io.old.failed (D.state io.new.disk.now) io.new.space io.new.failed (block_stop result) }
-    ensures same { io.new.disk.ghost_name ≡ io.old.disk.ghost_name }
+    ensures damaged { IsHonest io.new → NamesDamage (IsSparedBy io.old) (disk_of io.old).size (IsRightNode change (IsSparedBy io.old)) dnode.levels dnode.root result }
+    ensures works { Works 320 16 (io_of io.old) (io_of io.new) (block_stop result) }
 {
     match change {
         RangeChange::Punch => punched(io, dnode, first, count, number),
@@ -237,18 +228,16 @@ pub(crate) fn change_range<D: Disk>(
     number: u64,
 ) -> Result<(), ObjFault>
     requires object { 0 < object }
-    requires fits { FitsDisk (D.state io.old.disk.now).size io.old.space }
-    ensures changed { (state : DatedState) → (D.state io.new.disk.now).honest → SetHolds (Has (D.state io.old.disk.now).seen io.old.space) set.old state
-        → Changes (SetHolds (Has (D.state io.new.disk.now).seen io.new.space) set.new) (indices_changed (first + count) (changed number (At object (change_of change first count (state.state object))) state)) result }
-    ensures tight { (state : DatedState) → (D.state io.new.disk.now).honest → SetIsTight (Has (D.state io.old.disk.now).seen io.old.space) set.old state → DatedUpTo number state
-        → Changes (SetIsTight (Has (D.state io.new.disk.now).seen io.new.space) set.new) (indices_changed (first + count) (changed number (At object (change_of change first count (state.state object))) state)) result }
+    ensures changed { (state : DatedState) → IsHonest io.new → SetHolds (blocks_of io.old) set.old state
+        → Changes (SetHolds (blocks_of io.new) set.new) (indices_changed (first + count) (changed number (At object (change_of change first count (state.state object))) state)) result }
+    ensures tight { (state : DatedState) → IsHonest io.new → SetIsTight (blocks_of io.old) set.old state → DatedUpTo number state
+        → Changes (SetIsTight (blocks_of io.new) set.new) (indices_changed (first + count) (changed number (At object (change_of change first count (state.state object))) state)) result }
     ensures limits { IfErr result (LimitOnly quantities.Block index_bound (first + count)) }
     ensures unredacted { IfErr result NotRedacted }
-    ensures damaged { (D.state io.new.disk.now).honest → IfSetDamaged result (IsDamagedObject (SparesTaken io.old.space (D.state io.old.disk.now).seen) (D.state io.old.disk.now).size (IsRightNode change (SparesTaken io.old.space (D.state io.old.disk.now).seen)) set.old) }
+    ensures damaged { IsHonest io.new → IfSetDamaged result (IsDamagedObject (IsSparedBy io.old) (disk_of io.old).size (IsRightNode change (IsSparedBy io.old)) set.old) }
     ensures kept { OnErr result (set.new ≡ set.old) }
     ensures levels { OnOk result (SetFits set.new) }
-    ensures works { Works 1280 16 (D.state io.old.disk.now) io.old.space io.old.failed (D.state io.new.disk.now) io.new.space io.new.failed (stop_of result) }
-    ensures same { io.new.disk.ghost_name ≡ io.old.disk.ghost_name }
+    ensures works { Works 1280 16 (io_of io.old) (io_of io.new) (stop_of result) }
 {
     let dnode = object_there(set, io, object)?;
     check_change(&dnode, change, first, count)?;

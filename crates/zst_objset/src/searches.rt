@@ -1,6 +1,6 @@
 //! The search for the next object of a set, which passes over holes by their runs.
-ghost use Rattle.std.specs.Prelude.{◌≡◌, ◌+◌, ◌*◌, ◌<◌, ◌≤◌, ◌^◌, ℕ, IfErr, IfNone, IfOk, IfSome};
-ghost use Rattle.zst_block.specs.Blocks.{FitsDisk, Has};
+ghost use Rattle.std.specs.Prelude.{◌+◌, ◌*◌, ◌<◌, ◌≤◌, ◌^◌, ℕ, IfErr, IfNone, IfOk, IfSome};
+ghost use Rattle.zst_block.specs.IoStates.{IsHonest, blocks_of, disk_of, io_of};
 ghost use Rattle.zst_block.specs.IoCalls.{Looks, stop_of as block_stop_of};
 ghost use Rattle.zst_dnode.specs.Dnode.{DnodeFits};
 ghost use Rattle.zst_dnode.specs.declared.slot.Slot.{Slot};
@@ -57,15 +57,12 @@ fn look_ahead<D: Disk>(
     from: u64,
 ) -> Result<SearchStep, BlockFault>
     requires from { (0 < from) × (from < 2 ^ 48) }
-    requires fits { FitsDisk (D.state io.old.disk.now).size io.old.space }
-    ensures shows { (state : DatedState) → (D.state io.new.disk.now).honest → SetHolds (Has (D.state io.old.disk.now).seen io.old.space) set.now state
-        → Delivers (ShowsAhead (Has (D.state io.new.disk.now).seen io.new.space) state from) result }
+    ensures shows { (state : DatedState) → IsHonest io.new → SetHolds (blocks_of io.old) set.now state
+        → Delivers (ShowsAhead (blocks_of io.new) state from) result }
     ensures ranges { IfOk result (IsAfter from) }
-    ensures damaged { (D.state io.new.disk.now).honest → IfDamaged result (IsDamagedSet (IsSeen (D.state io.old.disk.now).seen) (D.state io.old.disk.now).size set.now) }
-    ensures looks { Looks (D.state io.old.disk.now) io.old.space io.old.failed (D.state io.new.disk.now) io.new.space io.new.failed (block_stop_of result) }
-    ensures calls { (D.state io.new.disk.now).calls ≤ (D.state io.old.disk.now).calls + 8 }
-    ensures kept_fit { FitsDisk (D.state io.new.disk.now).size io.new.space }
-    ensures same { io.new.disk.ghost_name ≡ io.old.disk.ghost_name }
+    ensures damaged { IsHonest io.new → IfDamaged result (IsDamagedSet (IsSeen (disk_of io.old).seen) (disk_of io.old).size set.now) }
+    ensures looks { Looks (io_of io.old) (io_of io.new) (block_stop_of result) }
+    ensures calls { (disk_of io.new).calls ≤ (disk_of io.old).calls + 8 }
 {
     if set.tree.levels > 7 {
         return Err(BlockFault::of_layout(&set.tree.root));
@@ -91,15 +88,12 @@ pub(crate) fn next_object<D: Disk>(
     from: u64,
 ) -> Result<Option<(u64, Dnode)>, ObjFault>
     requires from { 0 < from }
-    requires fits { FitsDisk (D.state io.old.disk.now).size io.old.space }
-    ensures found { (state : DatedState) → (D.state io.new.disk.now).honest → SetHolds (Has (D.state io.old.disk.now).seen io.old.space) set.now state
-        → FindsNext (Has (D.state io.new.disk.now).seen io.new.space) state from result }
+    ensures found { (state : DatedState) → IsHonest io.new → SetHolds (blocks_of io.old) set.now state
+        → FindsNext (blocks_of io.new) state from result }
     ensures ranges { IfOk result (λ found. IfSome found (λ next. (from ≤ next.0) × (next.0 < 2 ^ 48) × DnodeFits next.1)) }
     ensures known { IfErr result IsOfBlock }
-    ensures damaged { (D.state io.new.disk.now).honest → IfSetDamaged result (IsDamagedSet (IsSeen (D.state io.old.disk.now).seen) (D.state io.old.disk.now).size set.now) }
-    ensures looks { Looks (D.state io.old.disk.now) io.old.space io.old.failed (D.state io.new.disk.now) io.new.space io.new.failed (stop_of result) }
-    ensures kept_fit { FitsDisk (D.state io.new.disk.now).size io.new.space }
-    ensures same { io.new.disk.ghost_name ≡ io.old.disk.ghost_name }
+    ensures damaged { IsHonest io.new → IfSetDamaged result (IsDamagedSet (IsSeen (disk_of io.old).seen) (disk_of io.old).size set.now) }
+    ensures looks { Looks (io_of io.old) (io_of io.new) (stop_of result) }
 {
     let mut at = from;
     while at < NUMBER_BOUND {

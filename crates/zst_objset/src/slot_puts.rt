@@ -1,6 +1,6 @@
 //! A slot, put at some numbers of one leaf of a set.
 ghost use Rattle.std.specs.Prelude.{◌≡◌, ◌+◌, ◌*◌, ◌/◌, ◌<◌, ◌≤◌, ◌^◌, ℕ, IfOk};
-ghost use Rattle.zst_block.specs.Blocks.{FitsDisk, Has, SparesTaken};
+ghost use Rattle.zst_block.specs.IoStates.{IsHonest, blocks_of, disk_of, io_of, IsSparedBy};
 ghost use Rattle.zst_block.specs.IoCalls.{Works, stop_of};
 ghost use Rattle.zst_dnode.specs.Slot.{SlotFits};
 ghost use Rattle.zst_model.specs.states.DatedState.{DatedState};
@@ -40,18 +40,16 @@ pub(crate) fn put_in_leaf<D: Disk>(
     requires bound { below ≤ 2 ^ 48 }
     requires leaf { below ≤ 16 * (first / 16) + 16 }
     requires slot { SlotFits slot.now }
-    requires fits { FitsDisk (D.state io.old.disk.now).size io.old.space }
-    ensures put { (snap after : DatedState) → (D.state io.new.disk.now).honest → SetHolds (Has (D.state io.old.disk.now).seen io.old.space) set snap
-        → PutsSlot (Has (D.state io.old.disk.now).seen io.old.space) snap after first below slot.now
-        → Delivers (λ made. SetHolds (Has (D.state io.new.disk.now).seen io.new.space) made after) result }
-    ensures tight { (snap after : DatedState) → (D.state io.new.disk.now).honest → SetIsTight (Has (D.state io.old.disk.now).seen io.old.space) set snap
-        → PutsSlot (Has (D.state io.old.disk.now).seen io.old.space) snap after first below slot.now → ((k : ℕ) → first ≤ k → k < below → IsTightSlot after k slot.now)
-        → IfOk result (λ made. SetIsTight (Has (D.state io.new.disk.now).seen io.new.space) made after) }
-    ensures damaged { (D.state io.new.disk.now).honest → IfDamaged result (IsDamagedSet (SparesTaken io.old.space (D.state io.old.disk.now).seen) (D.state io.old.disk.now).size set) }
-    ensures within { (D.state io.new.disk.now).honest → IfOk result (IsSetWithin (SparesTaken io.old.space (D.state io.old.disk.now).seen) (D.state io.old.disk.now).size set (SparesTaken io.new.space (D.state io.new.disk.now).seen)) }
-    ensures works { Works 240 16 (D.state io.old.disk.now) io.old.space io.old.failed (D.state io.new.disk.now) io.new.space io.new.failed (stop_of result) }
+    ensures put { (snap after : DatedState) → IsHonest io.new → SetHolds (blocks_of io.old) set snap
+        → PutsSlot (blocks_of io.old) snap after first below slot.now
+        → Delivers (λ made. SetHolds (blocks_of io.new) made after) result }
+    ensures tight { (snap after : DatedState) → IsHonest io.new → SetIsTight (blocks_of io.old) set snap
+        → PutsSlot (blocks_of io.old) snap after first below slot.now → ((k : ℕ) → first ≤ k → k < below → IsTightSlot after k slot.now)
+        → IfOk result (λ made. SetIsTight (blocks_of io.new) made after) }
+    ensures damaged { IsHonest io.new → IfDamaged result (IsDamagedSet (IsSparedBy io.old) (disk_of io.old).size set) }
+    ensures within { IsHonest io.new → IfOk result (IsSetWithin (IsSparedBy io.old) (disk_of io.old).size set (IsSparedBy io.new)) }
+    ensures works { Works 240 16 (io_of io.old) (io_of io.new) (stop_of result) }
     ensures levels { IfOk result SetFits }
-    ensures same { io.new.disk.ghost_name ≡ io.old.disk.ghost_name }
 {
     let leaf = first / 16;
     let from = first - 16 * leaf;

@@ -1,6 +1,6 @@
 //! What stands at a number of a set.
-ghost use Rattle.std.specs.Prelude.{◌≡◌, ◌+◌, ◌<◌, ◌≤◌, ◌^◌, IfOk, IfSome};
-ghost use Rattle.zst_block.specs.Blocks.{FitsDisk, Has};
+ghost use Rattle.std.specs.Prelude.{◌+◌, ◌<◌, ◌≤◌, ◌^◌, IfOk, IfSome};
+ghost use Rattle.zst_block.specs.IoStates.{IsHonest, blocks_of, disk_of, io_of};
 ghost use Rattle.zst_block.specs.IoCalls.{Looks, stop_of};
 ghost use Rattle.zst_dnode.specs.Dnode.{DnodeFits};
 ghost use Rattle.zst_dnode.specs.Slot.{SlotFits};
@@ -27,18 +27,15 @@ pub(crate) fn slot_at<D: Disk>(
     object: u64,
 ) -> Result<Slot, BlockFault>
     requires object { (0 < object) × (object < 2 ^ 48) }
-    requires fits { FitsDisk (D.state io.old.disk.now).size io.old.space }
-    ensures found { (snap : DatedState) → (D.state io.new.disk.now).honest → SetHolds (Has (D.state io.old.disk.now).seen io.old.space) set.now snap
-        → Delivers (SlotIs (Has (D.state io.new.disk.now).seen io.new.space) snap object) result }
-    ensures tight { (snap : DatedState) → (D.state io.new.disk.now).honest → SetIsTight (Has (D.state io.old.disk.now).seen io.old.space) set.now snap
+    ensures found { (snap : DatedState) → IsHonest io.new → SetHolds (blocks_of io.old) set.now snap
+        → Delivers (SlotIs (blocks_of io.new) snap object) result }
+    ensures tight { (snap : DatedState) → IsHonest io.new → SetIsTight (blocks_of io.old) set.now snap
         → IfOk result (IsTightSlot snap object) }
     ensures ranges { IfOk result SlotFits }
-    ensures stands { (D.state io.new.disk.now).honest → IfOk result (SlotStands (IsSeen (D.state io.old.disk.now).seen) set.now) }
-    ensures damaged { (D.state io.new.disk.now).honest → IfDamaged result (IsDamagedSet (IsSeen (D.state io.old.disk.now).seen) (D.state io.old.disk.now).size set.now) }
-    ensures looks { Looks (D.state io.old.disk.now) io.old.space io.old.failed (D.state io.new.disk.now) io.new.space io.new.failed (stop_of result) }
-    ensures calls { (D.state io.new.disk.now).calls ≤ (D.state io.old.disk.now).calls + 8 }
-    ensures kept_fit { FitsDisk (D.state io.new.disk.now).size io.new.space }
-    ensures same { io.new.disk.ghost_name ≡ io.old.disk.ghost_name }
+    ensures stands { IsHonest io.new → IfOk result (SlotStands (IsSeen (disk_of io.old).seen) set.now) }
+    ensures damaged { IsHonest io.new → IfDamaged result (IsDamagedSet (IsSeen (disk_of io.old).seen) (disk_of io.old).size set.now) }
+    ensures looks { Looks (io_of io.old) (io_of io.new) (stop_of result) }
+    ensures calls { (disk_of io.new).calls ≤ (disk_of io.old).calls + 8 }
 {
     let was = find_slots(set, io, object / 16)?;
     let place = (object % 16) as usize;
@@ -55,19 +52,16 @@ pub(crate) fn dnode_at<D: Disk>(
     object: u64,
 ) -> Result<Option<Dnode>, BlockFault>
     requires object { 0 < object }
-    requires fits { FitsDisk (D.state io.old.disk.now).size io.old.space }
-    ensures found { (snap : DatedState) → (D.state io.new.disk.now).honest → SetHolds (Has (D.state io.old.disk.now).seen io.old.space) set.now snap
-        → Delivers (DnodeIs (Has (D.state io.new.disk.now).seen io.new.space) snap object) result }
-    ensures tight { (snap : DatedState) → (D.state io.new.disk.now).honest → SetIsTight (Has (D.state io.old.disk.now).seen io.old.space) set.now snap
+    ensures found { (snap : DatedState) → IsHonest io.new → SetHolds (blocks_of io.old) set.now snap
+        → Delivers (DnodeIs (blocks_of io.new) snap object) result }
+    ensures tight { (snap : DatedState) → IsHonest io.new → SetIsTight (blocks_of io.old) set.now snap
         → IfOk result (λ found. IfSome found (λ dnode. IsTightSlot snap object (There dnode))) }
     ensures ranges { IfOk result (λ found. IfSome found DnodeFits) }
     ensures bound { IfOk result (λ found. IfSome found (λ dnode. object < 2 ^ 48)) }
-    ensures stands { (D.state io.new.disk.now).honest → IfOk result (λ found. IfSome found (StandsIn (IsSeen (D.state io.old.disk.now).seen) set.now)) }
-    ensures damaged { (D.state io.new.disk.now).honest → IfDamaged result (IsDamagedSet (IsSeen (D.state io.old.disk.now).seen) (D.state io.old.disk.now).size set.now) }
-    ensures looks { Looks (D.state io.old.disk.now) io.old.space io.old.failed (D.state io.new.disk.now) io.new.space io.new.failed (stop_of result) }
-    ensures calls { (D.state io.new.disk.now).calls ≤ (D.state io.old.disk.now).calls + 8 }
-    ensures kept_fit { FitsDisk (D.state io.new.disk.now).size io.new.space }
-    ensures same { io.new.disk.ghost_name ≡ io.old.disk.ghost_name }
+    ensures stands { IsHonest io.new → IfOk result (λ found. IfSome found (StandsIn (IsSeen (disk_of io.old).seen) set.now)) }
+    ensures damaged { IsHonest io.new → IfDamaged result (IsDamagedSet (IsSeen (disk_of io.old).seen) (disk_of io.old).size set.now) }
+    ensures looks { Looks (io_of io.old) (io_of io.new) (stop_of result) }
+    ensures calls { (disk_of io.new).calls ≤ (disk_of io.old).calls + 8 }
 {
     if object >= NUMBER_BOUND {
         return Ok(None);

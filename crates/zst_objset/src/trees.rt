@@ -1,6 +1,6 @@
 //! The tree of an object, and the leaf of an index of a tree.
 ghost use Rattle.std.specs.Prelude.{◌≡◌, ◌+◌, ◌^◌, ◌<◌, ◌≤◌, IfOk};
-ghost use Rattle.zst_block.specs.Blocks.{FitsDisk, Has};
+ghost use Rattle.zst_block.specs.IoStates.{IsHonest, blocks_of, disk_of, io_of};
 ghost use Rattle.zst_block.specs.IoCalls.{Looks, stop_of};
 ghost use Rattle.zst_tree.specs.Damage.{HangsIn, IsSeen, MayHave, NamesDamage, NamesNode};
 ghost use Rattle.zst_tree.specs.Lookups.{Shows};
@@ -33,14 +33,11 @@ pub(crate) fn leaf_at<D: Disk>(
 ) -> Result<Ptr, BlockFault>
     requires levels { tree.now.levels ≤ 7 }
     requires index { index < 2 ^ 44 }
-    requires fits { FitsDisk (D.state io.old.disk.now).size io.old.space }
-    ensures shows { (map : Map) → (D.state io.new.disk.now).honest → TreeIs (Has (D.state io.old.disk.now).seen io.old.space) tree.now map → Delivers (λ ptr. ptr ≡ map index) result }
-    ensures hangs { (D.state io.new.disk.now).honest → IfOk result (HangsIn (MayHave (IsSeen (D.state io.old.disk.now).seen)) tree.now) }
-    ensures damaged { (D.state io.new.disk.now).honest → NamesDamage (IsSeen (D.state io.old.disk.now).seen) (D.state io.old.disk.now).size NamesNode tree.now.levels tree.now.root result }
-    ensures looks { Looks (D.state io.old.disk.now) io.old.space io.old.failed (D.state io.new.disk.now) io.new.space io.new.failed (stop_of result) }
-    ensures calls { (D.state io.new.disk.now).calls ≤ (D.state io.old.disk.now).calls + 7 }
-    ensures kept_fit { FitsDisk (D.state io.new.disk.now).size io.new.space }
-    ensures same { io.new.disk.ghost_name ≡ io.old.disk.ghost_name }
+    ensures shows { (map : Map) → IsHonest io.new → TreeIs (blocks_of io.old) tree.now map → Delivers (λ ptr. ptr ≡ map index) result }
+    ensures hangs { IsHonest io.new → IfOk result (HangsIn (MayHave (IsSeen (disk_of io.old).seen)) tree.now) }
+    ensures damaged { IsHonest io.new → NamesDamage (IsSeen (disk_of io.old).seen) (disk_of io.old).size NamesNode tree.now.levels tree.now.root result }
+    ensures looks { Looks (io_of io.old) (io_of io.new) (stop_of result) }
+    ensures calls { (disk_of io.new).calls ≤ (disk_of io.old).calls + 7 }
 {
     let found = run_at(tree, io, index)?;
     Ok(found.0)
@@ -54,15 +51,12 @@ pub(crate) fn run_at<D: Disk>(
 ) -> Result<(Ptr, u64), BlockFault>
     requires levels { tree.now.levels ≤ 7 }
     requires index { index < 2 ^ 44 }
-    requires fits { FitsDisk (D.state io.old.disk.now).size io.old.space }
-    ensures shows { (map : Map) → (D.state io.new.disk.now).honest → TreeIs (Has (D.state io.old.disk.now).seen io.old.space) tree.now map → Delivers (Shows map index) result }
+    ensures shows { (map : Map) → IsHonest io.new → TreeIs (blocks_of io.old) tree.now map → Delivers (Shows map index) result }
     ensures range { IfOk result (λ found. (0 < found.1) × (index + found.1 ≤ 2 ^ 49)) }
-    ensures hangs { (D.state io.new.disk.now).honest → IfOk result (λ found. HangsIn (MayHave (IsSeen (D.state io.old.disk.now).seen)) tree.now found.0) }
-    ensures damaged { (D.state io.new.disk.now).honest → NamesDamage (IsSeen (D.state io.old.disk.now).seen) (D.state io.old.disk.now).size NamesNode tree.now.levels tree.now.root result }
-    ensures looks { Looks (D.state io.old.disk.now) io.old.space io.old.failed (D.state io.new.disk.now) io.new.space io.new.failed (stop_of result) }
-    ensures calls { (D.state io.new.disk.now).calls ≤ (D.state io.old.disk.now).calls + 7 }
-    ensures kept_fit { FitsDisk (D.state io.new.disk.now).size io.new.space }
-    ensures same { io.new.disk.ghost_name ≡ io.old.disk.ghost_name }
+    ensures hangs { IsHonest io.new → IfOk result (λ found. HangsIn (MayHave (IsSeen (disk_of io.old).seen)) tree.now found.0) }
+    ensures damaged { IsHonest io.new → NamesDamage (IsSeen (disk_of io.old).seen) (disk_of io.old).size NamesNode tree.now.levels tree.now.root result }
+    ensures looks { Looks (io_of io.old) (io_of io.new) (stop_of result) }
+    ensures calls { (disk_of io.new).calls ≤ (disk_of io.old).calls + 7 }
 {
     counted::<D, Brand>(tree, io, index, Blank::new(1))
 }
@@ -79,15 +73,12 @@ fn counted<D: Disk, L: Ledger>(
     requires some { 0 < blank.parts }
     requires levels { tree.now.levels ≤ 7 }
     requires index { index < 2 ^ 44 }
-    requires fits { FitsDisk (D.state io.old.disk.now).size io.old.space }
-    ensures shows { (map : Map) → (D.state io.new.disk.now).honest → TreeIs (Has (D.state io.old.disk.now).seen io.old.space) tree.now map → Delivers (Shows map index) result }
+    ensures shows { (map : Map) → IsHonest io.new → TreeIs (blocks_of io.old) tree.now map → Delivers (Shows map index) result }
     ensures range { IfOk result (λ found. (0 < found.1) × (index + found.1 ≤ 2 ^ 49)) }
-    ensures hangs { (D.state io.new.disk.now).honest → IfOk result (λ found. HangsIn (MayHave (IsSeen (D.state io.old.disk.now).seen)) tree.now found.0) }
-    ensures damaged { (D.state io.new.disk.now).honest → NamesDamage (IsSeen (D.state io.old.disk.now).seen) (D.state io.old.disk.now).size NamesNode tree.now.levels tree.now.root result }
-    ensures looks { Looks (D.state io.old.disk.now) io.old.space io.old.failed (D.state io.new.disk.now) io.new.space io.new.failed (stop_of result) }
-    ensures calls { (D.state io.new.disk.now).calls ≤ (D.state io.old.disk.now).calls + 7 }
-    ensures kept_fit { FitsDisk (D.state io.new.disk.now).size io.new.space }
-    ensures same { io.new.disk.ghost_name ≡ io.old.disk.ghost_name }
+    ensures hangs { IsHonest io.new → IfOk result (λ found. HangsIn (MayHave (IsSeen (disk_of io.old).seen)) tree.now found.0) }
+    ensures damaged { IsHonest io.new → NamesDamage (IsSeen (disk_of io.old).seen) (disk_of io.old).size NamesNode tree.now.levels tree.now.root result }
+    ensures looks { Looks (io_of io.old) (io_of io.new) (stop_of result) }
+    ensures calls { (disk_of io.new).calls ≤ (disk_of io.old).calls + 7 }
 {
     let mut steps = Steps::<L>::new(blank);
     tree.get(io, index, &mut steps)

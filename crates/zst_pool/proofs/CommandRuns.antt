@@ -1,14 +1,15 @@
 -- What a command does, from what its parts do.
 use Rattle.std.specs.Prelude.{Option, None, Result, Ok, Err, IfErr, IfOk, OnErr}
-use Rattle.std.proofs.Common.{◌≡◌, ℕ, ◌+◌, ◌*◌, ◌≤◌, ◌^◌, Bool, false, ◌||◌, List, length, refl, sym, ap, ◌∙◌, subst, arith}
+use Rattle.std.proofs.Common.{◌≡◌, ℕ, ◌+◌, ◌≤◌, ◌^◌, Bool, false, ◌||◌, List, length, refl, sym, ap, ◌∙◌, subst, arith}
 use Rattle.zst_outside.specs.Causes.{Rose-earlier}
-use Rattle.zst_outside.specs.Images.{DiskState}
 use Rattle.zst_space.specs.FreeSectors.{FreeSectors}
 use Rattle.zst_block.specs.Blocks.{Has, FillsFree, SparesTaken}
 use Rattle.zst_block.specs.IoCalls as blocks
 use Rattle.zst_block.specs.IoCalls.{TakesAtMost}
+use Rattle.zst_block.specs.IoStates.{IoState}
 use Rattle.zst_block.specs.declared.fault.BlockFault.{BlockFault}
 use Rattle.zst_block.proofs.BlocksLaws.{FillsFree-then}
+use Rattle.zst_block.proofs.IoCallLemmas.{Looks-none, Works-looks}
 use Rattle.zst_model.specs.declared.refusals.refusal.Refusal.{Refusal}
 use Rattle.zst_model.specs.states.DatedState.{DatedState}
 use Rattle.zst_model.specs.states.AppliedItems.{◌>>=◌}
@@ -30,7 +31,7 @@ use Rattle.zst_pool.specs.Damage.{HasHead, IfHeadDamaged, IsOf, OfHead}
 use Rattle.zst_pool.specs.declared.head_fault.HeadFault.TheVariants.{Set}
 use Rattle.zst_pool.proofs.HeadAnswers.{memory_stops, plan_stops}
 use Rattle.zst_pool.specs.Faults.{StepFault, is_disk_fault, of_committed}
-use Rattle.zst_pool.specs.Heads.{ChangedHead, ChangesHead, Stops, Works, stop_of}
+use Rattle.zst_pool.specs.Heads.{ChangedHead, ChangesHead, Stops, Works, rested, stop_of}
 use Rattle.zst_dir.specs.RowNames.{AreNamed}
 use Rattle.zst_image.specs.Reads.{DatasetIs, RunsBy, SetIs, bound_of, dir_sectors, free_by}
 use Rattle.zst_image.specs.Commits.{IsDirFull}
@@ -46,74 +47,77 @@ use Rattle.zst_image.specs.declared.commit_fault.CommitFault.TheVariants as comm
 use Rattle.zst_image.specs.declared.pool_state.PoolState.{PoolState}
 use Rattle.zst_pool.proofs.Bounds.{SetIs-later}
 use Rattle.zst_pool.proofs.CommandEnds.{fell}
-use Rattle.zst_pool.proofs.PoolsAtRest.{begun, free_by_fits, rest_plain, way_runs}
+use Rattle.zst_pool.proofs.PoolsAtRest.{begun, rest_plain, way_runs}
 use Rattle.zst_pool.proofs.CommitAnswers.{committed_cause, committed_err, committed_fails, committed_ok, committed_open}
 use Rattle.zst_dir.proofs.Matches.{Match-alike}
 use Rattle.zst_pool.proofs.NamedPools.{rows_named}
 use Rattle.zst_pool.proofs.CommandParts.{disk_fault_same, failed_then}
 use Rattle.zst_pool.proofs.Room.{spends_fell, spends_full, spends_grows}
-use Rattle.zst_pool.proofs.TakenSectors.{works_none}
 
 -- what a command wrote before it fell or came to its commit: at most so much, and in a pool as much as it costs there
-abbrev pub Wrote : PoolState → Cost → DiskState → Bool → DiskState → FreeSectors → Bool → Option BlockFault → Type 0
-Wrote kept cost old old_failed new less new_failed stop =
-    ((block : ℕ) × (block ≤ cost.most) × Works cost.cells block old (free_by kept.body) old_failed new less new_failed stop)
-    × ((running : Pool) → new.honest → IsAtRest false old kept running → Works cost.cells (cost.block running) old (free_by kept.body) old_failed new less new_failed stop)
+abbrev pub Wrote : PoolState → Cost → (old new : IoState) → Option BlockFault → Type 0
+Wrote kept cost old new stop =
+    ((block : ℕ) × (block ≤ cost.most) × Works cost.cells block (rested old.disk old.failed old.reference kept) new stop)
+    × ((running : Pool) → new.disk.honest → IsAtRest false old.disk kept running → Works cost.cells (cost.block running) (rested old.disk old.failed old.reference kept) new stop)
 
 module _ (definition : Pool → Result Stepped Refusal) (cost : Cost) (kept : PoolState) where
   -- a command that fell once it had written into free sectors alone
-  pub runs_fell : {old : DiskState} {old_failed : Bool} {new : DiskState} {less : FreeSectors} {new_failed : Bool} {stop : Option BlockFault} (fault : PoolFault) {answer : Result PoolState PoolFault} → answer ≡ Err fault → Ready new kept.body
-      → Stops stop fault → Wrote kept cost old old_failed new less new_failed stop
-      → ((running : Pool) → new.honest → IsAtRest false old kept running → StepFault (Unit {0}) (definition running) fault) → Ran definition cost kept old old_failed new less new_failed answer
-  runs_fell {old = old} {old_failed = old_failed} {new = new} {less = less} {new_failed = new_failed} {stop = stop} fault same ready stops wrote refused =
+  pub runs_fell : (old new : IoState) {stop : Option BlockFault} (fault : PoolFault) {answer : Result PoolState PoolFault} → answer ≡ Err fault → Ready new.disk kept.body → Stops stop fault → Wrote kept cost old new stop
+      → ((running : Pool) → new.disk.honest → IsAtRest false old.disk kept running → StepFault (Unit {0}) (definition running) fault) → Ran definition cost kept old new answer
+  runs_fell old new fault same ready stops wrote refused =
       let one = wrote.0 in
       let works = one.2 in
-      let fell_so : Ran definition cost kept old old_failed new less new_failed (Err fault) = record {
-        did = λ tight running told rested. fell old new less kept running (record { rested = rested; fills = works.fills }) (definition running) fault (refused running told (rest_plain old kept running rested));
+      let fell_so : Ran definition cost kept old new (Err fault) = record {
+        did = λ tight running told rests. fell old.disk new.disk new.space kept running (record { rested = rests; fills = works.fills }) (definition running) fault (refused running told (rest_plain old.disk kept running rests));
         open_still = λ is. stops.open_still (cc);
         spends = (one.0, one.1, spends_fell kept cost.cells one.0 fault stops works);
-        exact = λ running told rested. spends_fell kept cost.cells (cost.block running) fault stops (wrote.1 running told rested);
+        exact = λ running told rests. spends_fell kept cost.cells (cost.block running) fault stops (wrote.1 running told rests);
         spares = λ apart. works.fills.seen;
         ready = tt;
         stays = λ standing. ready;
-        failed = works.failed ∙ ap (λ (b : Bool). old_failed || b) (stops.fails ∙ disk_fault_same (Unit {0}) PoolState fault);
+        size = works.fills.size;
+        failed = works.failed ∙ ap (λ (b : Bool). old.failed || b) (stops.fails ∙ disk_fault_same (Unit {0}) PoolState fault);
         cause = record { later = works.cause.later; fault = λ is. works.cause.fault (stops.disk (cc)) };
         honest = works.fills.honest;
+        same = works.same;
       } in
-      subst (Ran definition cost kept old old_failed new less new_failed) (sym same) fell_so
+      subst (Ran definition cost kept old new) (sym same) fell_so
 
   -- one that came to its commit
-  pub runs_committed : {old : DiskState} {old_failed : Bool} {new : DiskState} {less : FreeSectors} {new_failed : Bool} {last : DiskState} {least : FreeSectors} {last_failed : Bool} (dir : Rows) (made : Result PoolState CommitFault) {answer : Result PoolState PoolFault} → answer ≡ of_committed made
-      → Ready new kept.body → Wrote kept cost old old_failed new less new_failed None
-      → ((tight : Bool) (running : Pool) → last.honest → IsAtRest tight old kept running → Did tight old last kept running (definition running) (of_committed made))
+  pub runs_committed : (old mid new : IoState) (dir : Rows) (made : Result PoolState CommitFault) {answer : Result PoolState PoolFault} → answer ≡ of_committed made
+      → Ready mid.disk kept.body → Wrote kept cost old mid None
+      → ((tight : Bool) (running : Pool) → new.disk.honest → IsAtRest tight old.disk kept running → Did tight old.disk new.disk kept running (definition running) (of_committed made))
       → length (dir_bytes dir) ≤ length (dir_bytes kept.dir) + 1024
-      → ((need largest : ℕ) → made ≡ Err (commits.Full need largest) → IsDirFull less least dir need largest)
-      → TakesAtMost (dir_sectors (length (dir_bytes dir))) less least → IfOk made (λ next. (next.body.end ≡ least.end) × (next.body.sectors ≡ kept.body.sectors))
-      → (¬ (made ≡ Err commits.DiskFault) → OnErr made (FillsFree new less last least))
-      → IfOk made (λ kept. Ready last kept.body) → (last_failed ≡ false → OnErr made (Ready last kept.body))
-      → last_failed ≡ (new_failed || blocks.fails (stop_of_commit made)) → images.HasDiskCause commits.DiskFault new.faults last.faults made → (last.honest → new.honest) → Ran definition cost kept old old_failed last least last_failed answer
-  runs_committed {old = old} {old_failed = old_failed} {new = new} {less = less} {new_failed = new_failed} {last = last} {least = least} {last_failed = last_failed} dir made same old_ready wrote did grows full takes ends fills ready stays failed cause falls =
+      → ((need largest : ℕ) → made ≡ Err (commits.Full need largest) → IsDirFull mid.space new.space dir need largest)
+      → TakesAtMost (dir_sectors (length (dir_bytes dir))) mid.space new.space → IfOk made (λ next. (next.body.end ≡ new.space.end) × (next.body.sectors ≡ kept.body.sectors))
+      → (¬ (made ≡ Err commits.DiskFault) → OnErr made (FillsFree mid.disk mid.space new.disk new.space))
+      → IfOk made (λ kept. Ready new.disk kept.body) → (new.failed ≡ false → OnErr made (Ready new.disk kept.body))
+      → new.disk.size ≡ mid.disk.size → new.failed ≡ (mid.failed || blocks.fails (stop_of_commit made)) → images.HasDiskCause commits.DiskFault mid.disk.faults new.disk.faults made
+      → (new.disk.honest → mid.disk.honest) → new.reference ≡ mid.reference → Ran definition cost kept old new answer
+  runs_committed old mid new dir made is old_ready wrote did grows full takes ends fills ready stays size failed cause falls same =
       let one = wrote.0 in
       let works = one.2 in
       let answer = of_committed made in
-      let disk = committed_cause new.faults last.faults made cause in
-      let runs : Ran definition cost kept old old_failed last least last_failed answer = record {
+      let disk = committed_cause mid.disk.faults new.disk.faults made cause in
+      let runs : Ran definition cost kept old new answer = record {
         did = did;
         open_still = committed_open made;
         spends = (one.0, one.1, spends made full ends fills ready one.0 works);
-        exact = λ running told rested. spends made full ends fills ready (cost.block running) (wrote.1 running (falls told) rested);
+        exact = λ running told rests. spends made full ends fills ready (cost.block running) (wrote.1 running (falls told) rests);
         spares = λ apart. spares made works.fills fills apart;
-        ready = committed_ok (λ kept. Ready last kept.body) made ready;
-        stays = λ standing. committed_err (Ready last kept.body) made (stays standing);
-        failed = failed_then old_failed new_failed last_failed (is_disk_fault answer) works.failed (failed ∙ ap (λ (b : Bool). new_failed || b) (committed_fails made));
-        cause = record { later = omega (arith, works.cause.later, disk.later); fault = λ is. Rose-earlier old.faults new.faults last.faults works.cause.later (disk.fault is) };
+        ready = committed_ok (λ kept. Ready new.disk kept.body) made ready;
+        stays = λ standing. committed_err (Ready new.disk kept.body) made (stays standing);
+        size = size ∙ works.fills.size;
+        failed = failed_then old.failed mid.failed new.failed (is_disk_fault answer) works.failed (failed ∙ ap (λ (b : Bool). mid.failed || b) (committed_fails made));
+        cause = record { later = omega (arith, works.cause.later, disk.later); fault = λ is. Rose-earlier old.disk.faults mid.disk.faults new.disk.faults works.cause.later (disk.fault is) };
         honest = λ told. works.fills.honest (falls told);
+        same = same ∙ works.same;
       } in
-      subst (Ran definition cost kept old old_failed last least last_failed) (sym same) runs
+      subst (Ran definition cost kept old new) (sym is) runs
     where
-      spends : (r : Result PoolState CommitFault) → ((need largest : ℕ) → r ≡ Err (commits.Full need largest) → IsDirFull less least dir need largest)
-          → IfOk r (λ next. (next.body.end ≡ least.end) × (next.body.sectors ≡ kept.body.sectors)) → (¬ (r ≡ Err commits.DiskFault) → OnErr r (FillsFree new less last least)) → IfOk r (λ kept. Ready last kept.body)
-          → (block : ℕ) → Works cost.cells block old (free_by kept.body) old_failed new less new_failed None → Spends cost.cells block kept least as_kept (of_committed r)
+      spends : (r : Result PoolState CommitFault) → ((need largest : ℕ) → r ≡ Err (commits.Full need largest) → IsDirFull mid.space new.space dir need largest)
+          → IfOk r (λ next. (next.body.end ≡ new.space.end) × (next.body.sectors ≡ kept.body.sectors)) → (¬ (r ≡ Err commits.DiskFault) → OnErr r (FillsFree mid.disk mid.space new.disk new.space)) → IfOk r (λ kept. Ready new.disk kept.body)
+          → (block : ℕ) → Works cost.cells block (rested old.disk old.failed old.reference kept) mid None → Spends cost.cells block kept new.space as_kept (of_committed r)
       spends (Ok next) full ends fills ready block works =
           record { full = tt; grows = spends_grows kept cost.cells block dir works takes grows next old_ready.in_range.end.1 ready.in_range.end.1 ends.0 ends.1 }
       spends (Err (commits.Full need largest)) full ends fills ready block works =
@@ -123,34 +127,33 @@ module _ (definition : Pool → Result Stepped Refusal) (cost : Cost) (kept : Po
             full = λ n l same.
                 let needed : need ≡ n = cc in
                 let left : largest ≡ l = cc in
-                subst (λ (m : ℕ). HasNoRoom cost.cells block kept.body kept.dir least m l) needed (subst (λ (m : ℕ). HasNoRoom cost.cells block kept.body kept.dir least need m) left told);
+                subst (λ (m : ℕ). HasNoRoom cost.cells block kept.body kept.dir new.space m l) needed (subst (λ (m : ℕ). HasNoRoom cost.cells block kept.body kept.dir new.space need m) left told);
             grows = tt;
           }
       spends (Err commits.DiskFault) full ends fills ready block works = record { full = λ n l same. absurd (cc); grows = tt }
       spends (Err commits.OutOfMemory) full ends fills ready block works = record { full = λ n l same. absurd (cc); grows = tt }
 
-      spares : (r : Result PoolState CommitFault) → FillsFree old (free_by kept.body) new less → (¬ (r ≡ Err commits.DiskFault) → OnErr r (FillsFree new less last least)) → ¬ (of_committed r ≡ Err DiskFault)
-          → OnErr (of_committed r) (SparesTaken (free_by kept.body) old.seen last.seen)
+      spares : (r : Result PoolState CommitFault) → FillsFree old.disk (free_by kept.body) mid.disk mid.space → (¬ (r ≡ Err commits.DiskFault) → OnErr r (FillsFree mid.disk mid.space new.disk new.space)) → ¬ (of_committed r ≡ Err DiskFault)
+          → OnErr (of_committed r) (SparesTaken (free_by kept.body) old.disk.seen new.disk.seen)
       spares (Ok next) first second apart = tt
-      spares (Err (commits.Full need largest)) first second apart = let both = FillsFree-then old new last (free_by kept.body) less least first (second (λ is. cc)) in both.seen
+      spares (Err (commits.Full need largest)) first second apart = let both = FillsFree-then old.disk mid.disk new.disk (free_by kept.body) mid.space new.space first (second (λ is. cc)) in both.seen
       spares (Err commits.DiskFault) first second apart = absurd (apart refl)
-      spares (Err commits.OutOfMemory) first second apart = let both = FillsFree-then old new last (free_by kept.body) less least first (second (λ is. cc)) in both.seen
+      spares (Err commits.OutOfMemory) first second apart = let both = FillsFree-then old.disk mid.disk new.disk (free_by kept.body) mid.space new.space first (second (λ is. cc)) in both.seen
 
 -- before its first part a command wrote nothing
-pub idle_wrote : (kept : PoolState) (cost : Cost) (disk : DiskState) (space : FreeSectors) (failed : Bool) (stop : Option BlockFault) → stop ≡ None → space ≡ free_by kept.body → Ready disk kept.body
-    → Wrote kept cost disk failed disk space failed stop
-idle_wrote kept cost disk space failed stop none free ready =
-    let idle = λ (block : ℕ). subst (Works cost.cells block disk (free_by kept.body) failed disk space failed) (sym none)
-    (subst (λ (s : FreeSectors). Works cost.cells block disk (free_by kept.body) failed disk s failed None) (sym free)
-    (works_none (block + 640 * cost.cells) block disk (free_by kept.body) failed (free_by_fits disk.size kept.body ready.in_range))) in
-    ((0, omega arith, idle 0), λ running told rested. idle (cost.block running))
+pub idle_wrote : (kept : PoolState) (cost : Cost) (io : IoState) (stop : Option BlockFault) → stop ≡ None → io.space ≡ free_by kept.body → Wrote kept cost io io stop
+idle_wrote kept cost io stop none free =
+    let start = rested io.disk io.failed io.reference kept in
+    let idle = λ (block : ℕ). subst (Works cost.cells block start io) (sym none)
+    (subst (λ (space : FreeSectors). Works cost.cells block start (record io { space = space }) None) (sym free) (Works-looks (Looks-none start))) in
+    ((0, omega arith, idle 0), λ running told rests. idle (cost.block running))
 
 module _ (definition : Pool → Result Stepped Refusal) (cost : Cost) (kept : PoolState) where
   -- one that fell before it did anything
-  pub runs_idle : {disk : DiskState} {space : FreeSectors} {failed : Bool} (fault : PoolFault) {answer : Result PoolState PoolFault} → answer ≡ Err fault → space ≡ free_by kept.body → Ready disk kept.body → Stops None fault
-      → ((running : Pool) → IsAtRest false disk kept running → StepFault (Unit {0}) (definition running) fault) → Ran definition cost kept disk failed disk space failed answer
-  runs_idle {disk = disk} {space = space} {failed = failed} fault same free ready stops refused =
-      runs_fell definition cost kept fault same ready stops (idle_wrote kept cost disk space failed None refl free ready) (λ running told rested. refused running rested)
+  pub runs_idle : {io : IoState} (fault : PoolFault) {answer : Result PoolState PoolFault} → answer ≡ Err fault → io.space ≡ free_by kept.body → Ready io.disk kept.body → Stops None fault
+      → ((running : Pool) → IsAtRest false io.disk kept running → StepFault (Unit {0}) (definition running) fault) → Ran definition cost kept io io answer
+  runs_idle {io = io} fault same free ready stops refused =
+      runs_fell definition cost kept io io fault same ready stops (idle_wrote kept cost io None refl free) (λ running told rests. refused running rests)
 
 -- what is so of each damage that is answered
 pub told_of : (Is : DamageFact) (answer : Result PoolState PoolFault) → ((sector : ℕ) (stated found : List ℕ) → answer ≡ Err (Damaged sector stated found) → Is sector stated found) → IfErr answer (IsOf Is)
@@ -159,28 +162,28 @@ told_of Is (Err fault) is = λ sector stated found same. is sector stated found 
 
 module _ (definition : Pool → Result Stepped Refusal) (cost : Cost) (damage : DamageFact) (kept : PoolState) where
   -- a command that tells no damage
-  pub runs_sound : {old : DiskState} {old_failed : Bool} {new : DiskState} {less : FreeSectors} {new_failed : Bool} (answer : Result PoolState PoolFault) → ((sector : ℕ) (stated found : List ℕ) → ¬ (answer ≡ Err (Damaged sector stated found)))
-      → Ran definition cost kept old old_failed new less new_failed answer → Runs definition cost damage kept old old_failed new less new_failed answer
+  pub runs_sound : {old new : IoState} (answer : Result PoolState PoolFault) → ((sector : ℕ) (stated found : List ℕ) → ¬ (answer ≡ Err (Damaged sector stated found)))
+      → Ran definition cost kept old new answer → Runs definition cost damage kept old new answer
   runs_sound answer never ran = record { ran = ran; damaged = λ told. told_of damage answer (λ sector stated found is. absurd (never sector stated found is)) }
 
   -- one that fell before it did anything, for a plan or for memory
-  pub runs_planned : {disk : DiskState} {space : FreeSectors} {failed : Bool} (plan : PlanFault) {answer : Result PoolState PoolFault} → answer ≡ Err (Plan plan) → space ≡ free_by kept.body → Ready disk kept.body
-      → ((running : Pool) → IsAtRest false disk kept running → definition running ≡ Err (refusal_of plan)) → Runs definition cost damage kept disk failed disk space failed answer
-  runs_planned plan {answer = answer} same free ready refused =
-      runs_sound answer (λ sector stated found is. cc) (runs_idle definition cost kept (Plan plan) same free ready (plan_stops None plan refl) (λ running rested. (refused running rested, tt)))
+  pub runs_planned : {io : IoState} (plan : PlanFault) {answer : Result PoolState PoolFault} → answer ≡ Err (Plan plan) → io.space ≡ free_by kept.body → Ready io.disk kept.body
+      → ((running : Pool) → IsAtRest false io.disk kept running → definition running ≡ Err (refusal_of plan)) → Runs definition cost damage kept io io answer
+  runs_planned {io = io} plan {answer = answer} same free ready refused =
+      runs_sound answer (λ sector stated found is. cc) (runs_idle definition cost kept {io = io} (Plan plan) same free ready (plan_stops None plan refl) (λ running rested. (refused running rested, tt)))
 
-  pub runs_starved : {disk : DiskState} {space : FreeSectors} {failed : Bool} {answer : Result PoolState PoolFault} → answer ≡ Err OutOfMemory → space ≡ free_by kept.body → Ready disk kept.body
-      → Runs definition cost damage kept disk failed disk space failed answer
-  runs_starved {answer = answer} same free ready =
-      runs_sound answer (λ sector stated found is. cc) (runs_idle definition cost kept OutOfMemory same free ready (memory_stops None refl) (λ running rested. tt))
+  pub runs_starved : {io : IoState} {answer : Result PoolState PoolFault} → answer ≡ Err OutOfMemory → io.space ≡ free_by kept.body → Ready io.disk kept.body
+      → Runs definition cost damage kept io io answer
+  runs_starved {io = io} {answer = answer} same free ready =
+      runs_sound answer (λ sector stated found is. cc) (runs_idle definition cost kept {io = io} OutOfMemory same free ready (memory_stops None refl) (λ running rested. tt))
 
 -- one that changed the head of a dataset, or fell as that did
-pub runs_head : (definition : Pool → Result Stepped Refusal) (cost : Cost) (kept : PoolState) (name : List ℕ) (Is : FreeSectors → ObjSet → DamageFact) {old : DiskState} {old_failed : Bool} {new : DiskState} {less : FreeSectors} {new_failed : Bool} (mid : DiskState) (space : FreeSectors) (set : ObjSet) (changed : Result (Unit {0}) HeadFault) (answer : Result PoolState PoolFault)
-    → space ≡ free_by kept.body → HasHead kept.dir name set → (mid.honest → IfHeadDamaged changed (Is space set)) → (new.honest → mid.honest)
+pub runs_head : (definition : Pool → Result Stepped Refusal) (cost : Cost) (kept : PoolState) (name : List ℕ) (Is : FreeSectors → ObjSet → DamageFact) (old mid : IoState) {new : IoState} (set : ObjSet) (changed : Result (Unit {0}) HeadFault) (answer : Result PoolState PoolFault)
+    → old.space ≡ free_by kept.body → HasHead kept.dir name set → (mid.disk.honest → IfHeadDamaged changed (Is old.space set)) → (new.disk.honest → mid.disk.honest)
     → ((sector : ℕ) (stated found : List ℕ) → answer ≡ Err (Damaged sector stated found) → changed ≡ Err (Set (set_faults.Block (block_faults.Damaged sector stated found))))
-    → Ran definition cost kept old old_failed new less new_failed answer → Runs definition cost (OfHead kept.dir name (Is (free_by kept.body))) kept old old_failed new less new_failed answer
-runs_head definition cost kept name Is mid space set changed answer free there tells falls same ran = record {
-  ran = ran;
+    → Ran definition cost kept (rested old.disk old.failed old.reference kept) new answer → Runs definition cost (OfHead kept.dir name (Is (free_by kept.body))) kept old new answer
+runs_head definition cost kept name Is old mid {new = new} set changed answer free there tells falls same ran = record {
+  ran = subst (λ (space : FreeSectors). Ran definition cost kept (record old { space = space }) new answer) (sym free) ran;
   damaged = λ told. told_of (OfHead kept.dir name (Is (free_by kept.body))) answer (λ sector stated found is.
       let over = subst (λ (s : FreeSectors). IfHeadDamaged changed (Is s set)) free (tells (falls told)) in
       (set, there, subst (λ (r : Result (Unit {0}) HeadFault). IfHeadDamaged r (Is (free_by kept.body) set)) (same sector stated found is) over));
@@ -192,43 +195,47 @@ unfolding last_number
 number_is number next pool lawful same is = let le : number ≤ 2 ^ 63 = omega (arith, same, lawful.number) in omega (arith, same, is le)
 
 -- what a set holds that was opened
-head_there : {bound : Option ℕ} (kept : PoolState) (name : List ℕ) (old : DiskState) (space : FreeSectors) (was : ObjSet) (pool : Pool) → RunsBy bound (Has old.seen space) kept.dir pool → FindsHead kept.dir name pool (Ok was)
-    → (head : DatedState) × SetIs bound (Has old.seen space) was head × ((change : DatedState → Result DatedState Refusal) → on_head name pool change ≡ (change head >>= λ after. committed (with_head_of name after pool)))
-head_there {bound = bound} kept name old space was pool runs_by there =
-    let has = Has old.seen space in
+head_there : {bound : Option ℕ} (kept : PoolState) (name : List ℕ) (io : IoState) (was : ObjSet) (pool : Pool) → RunsBy bound (Has io.disk.seen io.space) kept.dir pool → FindsHead kept.dir name pool (Ok was)
+    → (head : DatedState) × SetIs bound (Has io.disk.seen io.space) was head × ((change : DatedState → Result DatedState Refusal) → on_head name pool change ≡ (change head >>= λ after. committed (with_head_of name after pool)))
+head_there {bound = bound} kept name io was pool runs_by there =
+    let has = Has io.disk.seen io.space in
     let stands = Match-alike (DatasetIs bound has) kept.dir.datasets pool.datasets there.0 there.1 runs_by.datasets there.2 in
     (there.1.head, subst (λ (set : ObjSet). SetIs bound has set there.1.head) there.3 stands.head, there.4)
 
 -- a head that was opened and changed
-pub changed_head : (kept : PoolState) (name : List ℕ) (make : Pool → DatedState → Result DatedState Refusal) (cost : Cost) {number : ℕ} {old : DiskState} {space : FreeSectors} {old_failed : Bool} {new : DiskState} {less : FreeSectors} {new_failed : Bool} {was set : ObjSet} {changed : Result (Unit {0}) HeadFault}
-    → space ≡ free_by kept.body → (kept.body.number ≤ 2 ^ 63 → number ≡ kept.body.number + 1)
+pub changed_head : (kept : PoolState) (name : List ℕ) (make : Pool → DatedState → Result DatedState Refusal) (cost : Cost) (old new : IoState) {number : ℕ} {was set : ObjSet} {changed : Result (Unit {0}) HeadFault}
+    → old.space ≡ free_by kept.body → (kept.body.number ≤ 2 ^ 63 → number ≡ kept.body.number + 1)
     → ((pool : Pool) → AreNamed kept.dir pool → FindsHead kept.dir name pool (Ok was))
-    → ((tight : Bool) (pool : Pool) (head : DatedState) → new.honest → pool.number + 1 ≡ number → SetIs (bound_of tight number) (Has old.seen space) was head → ChangesHead (bound_of tight number) (Has new.seen less) set (make pool head) changed)
-    → ((block : ℕ) × (block ≤ cost.most) × Works cost.cells block old space old_failed new less new_failed (stop_of changed))
-    → ((pool : Pool) (head : DatedState) → new.honest → SetHolds (Has old.seen space) was head
+    → ((tight : Bool) (pool : Pool) (head : DatedState) → new.disk.honest → pool.number + 1 ≡ number → SetIs (bound_of tight number) (Has old.disk.seen old.space) was head
+    → ChangesHead (bound_of tight number) (Has new.disk.seen new.space) set (make pool head) changed)
+    → ((block : ℕ) × (block ≤ cost.most) × Works cost.cells block old new (stop_of changed))
+    → ((pool : Pool) (head : DatedState) → new.disk.honest → SetHolds (Has old.disk.seen old.space) was head
     → ((change : DatedState → Result DatedState Refusal) → on_head name pool change ≡ (change head >>= λ after. committed (with_head_of name after pool)))
-    → Works cost.cells (cost.block pool) old space old_failed new less new_failed (stop_of changed))
-    → ChangedHead kept name make cost old old_failed new less new_failed set changed
-changed_head kept name make cost {number = number} {old = old} {space = space} {old_failed = old_failed} {new = new} {less = less} {new_failed = new_failed} {was = was} {set = set} {changed = changed} free next found changes works exact =
-    let over = λ (block : ℕ) (w : Works cost.cells block old space old_failed new less new_failed (stop_of changed)).
-    subst (λ (s : FreeSectors). Works cost.cells block old s old_failed new less new_failed (stop_of changed)) free w in
+    → Works cost.cells (cost.block pool) old new (stop_of changed))
+    → ChangedHead kept name make cost (rested old.disk old.failed old.reference kept) new set changed
+changed_head kept name make cost old new {number = number} {was = was} {set = set} {changed = changed} free next found changes works exact =
+    let over = λ (block : ℕ) (w : Works cost.cells block old new (stop_of changed)).
+    subst (λ (space : FreeSectors). Works cost.cells block (record old { space = space }) new (stop_of changed)) free w in
     record {
       made = made_so;
       works = (works.0, works.1, over works.0 works.2);
-      exact = λ running told rested.
-          let runs = way_runs old old space kept running (begun old kept running rested space free) in
-          let there = head_there kept name old space was running runs.runs_by (found running (rows_named (Has old.seen space) kept.dir running runs.runs_by)) in
-          over (cost.block running) (exact running there.0 told there.1 there.2);
+      exact = λ running told rests. let there = head_of running rests in over (cost.block running) (exact running there.0 told there.1 there.2);
     }
   where
-    made_so : {tight : Bool} (running : Pool) → new.honest → IsAtRest tight old kept running
-        → (head : DatedState) × ChangesHead (bound_of tight (running.number + 1)) (Has new.seen less) set (make running head) changed
+    head_of : {tight : Bool} (running : Pool) → IsAtRest tight old.disk kept running
+        → (head : DatedState) × SetIs (bound_of tight running.number) (Has old.disk.seen old.space) was head
+        × ((change : DatedState → Result DatedState Refusal) → on_head name running change ≡ (change head >>= λ after. committed (with_head_of name after running)))
+    head_of running rests =
+        let runs = way_runs old.disk old.disk old.space kept running (begun old.disk kept running rests old.space free) in
+        head_there kept name old was running runs.runs_by (found running (rows_named (Has old.disk.seen old.space) kept.dir running runs.runs_by))
+
+    made_so : {tight : Bool} (running : Pool) → new.disk.honest → IsAtRest tight old.disk kept running
+        → (head : DatedState) × ChangesHead (bound_of tight (running.number + 1)) (Has new.disk.seen new.space) set (make running head) changed
         × (on_head name running (make running) ≡ (make running head >>= λ after. committed (with_head_of name after running)))
-    made_so {tight = tight} running told rested =
-        let has = Has old.seen space in
-        let runs = way_runs old old space kept running (begun old kept running rested space free) in
-        let there = head_there kept name old space was running runs.runs_by (found running (rows_named has kept.dir running runs.runs_by)) in
+    made_so {tight = tight} running told rests =
+        let runs = way_runs old.disk old.disk old.space kept running (begun old.disk kept running rests old.space free) in
+        let there = head_of running rests in
         let is = number_is kept.body.number number running runs.lawful runs.number next in
-        let known = SetIs-later tight running.number number (omega (arith, is)) has was there.0 there.1 in
+        let known = SetIs-later tight running.number number (omega (arith, is)) (Has old.disk.seen old.space) was there.0 there.1 in
         let changed_so = changes tight running there.0 told is known in
-        (there.0, subst (λ (n : ℕ). ChangesHead (bound_of tight n) (Has new.seen less) set (make running there.0) changed) (sym is) changed_so, there.2 (make running))
+        (there.0, subst (λ (n : ℕ). ChangesHead (bound_of tight n) (Has new.disk.seen new.space) set (make running there.0) changed) (sym is) changed_so, there.2 (make running))

@@ -1,10 +1,9 @@
 -- What a list answers as the answer of a command that only reads.
 use Rattle.std.specs.Prelude.{Result, Ok, Err, Option, Some, None}
-use Rattle.std.proofs.Common.{◌≡◌, ℕ, true, false, Bool, List, [], is_some, refl}
-use Rattle.zst_outside.specs.Images.{DiskState}
-use Rattle.zst_space.specs.FreeSectors.{FreeSectors}
+use Rattle.std.proofs.Common.{◌≡◌, ℕ, true, false, List, [], is_some, refl}
 use Rattle.zst_block.specs.Blocks.{Has}
 use Rattle.zst_block.specs.declared.fault.BlockFault.TheVariants as blocks
+use Rattle.zst_block.specs.IoStates.{IoState}
 use Rattle.zst_block.proofs.IoCallLemmas.{Looks-none}
 use Rattle.zst_image.specs.Reads.{RunsBy}
 use Rattle.zst_image.specs.declared.pool_state.PoolState.{PoolState}
@@ -72,12 +71,12 @@ unfolding stepped
 list_pool now pool = refl
 
 -- a command that looks at nothing but the rows
-module _ (definition : Pool → Result Stepped Refusal) (damage : DamageFact) (kept : PoolState) (disk : DiskState) (space : FreeSectors) (failed : Bool) where
-  pub tells_rows : (reply : List (List ℕ)) → ((pool : Pool) → RunsBy None (Has disk.seen space) kept.dir pool → definition pool ≡ answered pool reply) → Tells definition damage kept disk space failed disk space failed (Ok reply)
-  tells_rows reply is = record { told = λ pool honest runs. is pool runs; looks = Looks-none disk space failed; open_still = λ same. absurd (cc); damaged = λ honest. tt }
+module _ (definition : Pool → Result Stepped Refusal) (damage : DamageFact) (kept : PoolState) (io : IoState) where
+  pub tells_rows : (reply : List (List ℕ)) → ((pool : Pool) → RunsBy None (Has io.disk.seen io.space) kept.dir pool → definition pool ≡ answered pool reply) → Tells definition damage kept io io (Ok reply)
+  tells_rows reply is = record { told = λ pool honest runs. is pool runs; looks = Looks-none io; open_still = λ same. absurd (cc); damaged = λ honest. tt }
 
-  pub tells_no_memory : Tells definition damage kept disk space failed disk space failed (Err faults.OutOfMemory)
-  tells_no_memory = record { told = λ pool honest runs. tt; looks = Looks-none disk space failed; open_still = λ same. absurd (cc); damaged = λ honest sector stated found same. absurd (cc) }
+  pub tells_no_memory : Tells definition damage kept io io (Err faults.OutOfMemory)
+  tells_no_memory = record { told = λ pool honest runs. tt; looks = Looks-none io; open_still = λ same. absurd (cc); damaged = λ honest sector stated found same. absurd (cc) }
 
 -- no list tells that the pool has failed
 pub list_open : (fault : ListFault) → ¬ (of_list fault ≡ faults.Failed)

@@ -1,9 +1,8 @@
 -- What a set's answer is as the answer of a command that only reads.
 use Rattle.std.specs.Prelude.{Result, Ok, Err, IfErr, Option, Some, None}
-use Rattle.std.proofs.Common.{◌≡◌, inr, ℕ, ◌+◌, ◌^◌, Bool, List, [], refl, sym, ap, ◌∙◌, subst}
-use Rattle.zst_outside.specs.Images.{DiskState}
-use Rattle.zst_space.specs.FreeSectors.{FreeSectors}
+use Rattle.std.proofs.Common.{◌≡◌, inr, ℕ, ◌+◌, ◌^◌, List, [], refl, sym, ap, ◌∙◌, subst}
 use Rattle.zst_block.specs.Blocks.{Has}
+use Rattle.zst_block.specs.IoStates.{IoState}
 use Rattle.zst_block.proofs.IoCallLemmas.{Looks-none}
 use Rattle.zst_dnode.specs.declared.dnode.Dnode.{Dnode}
 use Rattle.zst_dir.specs.Rows.{Rows}
@@ -123,12 +122,12 @@ long_enough has state k dnode found some is count sized there at =
     sized ∙ finds.2 ∙ ap (λ (o : Object). o.attr.block_size) same
 
 -- E3 where the pool has no state of this name
-pub tells_missing : (definition : Pool → Result Stepped Refusal) (damage : DamageFact) (kept : PoolState) (disk : DiskState) (space : FreeSectors) (failed : Bool) (name : Name)
+pub tells_missing : (definition : Pool → Result Stepped Refusal) (damage : DamageFact) (kept : PoolState) (io : IoState) (name : Name)
     → ((pool : Pool) → state_named name pool ≡ None → definition pool ≡ Err (no_such name)) → ((pool : Pool) → AreNamed kept.dir pool → state_named name pool ≡ None)
-    → Tells definition damage kept disk space failed disk space failed (Err (faults.Plan (plans.NoSuch (missing.Named name))))
-tells_missing definition damage kept disk space failed name refused absent = record {
-  told = λ pool honest runs. (refused pool (absent pool (rows_named (Has disk.seen space) kept.dir pool runs)), tt);
-  looks = Looks-none disk space failed;
+    → Tells definition damage kept io io (Err (faults.Plan (plans.NoSuch (missing.Named name))))
+tells_missing definition damage kept io name refused absent = record {
+  told = λ pool honest runs. (refused pool (absent pool (rows_named (Has io.disk.seen io.space) kept.dir pool runs)), tt);
+  looks = Looks-none io;
   open_still = λ same. absurd (cc);
   damaged = λ honest sector stated found same. absurd (cc);
 }

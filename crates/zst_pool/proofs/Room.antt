@@ -5,13 +5,14 @@ use Rattle.zst_outside.specs.Images.{DiskState}
 use Rattle.zst_space.specs.FreeSectors.{FreeSectors}
 use Rattle.zst_block.specs.Blocks.{FillsFree}
 use Rattle.zst_block.specs.IoCalls.{TakesAtMost}
+use Rattle.zst_block.specs.IoStates.{IoState}
 use Rattle.zst_block.specs.declared.fault.BlockFault.{BlockFault}
 use Rattle.zst_model.specs.states.State.{is_block_size, largest_block}
 use Rattle.zst_dir.specs.Rows.{Rows}
 use Rattle.zst_dir.specs.Spelling.{dir_bytes}
 use Rattle.zst_pool.specs.Calls.{IsCallFull}
 use Rattle.zst_pool.specs.Cost.{Grows, HasNoRoom, Spends, most_sectors}
-use Rattle.zst_pool.specs.Heads.{Stops, Works}
+use Rattle.zst_pool.specs.Heads.{Stops, Works, rested}
 use Rattle.zst_image.specs.Reads.{dir_sectors, free_by}
 use Rattle.zst_image.specs.Commits.{IsDirFull}
 use Rattle.zst_pool.specs.CommandRuns.{as_kept}
@@ -41,32 +42,32 @@ call_full space left dir rows need largest longer takes full =
       before = omega (arith, full.before, more);
     }
 
-module _ (kept : PoolState) (cells block : ℕ) {old : DiskState} {old_failed : Bool} {new : DiskState} {less : FreeSectors} {new_failed : Bool} where
+module _ (kept : PoolState) (cells block : ℕ) {disk : DiskState} {failed : Bool} {reference : ℕ} {new : IoState} where
   -- what a command spends that stopped at a block's fault, or at none
-  pub spends_fell : {stop : Option BlockFault} (fault : PoolFault) → Stops stop fault → Works cells block old (free_by kept.body) old_failed new less new_failed stop
-      → Spends cells block kept less as_kept (Err fault)
+  pub spends_fell : {stop : Option BlockFault} (fault : PoolFault) → Stops stop fault → Works cells block (rested disk failed reference kept) new stop
+      → Spends cells block kept new.space as_kept (Err fault)
   spends_fell {stop = stop} fault stops works = record {
     full = λ need largest same.
         let full = works.full need largest (stops.full need largest same) in
-        let was = was_free kept.body less works.takes works.fills.fewer in
-        let taken_more = takes_more (block + 640 * cells) (most_sectors cells block kept.dir) (free_by kept.body) less (omega arith) works.takes in
+        let was = was_free kept.body new.space works.takes works.fills.fewer in
+        let taken_more = takes_more (block + 640 * cells) (most_sectors cells block kept.dir) (free_by kept.body) new.space (omega arith) works.takes in
         record { taken = taken_more; shorter = full.shorter; needed = full.needed; is_longest = full.is_longest; was_free = omega (arith, full.is_longest, was); room = omega (arith, full.before) };
     grows = tt;
   }
 
   -- what a command spends that came to its commit
-  module _ {least : FreeSectors} (dir : Rows) (works : Works cells block old (free_by kept.body) old_failed new less new_failed None)
-      (takes : TakesAtMost (dir_sectors (length (dir_bytes dir))) less least) (grows : length (dir_bytes dir) ≤ length (dir_bytes kept.dir) + 1024) where
-    pub spends_full : {last : DiskState} (need largest : ℕ) → FillsFree new less last least → IsDirFull less least dir need largest → HasNoRoom cells block kept.body kept.dir least need largest
+  module _ {least : FreeSectors} (dir : Rows) (works : Works cells block (rested disk failed reference kept) new None)
+      (takes : TakesAtMost (dir_sectors (length (dir_bytes dir))) new.space least) (grows : length (dir_bytes dir) ≤ length (dir_bytes kept.dir) + 1024) where
+    pub spends_full : {last : DiskState} (need largest : ℕ) → FillsFree new.disk new.space last least → IsDirFull new.space least dir need largest → HasNoRoom cells block kept.body kept.dir least need largest
     spends_full need largest fills told =
         let more = dir-more (length (dir_bytes dir)) (length (dir_bytes kept.dir) + 1024) grows in
-        let was = was_free kept.body least (takes_then (free_by kept.body) less least works.takes takes) (λ sector free. works.fills.fewer sector (fills.fewer sector free)) in
-        let taken_more = takes_more (block + 640 * cells + dir_sectors (length (dir_bytes dir))) (most_sectors cells block kept.dir) (free_by kept.body) least (omega (arith, more)) (takes_then (free_by kept.body) less least works.takes takes) in
+        let was = was_free kept.body least (takes_then (free_by kept.body) new.space least works.takes takes) (λ sector free. works.fills.fewer sector (fills.fewer sector free)) in
+        let taken_more = takes_more (block + 640 * cells + dir_sectors (length (dir_bytes dir))) (most_sectors cells block kept.dir) (free_by kept.body) least (omega (arith, more)) (takes_then (free_by kept.body) new.space least works.takes takes) in
         record { taken = taken_more; shorter = told.shorter; needed = inl told.needed; is_longest = told.is_longest; was_free = omega (arith, told.is_longest, was); room = omega (arith, told.before, works.takes.longest, more) }
 
     pub spends_grows : (next : PoolState) → kept.body.end ≤ kept.body.sectors → next.body.end ≤ next.body.sectors → next.body.end ≡ least.end → next.body.sectors ≡ kept.body.sectors
         → Grows (most_sectors cells block kept.dir) kept.body next.body
     spends_grows next inside within end sectors =
         let more = dir-more (length (dir_bytes dir)) (length (dir_bytes kept.dir) + 1024) grows in
-        let later = ends_later kept.body least (takes_then (free_by kept.body) less least works.takes takes) inside (omega (arith, within, end, sectors)) in
+        let later = ends_later kept.body least (takes_then (free_by kept.body) new.space least works.takes takes) inside (omega (arith, within, end, sectors)) in
         record { sectors = sectors; end = omega (arith, later, end, more) }

@@ -1,9 +1,8 @@
 -- What a call of an object set does, as a part of a command.
 use Rattle.std.specs.Prelude.{Result, Ok, Err, OnOk}
-use Rattle.std.proofs.Common.{◌≡◌, ℕ, Bool, Option, refl, sym, ap, ◌∙◌, subst}
-use Rattle.zst_outside.specs.Images.{DiskState}
-use Rattle.zst_space.specs.FreeSectors.{FreeSectors}
-use Rattle.zst_block.specs.IoCalls as blocks
+use Rattle.std.proofs.Common.{◌≡◌, ℕ, Option, refl, sym, ap, ◌∙◌, subst}
+use Rattle.zst_block.specs.IoCalls.{Works}
+use Rattle.zst_block.specs.IoStates.{IoState}
 use Rattle.zst_block.specs.declared.fault.BlockFault.TheVariants as block_faults
 use Rattle.zst_model.specs.declared.refusals.refusal.Refusal.{Refusal}
 use Rattle.zst_model.specs.states.DatedState.{DatedState}
@@ -43,9 +42,8 @@ module _ (called : Result (Unit {0}) ObjFault) (answer : Result (Unit {0}) HeadF
   pub stopped : sets.stop_of called ≡ stop_of answer
   stopped = sym (ap (λ (r : Result (Unit {0}) HeadFault). stop_of r) same ∙ stop_is called)
 
-  pub call_works : {most block : ℕ} {old : DiskState} {space : FreeSectors} {failed : Bool} {new : DiskState} {less : FreeSectors} {now : Bool}
-      → blocks.Works most block old space failed new less now (sets.stop_of called) → blocks.Works most block old space failed new less now (stop_of answer)
-  call_works {most = most} {block = block} {old = old} {space = space} {failed = failed} {new = new} {less = less} {now = now} does = subst (blocks.Works most block old space failed new less now) stopped does
+  pub call_works : {most block : ℕ} {old new : IoState} → Works most block old new (sets.stop_of called) → Works most block old new (stop_of answer)
+  call_works {most = most} {block = block} {old = old} {new = new} does = subst (Works most block old new) stopped does
 
   -- and changes the head as its definition says
   pub call_changes : (bound : Option ℕ) (has : Blocks) (set : ObjSet) (definition : Result DatedState Refusal) → sets.Changes (SetIs bound has set) definition called → ChangesHead bound has set definition answer

@@ -1,8 +1,8 @@
 -- What running a command does.
 use Rattle.std.specs.Prelude.{◌≡◌, ◌||◌, ◌≤◌, ℕ, Bool, false, Result, Ok, Err, IfOk, OnErr, IfErr}
 use Rattle.zst_outside.specs.Images.{DiskState, Leaves}
-use Rattle.zst_space.specs.FreeSectors.{FreeSectors}
 use Rattle.zst_block.specs.Blocks.{SparesTaken}
+use Rattle.zst_block.specs.IoStates.{IoState}
 use Rattle.zst_model.specs.declared.refusals.refusal.Refusal.{Refusal}
 use Rattle.zst_model.specs.pools.Pool.{Pool}
 use Rattle.zst_model.specs.pools.Step.{Stepped}
@@ -33,21 +33,23 @@ abbrev pub as_kept : PoolState → PoolState
 as_kept kept = kept
 
 -- what a command at this cost did: by its definition where a pool was at rest, and what stands then whatever the image was
-pub record Ran (definition : Pool → Result Stepped Refusal) (cost : Cost) (kept : PoolState) (old : DiskState) (old_failed : Bool) (new : DiskState) (left : FreeSectors) (new_failed : Bool) (result : Result PoolState PoolFault) : Type 0 where
-  pub did : (tight : Bool) (running : Pool) → new.honest → IsAtRest tight old kept running → Did tight old new kept running (definition running) result
+pub record Ran (definition : Pool → Result Stepped Refusal) (cost : Cost) (kept : PoolState) (old new : IoState) (result : Result PoolState PoolFault) : Type 0 where
+  pub did : (tight : Bool) (running : Pool) → new.disk.honest → IsAtRest tight old.disk kept running → Did tight old.disk new.disk kept running (definition running) result
   pub open_still : ¬ (result ≡ Err Failed)
   -- it takes no more than the cost at most, and no more than the cost in the pool
-  pub spends : (block : ℕ) × (block ≤ cost.most) × Spends cost.cells block kept left as_kept result
-  pub exact : (running : Pool) → new.honest → IsAtRest false old kept running → Spends cost.cells (cost.block running) kept left as_kept result
+  pub spends : (block : ℕ) × (block ≤ cost.most) × Spends cost.cells block kept new.space as_kept result
+  pub exact : (running : Pool) → new.disk.honest → IsAtRest false old.disk kept running → Spends cost.cells (cost.block running) kept new.space as_kept result
   -- where it is refused, unless the disk failed, free sectors alone were written
-  pub spares : ¬ (result ≡ Err DiskFault) → OnErr result (SparesTaken (free_by kept.body) old.seen new.seen)
-  pub ready : IfOk result (λ kept. Ready new kept.body)
-  pub stays : new_failed ≡ false → OnErr result (Ready new kept.body)
-  pub failed : new_failed ≡ (old_failed || is_disk_fault result)
-  pub cause : HasDiskCause old.faults new.faults result
-  pub honest : new.honest → old.honest
+  pub spares : ¬ (result ≡ Err DiskFault) → OnErr result (SparesTaken (free_by kept.body) old.disk.seen new.disk.seen)
+  pub ready : IfOk result (λ kept. Ready new.disk kept.body)
+  pub stays : new.failed ≡ false → OnErr result (Ready new.disk kept.body)
+  pub size : new.disk.size ≡ old.disk.size
+  pub failed : new.failed ≡ (old.failed || is_disk_fault result)
+  pub cause : HasDiskCause old.disk.faults new.disk.faults result
+  pub honest : new.disk.honest → old.disk.honest
+  pub same : new.reference ≡ old.reference
 
 -- and which damage it told
-pub record Runs (definition : Pool → Result Stepped Refusal) (cost : Cost) (damage : DamageFact) (kept : PoolState) (old : DiskState) (old_failed : Bool) (new : DiskState) (left : FreeSectors) (new_failed : Bool) (result : Result PoolState PoolFault) : Type 0 where
-  pub ran : Ran definition cost kept old old_failed new left new_failed result
-  pub damaged : new.honest → IfErr result (IsOf damage)
+pub record Runs (definition : Pool → Result Stepped Refusal) (cost : Cost) (damage : DamageFact) (kept : PoolState) (old new : IoState) (result : Result PoolState PoolFault) : Type 0 where
+  pub ran : Ran definition cost kept old new result
+  pub damaged : new.disk.honest → IfErr result (IsOf damage)

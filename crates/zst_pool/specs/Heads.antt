@@ -1,9 +1,9 @@
 -- What changes the head of a dataset, and what its command makes of that.
 use Rattle.std.specs.Prelude.{◌≡◌, ◌+◌, ◌*◌, ◌≤◌, ℕ, Bool, true, false, List, Option, Some, None, Result, Ok, Err}
 use Rattle.zst_outside.specs.Images.{DiskState}
-use Rattle.zst_space.specs.FreeSectors.{FreeSectors}
 use Rattle.zst_block.specs.Blocks.{Has}
 use Rattle.zst_block.specs.IoCalls as blocks
+use Rattle.zst_block.specs.IoStates.{IoState}
 use Rattle.zst_block.specs.declared.fault.BlockFault.{BlockFault}
 use Rattle.zst_block.specs.declared.fault.BlockFault.TheVariants as block_faults
 use Rattle.zst_model.specs.declared.refusals.refusal.Refusal.{Refusal}
@@ -89,14 +89,18 @@ JudgesHead bound has set name pool change (Ok done) =
 JudgesHead bound has set name pool change (Err fault) = StepFault (Unit {0}) (change >>= λ after. committed (with_head_of name after pool)) fault
 
 -- a change that touches so many cells, and writes one block of so many sectors beside those of the trees
-abbrev pub Works : ℕ → ℕ → DiskState → FreeSectors → Bool → DiskState → FreeSectors → Bool → Option BlockFault → Type 0
-Works cells block old old_space old_failed new new_space new_failed stop = blocks.Works (block + 640 * cells) block old old_space old_failed new new_space new_failed stop
+abbrev pub Works : ℕ → ℕ → (old new : IoState) → Option BlockFault → Type 0
+Works cells block old new stop = blocks.Works (block + 640 * cells) block old new stop
+
+-- the Io of a pool at rest on this disk: free is what its latest body leaves free
+abbrev pub rested : DiskState → Bool → ℕ → PoolState → IoState
+rested disk failed reference kept = record { disk = disk; space = free_by kept.body; failed = failed; reference = reference }
 
 -- Since a start at which a pool was at rest a command changed the head of a dataset as `make` says, or could not: what stands then, and what was answered.
-pub record ChangedHead (kept : PoolState) (name : List ℕ) (make : Pool → DatedState → Result DatedState Refusal) (cost : Cost) (start : DiskState) (start_failed : Bool) (now : DiskState) (space : FreeSectors) (failed : Bool) (set : ObjSet) (changed : Result (Unit {0}) HeadFault) : Type 0 where
-  pub made : {tight : Bool} (running : Pool) → now.honest → IsAtRest tight start kept running
-      → (head : DatedState) × ChangesHead (bound_of tight (running.number + 1)) (Has now.seen space) set (make running head) changed
+pub record ChangedHead (kept : PoolState) (name : List ℕ) (make : Pool → DatedState → Result DatedState Refusal) (cost : Cost) (start now : IoState) (set : ObjSet) (changed : Result (Unit {0}) HeadFault) : Type 0 where
+  pub made : {tight : Bool} (running : Pool) → now.disk.honest → IsAtRest tight start.disk kept running
+      → (head : DatedState) × ChangesHead (bound_of tight (running.number + 1)) (Has now.disk.seen now.space) set (make running head) changed
       × (on_head name running (make running) ≡ (make running head >>= λ after. committed (with_head_of name after running)))
   -- whatever is there, and where a pool was at rest
-  pub works : (block : ℕ) × (block ≤ cost.most) × Works cost.cells block start (free_by kept.body) start_failed now space failed (stop_of changed)
-  pub exact : (running : Pool) → now.honest → IsAtRest false start kept running → Works cost.cells (cost.block running) start (free_by kept.body) start_failed now space failed (stop_of changed)
+  pub works : (block : ℕ) × (block ≤ cost.most) × Works cost.cells block start now (stop_of changed)
+  pub exact : (running : Pool) → now.disk.honest → IsAtRest false start.disk kept running → Works cost.cells (cost.block running) start now (stop_of changed)

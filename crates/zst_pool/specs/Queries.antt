@@ -1,9 +1,8 @@
 -- What a command that only answers does: it reads, and changes neither the disk nor what is kept.
-use Rattle.std.specs.Prelude.{◌≡◌, ℕ, Bool, List, Option, Some, None, Result, Ok, Err, IfErr}
-use Rattle.zst_outside.specs.Images.{DiskState}
-use Rattle.zst_space.specs.FreeSectors.{FreeSectors}
+use Rattle.std.specs.Prelude.{◌≡◌, ℕ, List, Option, Some, None, Result, Ok, Err, IfErr}
 use Rattle.zst_block.specs.Blocks.{Has}
 use Rattle.zst_block.specs.IoCalls.{Looks}
+use Rattle.zst_block.specs.IoStates.{IoState}
 use Rattle.zst_block.specs.declared.fault.BlockFault.{BlockFault}
 use Rattle.zst_block.specs.declared.fault.BlockFault.TheVariants as blocks
 use Rattle.zst_model.specs.declared.refusals.subjects.Name.{Name}
@@ -40,11 +39,11 @@ TellsAnswer pool definition (Ok reply) = definition ≡ answered pool reply
 TellsAnswer pool definition (Err fault) = StepFault (Unit {0}) definition fault
 
 -- a command that only answers: by its definition where the rows stand for a pool, and what is so whatever the image is
-pub record Tells (definition : Pool → Result Stepped Refusal) (damage : DamageFact) (kept : PoolState) (old : DiskState) (space : FreeSectors) (old_failed : Bool) (new : DiskState) (left : FreeSectors) (new_failed : Bool) (result : Result (List (List ℕ)) PoolFault) : Type 0 where
-  pub told : (pool : Pool) → new.honest → RunsBy None (Has old.seen space) kept.dir pool → TellsAnswer pool (definition pool) result
-  pub looks : Looks old space old_failed new left new_failed (stop_of result)
+pub record Tells (definition : Pool → Result Stepped Refusal) (damage : DamageFact) (kept : PoolState) (old new : IoState) (result : Result (List (List ℕ)) PoolFault) : Type 0 where
+  pub told : (pool : Pool) → new.disk.honest → RunsBy None (Has old.disk.seen old.space) kept.dir pool → TellsAnswer pool (definition pool) result
+  pub looks : Looks old new (stop_of result)
   pub open_still : ¬ (result ≡ Err faults.Failed)
-  pub damaged : new.honest → IfErr result (IsOf damage)
+  pub damaged : new.disk.honest → IfErr result (IsOf damage)
 
 -- a set holds the state of this name
 pub record HoldsNamed (has : Blocks) (name : Name) (pool : Pool) (set : ObjSet) : Type 0 where

@@ -1,5 +1,6 @@
 // The command that gives up a partial state.
 ghost use Rattle.std.specs.Prelude.{◌≡◌, ◌⊎◌, ◌<◌, ◌≤◌, ◌^◌, [], true, Result, Ok, OnOk, IfErr, IfOk, bytes_eq, length};
+ghost use Rattle.zst_block.specs.IoStates.{disk_of, io_of};
 ghost use Rattle.std.specs.List.{list_any};
 ghost use Rattle.zst_model.specs.declared.refusals.refusal.Refusal.{Refusal};
 ghost use Rattle.zst_model.specs.pools.Pool.{Pool};
@@ -69,10 +70,9 @@ pub fn abort<D: Disk>(
     dataset: &DatasetName,
 ) -> Result<PoolState, PoolFault>
     requires space { io.old.space ≡ free_by kept.now.body }
-    requires ready { Ready (D.state io.old.disk.now) kept.now.body }
-    ensures runs { Runs (with_aborted [] dataset.now) (cells_only 0) NoDamage kept.now (D.state io.old.disk.now) io.old.failed (D.state io.new.disk.now) io.new.space io.new.failed result }
+    requires ready { Ready (disk_of io.old) kept.now.body }
+    ensures runs { Runs (with_aborted [] dataset.now) (cells_only 0) NoDamage kept.now (io_of io.old) (io_of io.new) result }
     ensures plans { Plans (with_aborted [] dataset.now) 0 0 kept.now result }
-    ensures same { io.new.disk.ghost_name ≡ io.old.disk.ghost_name }
 {
     plan_abort(kept, dataset)?;
     let dir = dir_aborted(alloc, &kept.dir, dataset)?;

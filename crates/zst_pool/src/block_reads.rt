@@ -1,7 +1,8 @@
 //! The command that reads a block: it only answers.
 ghost use Rattle.std.specs.Prelude.{◌≡◌, ◌⊎◌, ◌+◌, ◌<◌, ◌≤◌, ℕ, List, [], Result, Ok, Err, IfErr, IfOk, OnOk, None, Some, is_some, true};
 ghost use Rattle.zst_space.specs.FreeSectors.{FreeSectors};
-ghost use Rattle.zst_block.specs.Blocks.{FitsDisk, Has};
+ghost use Rattle.zst_block.specs.Blocks.{Has};
+ghost use Rattle.zst_block.specs.IoStates.{IsHonest, blocks_of, disk_of, io_of};
 ghost use Rattle.zst_block.specs.IoCalls.{Looks};
 ghost use Rattle.zst_model.specs.declared.refusals.plan_fault.PlanFault.{PlanFault};
 ghost use Rattle.zst_model.specs.declared.refusals.refusal.Refusal.{Refusal};
@@ -71,14 +72,12 @@ fn read_in<D: Disk>(
     index: u64,
 ) -> Result<Reply, PoolFault>
     requires object { 0 < object }
-    requires fits { FitsDisk (D.state io.old.disk.now).size io.old.space }
-    ensures told { (pool : Pool) (state : DatedState) → (D.state io.new.disk.now).honest → SetHolds (Has (D.state io.old.disk.now).seen io.old.space) set.now state
+    ensures told { (pool : Pool) (state : DatedState) → IsHonest io.new → SetHolds (blocks_of io.old) set.now state
         → TellsAnswer pool (block_told pool (found_at object index state)) result }
-    ensures looks { Looks (D.state io.old.disk.now) io.old.space io.old.failed (D.state io.new.disk.now) io.new.space io.new.failed (stop_of result) }
+    ensures looks { Looks (io_of io.old) (io_of io.new) (stop_of result) }
     ensures open_still { ¬ (result ≡ Err PoolFault.Failed) }
-    ensures damaged { (D.state io.new.disk.now).honest → IfErr result (IsOf (read_damage (D.state io.old.disk.now) set.now)) }
+    ensures damaged { IsHonest io.new → IfErr result (IsOf (read_damage (disk_of io.old) set.now)) }
     ensures limits { (fault : PlanFault) → result ≡ Err (PoolFault.Plan fault) → IsPast 0 (index + 1) fault }
-    ensures same { io.new.disk.ghost_name ≡ io.old.disk.ghost_name }
 {
     let Some(dnode) = set.attr(io, object)? else {
         return Err(PoolFault::CannotApply(ApplyFault::NoObject));
@@ -99,10 +98,8 @@ pub fn read_block<D: Disk>(
     index: u64,
 ) -> Result<Reply, PoolFault>
     requires object { 0 < object }
-    requires fits { FitsDisk (D.state io.old.disk.now).size io.old.space }
-    ensures tells { (now : ℕ) → Tells (λ pool. stepped [] now (Command.Read name object index) pool) (OfSet kept.now.dir name (read_damage (D.state io.old.disk.now))) kept.now (D.state io.old.disk.now) io.old.space io.old.failed (D.state io.new.disk.now) io.new.space io.new.failed result }
+    ensures tells { (now : ℕ) → Tells (λ pool. stepped [] now (Command.Read name object index) pool) (OfSet kept.now.dir name (read_damage (disk_of io.old))) kept.now (io_of io.old) (io_of io.new) result }
     ensures plans { (now : ℕ) → Plans (λ pool. stepped [] now (Command.Read name object index) pool) 0 (index + 1) kept.now result }
-    ensures same { io.new.disk.ghost_name ≡ io.old.disk.ghost_name }
 {
     reads_are_commands();
     let set = open_set(&kept.dir, name)?;

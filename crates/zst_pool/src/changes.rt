@@ -1,7 +1,7 @@
 // What a command makes of the object set of a head.
 ghost use Rattle.std.specs.Prelude.{◌≡◌, ◌+◌, ◌/◌, ◌<◌, ◌≤◌, ℕ, Bool, true, length, Err, IfErr, IfOk, IfSome, OnOk};
-ghost use Rattle.zst_block.specs.Blocks.{FitsDisk, Has};
 ghost use Rattle.zst_block.specs.IoCalls.{Looks};
+ghost use Rattle.zst_block.specs.IoStates.{IsHonest, blocks_of, disk_of, io_of};
 ghost use Rattle.zst_model.specs.declared.refusals.plan_fault.PlanFault.{PlanFault};
 ghost use Rattle.zst_model.specs.states.DatedState.{DatedState, size_at};
 ghost use Rattle.zst_model.specs.states.State.{is_block_size, IsHead, IsBonus, IsSpill};
@@ -47,18 +47,16 @@ pub fn change_object<D: Disk>(
     bonus: Bytes,
     spill: Option<Bytes>,
 ) -> Result<(), HeadFault>
-    requires fits { FitsDisk (D.state io.old.disk.now).size io.old.space }
     requires object { 0 < object }
     requires head { IsHead head }
     requires bonus { IsBonus bonus }
     requires spill { IfSome spill IsSpill }
-    ensures changed { (tight : Bool) (pool : Pool) (old : DatedState) → (D.state io.new.disk.now).honest → pool.number + 1 ≡ number → SetIs (bound_of tight number) (Has (D.state io.old.disk.now).seen io.old.space) set.old old
-        → ChangesHead (bound_of tight number) (Has (D.state io.new.disk.now).seen io.new.space) set.new (put_in pool object head bonus spill old) result }
-    ensures works { Works (object_cells spill) (spill_sectors spill) (D.state io.old.disk.now) io.old.space io.old.failed (D.state io.new.disk.now) io.new.space io.new.failed (stop_of result) }
-    ensures damaged { (D.state io.new.disk.now).honest → IfHeadDamaged result (slots_damage (D.state io.old.disk.now) io.old.space set.old) }
+    ensures changed { (tight : Bool) (pool : Pool) (old : DatedState) → IsHonest io.new → pool.number + 1 ≡ number → SetIs (bound_of tight number) (blocks_of io.old) set.old old
+        → ChangesHead (bound_of tight number) (blocks_of io.new) set.new (put_in pool object head bonus spill old) result }
+    ensures works { Works (object_cells spill) (spill_sectors spill) (io_of io.old) (io_of io.new) (stop_of result) }
+    ensures damaged { IsHonest io.new → IfHeadDamaged result (slots_damage (disk_of io.old) io.old.space set.old) }
     ensures levels { OnOk result (SetFits set.new) }
     ensures limits { (fault : PlanFault) → of_change result ≡ Err (PoolFault.Plan fault) → IsPast (object + 1) 0 fault }
-    ensures same { io.new.disk.ghost_name ≡ io.old.disk.ghost_name }
 {
     changes_are_commands();
     answer(set.put_object(io, object, head, bonus.as_slice(), false, number))?;
@@ -76,16 +74,14 @@ fn find_size<D: Disk>(
     object: u64,
     bytes: &[u8],
 ) -> Result<u32, HeadFault>
-    requires fits { FitsDisk (D.state io.old.disk.now).size io.old.space }
     requires object { 0 < object }
-    ensures found { (pool : Pool) (index : ℕ) (head : DatedState) → (D.state io.new.disk.now).honest → SetHolds (Has (D.state io.old.disk.now).seen io.old.space) set.now head
+    ensures found { (pool : Pool) (index : ℕ) (head : DatedState) → IsHonest io.new → SetHolds (blocks_of io.old) set.now head
         → FindsSize (written pool object index bytes.now head) (size_at (head.state object)) result }
     ensures limits { IfErr result (λ fell. (fault : PlanFault) → of_head fell ≡ PoolFault.Plan fault → ⊥) }
     ensures size { IfOk result (λ size. is_block_size size ≡ true) }
     ensures room { IfOk result (λ size. length bytes.now ≤ size) }
-    ensures looks { Looks (D.state io.old.disk.now) io.old.space io.old.failed (D.state io.new.disk.now) io.new.space io.new.failed (stop_of result) }
-    ensures damaged { (D.state io.new.disk.now).honest → IfHeadDamaged result (IsDamagedSet (IsSeen (D.state io.old.disk.now).seen) (D.state io.old.disk.now).size set.now) }
-    ensures same { io.new.disk.ghost_name ≡ io.old.disk.ghost_name }
+    ensures looks { Looks (io_of io.old) (io_of io.new) (stop_of result) }
+    ensures damaged { IsHonest io.new → IfHeadDamaged result (IsDamagedSet (IsSeen (disk_of io.old).seen) (disk_of io.old).size set.now) }
 {
     match set.attr(io, object) {
         Ok(None) => Err(HeadFault::Set(ObjFault::CannotApply(ApplyFault::NoObject))),
@@ -118,17 +114,15 @@ pub fn change_block<D: Disk>(
     index: u64,
     bytes: &[u8],
 ) -> Result<(), HeadFault>
-    requires fits { FitsDisk (D.state io.old.disk.now).size io.old.space }
     requires object { 0 < object }
-    ensures changed { (tight : Bool) (pool : Pool) (head : DatedState) → (D.state io.new.disk.now).honest → pool.number + 1 ≡ number → SetIs (bound_of tight number) (Has (D.state io.old.disk.now).seen io.old.space) set.old head
-        → ChangesHead (bound_of tight number) (Has (D.state io.new.disk.now).seen io.new.space) set.new (written pool object index bytes.now head) result }
-    ensures works { (block : ℕ) × (block ≤ 256) × Works 1 block (D.state io.old.disk.now) io.old.space io.old.failed (D.state io.new.disk.now) io.new.space io.new.failed (stop_of result) }
-    ensures exact { (head : DatedState) → (D.state io.new.disk.now).honest → SetHolds (Has (D.state io.old.disk.now).seen io.old.space) set.old head
-        → Works 1 (size_at (head.state object) / 512) (D.state io.old.disk.now) io.old.space io.old.failed (D.state io.new.disk.now) io.new.space io.new.failed (stop_of result) }
-    ensures damaged { (D.state io.new.disk.now).honest → IfHeadDamaged result (block_damage (D.state io.old.disk.now) io.old.space set.old) }
+    ensures changed { (tight : Bool) (pool : Pool) (head : DatedState) → IsHonest io.new → pool.number + 1 ≡ number → SetIs (bound_of tight number) (blocks_of io.old) set.old head
+        → ChangesHead (bound_of tight number) (blocks_of io.new) set.new (written pool object index bytes.now head) result }
+    ensures works { (block : ℕ) × (block ≤ 256) × Works 1 block (io_of io.old) (io_of io.new) (stop_of result) }
+    ensures exact { (head : DatedState) → IsHonest io.new → SetHolds (blocks_of io.old) set.old head
+        → Works 1 (size_at (head.state object) / 512) (io_of io.old) (io_of io.new) (stop_of result) }
+    ensures damaged { IsHonest io.new → IfHeadDamaged result (block_damage (disk_of io.old) io.old.space set.old) }
     ensures levels { OnOk result (SetFits set.new) }
     ensures limits { (fault : PlanFault) → of_change result ≡ Err (PoolFault.Plan fault) → IsPast 0 (index + 1) fault }
-    ensures same { io.new.disk.ghost_name ≡ io.old.disk.ghost_name }
 {
     changes_are_commands();
     let size = find_size(io, set, object, bytes)?;
@@ -145,15 +139,13 @@ pub fn change_holes<D: Disk>(
     first: u64,
     count: u64,
 ) -> Result<(), HeadFault>
-    requires fits { FitsDisk (D.state io.old.disk.now).size io.old.space }
     requires object { 0 < object }
-    ensures changed { (tight : Bool) (pool : Pool) (head : DatedState) → (D.state io.new.disk.now).honest → pool.number + 1 ≡ number → SetIs (bound_of tight number) (Has (D.state io.old.disk.now).seen io.old.space) set.old head
-        → ChangesHead (bound_of tight number) (Has (D.state io.new.disk.now).seen io.new.space) set.new (punched pool object first count head) result }
-    ensures works { Works 2 0 (D.state io.old.disk.now) io.old.space io.old.failed (D.state io.new.disk.now) io.new.space io.new.failed (stop_of result) }
-    ensures damaged { (D.state io.new.disk.now).honest → IfHeadDamaged result (range_damage (D.state io.old.disk.now) io.old.space set.old) }
+    ensures changed { (tight : Bool) (pool : Pool) (head : DatedState) → IsHonest io.new → pool.number + 1 ≡ number → SetIs (bound_of tight number) (blocks_of io.old) set.old head
+        → ChangesHead (bound_of tight number) (blocks_of io.new) set.new (punched pool object first count head) result }
+    ensures works { Works 2 0 (io_of io.old) (io_of io.new) (stop_of result) }
+    ensures damaged { IsHonest io.new → IfHeadDamaged result (range_damage (disk_of io.old) io.old.space set.old) }
     ensures levels { OnOk result (SetFits set.new) }
     ensures limits { (fault : PlanFault) → of_change result ≡ Err (PoolFault.Plan fault) → IsPast 0 (first + count) fault }
-    ensures same { io.new.disk.ghost_name ≡ io.old.disk.ghost_name }
 {
     changes_are_commands();
     answer(set.punch(io, object, first, count, number))
@@ -167,15 +159,13 @@ pub fn change_numbers<D: Disk>(
     first: u64,
     count: u64,
 ) -> Result<(), HeadFault>
-    requires fits { FitsDisk (D.state io.old.disk.now).size io.old.space }
     requires first { 0 < first }
-    ensures changed { (tight : Bool) (pool : Pool) (head : DatedState) → (D.state io.new.disk.now).honest → pool.number + 1 ≡ number → SetIs (bound_of tight number) (Has (D.state io.old.disk.now).seen io.old.space) set.old head
-        → ChangesHead (bound_of tight number) (Has (D.state io.new.disk.now).seen io.new.space) set.new (freed pool first count head) result }
-    ensures works { Works 2 0 (D.state io.old.disk.now) io.old.space io.old.failed (D.state io.new.disk.now) io.new.space io.new.failed (stop_of result) }
-    ensures damaged { (D.state io.new.disk.now).honest → IfHeadDamaged result (slots_damage (D.state io.old.disk.now) io.old.space set.old) }
+    ensures changed { (tight : Bool) (pool : Pool) (head : DatedState) → IsHonest io.new → pool.number + 1 ≡ number → SetIs (bound_of tight number) (blocks_of io.old) set.old head
+        → ChangesHead (bound_of tight number) (blocks_of io.new) set.new (freed pool first count head) result }
+    ensures works { Works 2 0 (io_of io.old) (io_of io.new) (stop_of result) }
+    ensures damaged { IsHonest io.new → IfHeadDamaged result (slots_damage (disk_of io.old) io.old.space set.old) }
     ensures levels { SetFits set.old → SetFits set.new }
     ensures limits { (fault : PlanFault) → of_change result ≡ Err (PoolFault.Plan fault) → IsPast (first + count) 0 fault }
-    ensures same { io.new.disk.ghost_name ≡ io.old.disk.ghost_name }
 {
     changes_are_commands();
     answer(set.free_objects(io, first, count, number))

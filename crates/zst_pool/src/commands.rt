@@ -1,5 +1,6 @@
 // The commands that commit, each over the Io of a pool that hasn't failed.
 ghost use Rattle.std.specs.Prelude.{◌≡◌, ◌⊎◌, ◌+◌, ◌*◌, ◌<◌, ◌≤◌, ◌^◌, [], None, false, Result, Err, bytes_eq, length, IfOk};
+ghost use Rattle.zst_block.specs.IoStates.{disk_of, io_of};
 ghost use Rattle.std.specs.List.{list_any};
 ghost use Rattle.zst_names.specs.Names.{dataset_of};
 ghost use Rattle.zst_model.specs.pools.Pool.{inserted};
@@ -54,14 +55,13 @@ pub fn commit_rows<D: Disk>(
     dir: Dir,
 ) -> Result<PoolState, PoolFault>
     requires space { io.old.space ≡ free_by kept.now.body }
-    requires ready { Ready (D.state io.old.disk.now) kept.now.body }
+    requires ready { Ready (disk_of io.old) kept.now.body }
     requires number { kept.now.body.number < 2 ^ 63 }
     requires grows { length (dir_bytes dir) ≤ length (dir_bytes kept.now.dir) + 1024 }
     // What each definition does that makes these rows of the pool that runs.
     ensures runs { (definition : Plain → Result Stepped Refusal) → MakesOfEach definition kept.now guids dir
-        → Runs definition (cells_only 0) NoDamage kept.now (D.state io.old.disk.now) io.old.failed (D.state io.new.disk.now) io.new.space io.new.failed result }
+        → Runs definition (cells_only 0) NoDamage kept.now (io_of io.old) (io_of io.new) result }
     ensures unplanned { (fault : PlanFault) → ¬ (result ≡ Err (PoolFault.Plan fault)) }
-    ensures same { io.new.disk.ghost_name ≡ io.old.disk.ghost_name }
 {
     let _lawful = dir.datasets();
     of_committed(commit_dir(io, alloc, &kept.body, guids, dir))
@@ -77,10 +77,9 @@ pub fn make_dataset<D: Disk>(
 ) -> Result<PoolState, PoolFault>
     requires kind { (kind ≡ 2) ⊎ (kind ≡ 3) }
     requires space { io.old.space ≡ free_by kept.now.body }
-    requires ready { Ready (D.state io.old.disk.now) kept.now.body }
-    ensures runs { Runs (with_dataset (new_dataset kind name.now)) (cells_only 0) NoDamage kept.now (D.state io.old.disk.now) io.old.failed (D.state io.new.disk.now) io.new.space io.new.failed result }
+    requires ready { Ready (disk_of io.old) kept.now.body }
+    ensures runs { Runs (with_dataset (new_dataset kind name.now)) (cells_only 0) NoDamage kept.now (io_of io.old) (io_of io.new) result }
     ensures plans { Plans (with_dataset (new_dataset kind name.now)) 0 0 kept.now result }
-    ensures same { io.new.disk.ghost_name ≡ io.old.disk.ghost_name }
 {
     check_new_dataset(&kept.dir, name)?;
     check_number(kept.body.number)?;
@@ -132,10 +131,9 @@ pub fn take_snapshot<D: Disk>(
     name: &SnapName,
 ) -> Result<PoolState, PoolFault>
     requires space { io.old.space ≡ free_by kept.now.body }
-    requires ready { Ready (D.state io.old.disk.now) kept.now.body }
-    ensures runs { Runs (with_snapshot now name.now) (cells_only 0) NoDamage kept.now (D.state io.old.disk.now) io.old.failed (D.state io.new.disk.now) io.new.space io.new.failed result }
+    requires ready { Ready (disk_of io.old) kept.now.body }
+    ensures runs { Runs (with_snapshot now name.now) (cells_only 0) NoDamage kept.now (io_of io.old) (io_of io.new) result }
     ensures plans { Plans (with_snapshot now name.now) 0 0 kept.now result }
-    ensures same { io.new.disk.ghost_name ≡ io.old.disk.ghost_name }
 {
     let dataset = plan_snapshot(kept, name)?;
     let snapshot = new_snapshot(&kept.body, dataset, now, name);

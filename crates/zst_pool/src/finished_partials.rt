@@ -1,6 +1,7 @@
 // What a receive does to a pool when it has all of its stream.
 ghost use Rattle.std.specs.Prelude.{◌≡◌, ◌+◌, ◌<◌, ◌≤◌, ◌∷◌, ◌++◌, ◌||◌, ℕ, Bool, false, true, length, IfErr, IfOk, IfSome, OnErr, OnOk, Err};
-ghost use Rattle.zst_block.specs.Blocks.{Has, KeepsBlocks};
+ghost use Rattle.zst_block.specs.Blocks.{KeepsBlocks};
+ghost use Rattle.zst_block.specs.IoStates.{IsHonest, blocks_of, disk_of};
 ghost use Rattle.zst_model.specs.pools.Pool.{Pool as Plain, Partial as PlainPartial};
 ghost use Rattle.zst_dir.specs.Rows.{HasSnapshot, IsDatasetRow, IsPartialRow, IsSnapshotRow};
 ghost use Rattle.zst_dir.specs.Spelling.{dir_bytes};
@@ -92,20 +93,21 @@ fn commit_finished<D: Disk>(
     requires row { IsPartialRow partial.now }
     requires base { IfSome partial.now.base (HasSnapshot kept.now.dir) }
     requires component { HasSnapshot kept.now.dir (partial.now.target ++ 64 ∷ partial.now.snapshot) → ⊥ }
-    requires works { CanCommit (D.state io.old.disk.now) io.old.space kept.now.body }
-    ensures did { (tight : Bool) (start : D) (running : Plain) (plain : PlainPartial) → (D.state io.new.disk.now).honest → IsUnderWay tight (D.state start) (D.state io.old.disk.now) io.old.space kept.now running
-        → PartialIs (bound_of tight (running.number + 1)) (Has (D.state io.old.disk.now).seen io.old.space) partial.now plain → CallDid tight (D.state start) (D.state io.new.disk.now) kept.now running (partial_finished plain running) result }
+    requires works { CanCommit (disk_of io.old) io.old.space kept.now.body }
+    ensures did { (tight : Bool) (start : D) (running : Plain) (plain : PlainPartial) → IsHonest io.new → IsUnderWay tight (D.state start) (disk_of io.old) io.old.space kept.now running
+        → PartialIs (bound_of tight (running.number + 1)) (blocks_of io.old) partial.now plain → CallDid tight (D.state start) (disk_of io.new) kept.now running (partial_finished plain running) result }
     ensures rows { IfOk result (λ next. next.dir ≡ rows_with_finished (kept.now.body.number + 1) partial.now kept.now.dir) }
     ensures known { IfErr result IsCallFault }
     ensures full { (need largest : ℕ) → result ≡ Err (PoolFault.Full need largest) → IsCallFull io.old.space io.new.space kept.now.dir need largest }
     ensures grows { IfOk result (CallGrows io.old.space kept.now) }
-    ensures ready { IfOk result (λ next. Ready (D.state io.new.disk.now) next.body) }
+    ensures ready { IfOk result (λ next. Ready (disk_of io.new) next.body) }
     // The blocks that were there still are, over the sectors that the new body leaves free.
-    ensures blocks { IfOk result (λ next. KeepsBlocks (D.state io.old.disk.now).seen io.old.space (D.state io.new.disk.now).seen (free_by next.body)) }
-    ensures stays { io.new.failed ≡ false → OnErr result (Ready (D.state io.new.disk.now) kept.now.body) }
+    ensures blocks { IfOk result (λ next. KeepsBlocks (disk_of io.old).seen io.old.space (disk_of io.new).seen (free_by next.body)) }
+    ensures stays { io.new.failed ≡ false → OnErr result (Ready (disk_of io.new) kept.now.body) }
+    ensures size { (disk_of io.new).size ≡ (disk_of io.old).size }
     ensures failed { io.new.failed ≡ (io.old.failed || is_disk_fault result) }
-    ensures cause { HasDiskCause (D.state io.old.disk.now).faults (D.state io.new.disk.now).faults result }
-    ensures honest { (D.state io.new.disk.now).honest → (D.state io.old.disk.now).honest }
+    ensures cause { HasDiskCause (disk_of io.old).faults (disk_of io.new).faults result }
+    ensures honest { IsHonest io.new → IsHonest io.old }
     ensures same { io.new.disk.ghost_name ≡ io.old.disk.ghost_name }
 {
     // The last number is refused as it is committed.
@@ -124,13 +126,13 @@ impl<'d, D: Disk> Pool<'d, D> {
         requires row { IsPartialRow partial }
         requires base { IfSome partial.base (HasSnapshot self.old.kept.dir) }
         requires component { HasSnapshot self.old.kept.dir (partial.target ++ 64 ∷ partial.snapshot) → ⊥ }
-        requires works { self.old.io.failed ≡ false → CanCommit (D.state self.old.io.disk.now) self.old.io.space self.old.kept.body }
+        requires works { self.old.io.failed ≡ false → CanCommit (disk_of self.old.io) self.old.io.space self.old.kept.body }
 
         // From a start at which a pool was at rest, and since which blocks alone were written, each image is
         // what is kept of that pool or of the next one, as the definition says; then one of them is at rest.
-        ensures did { (tight : Bool) (start : D) (running : Plain) (plain : PlainPartial) → (D.state self.new.io.disk.now).honest → self.old.io.failed ≡ false
-            → IsUnderWay tight (D.state start) (D.state self.old.io.disk.now) self.old.io.space self.old.kept running → PartialIs (bound_of tight (running.number + 1)) (Has (D.state self.old.io.disk.now).seen self.old.io.space) partial plain
-            → CallDid tight (D.state start) (D.state self.new.io.disk.now) self.old.kept running (partial_finished plain running) (keeping self.new.kept result) }
+        ensures did { (tight : Bool) (start : D) (running : Plain) (plain : PlainPartial) → IsHonest self.new.io → self.old.io.failed ≡ false
+            → IsUnderWay tight (D.state start) (disk_of self.old.io) self.old.io.space self.old.kept running → PartialIs (bound_of tight (running.number + 1)) (blocks_of self.old.io) partial plain
+            → CallDid tight (D.state start) (disk_of self.new.io) self.old.kept running (partial_finished plain running) (keeping self.new.kept result) }
         ensures rows { OnOk result (self.new.kept.dir ≡ rows_with_finished (self.old.kept.body.number + 1) partial self.old.kept.dir) }
         ensures number { IfOk result (λ number. number ≡ self.new.kept.body.number) }
         // Whatever the image is, there is no other refusal than E23, E24, E28 and E32.
@@ -139,7 +141,7 @@ impl<'d, D: Disk> Pool<'d, D> {
         ensures grows { OnOk result (CallGrows self.old.io.space self.old.kept self.new.kept) }
         ensures stays { OnErr result (self.new.kept ≡ self.old.kept) }
         // The blocks that were there still are.
-        ensures blocks { OnOk result (KeepsBlocks (D.state self.old.io.disk.now).seen self.old.io.space (D.state self.new.io.disk.now).seen self.new.io.space) }
+        ensures blocks { OnOk result (KeepsBlocks (disk_of self.old.io).seen self.old.io.space (disk_of self.new.io).seen self.new.io.space) }
 
         // A pool that has failed answers nothing else, and does nothing.
         ensures failed_pool { self.old.io.failed ≡ true → result ≡ Err PoolFault.Failed }
@@ -147,11 +149,11 @@ impl<'d, D: Disk> Pool<'d, D> {
 
         // After E24 the sectors are those that were left when it was found.
         ensures space { (self.old.io.failed || is_full result) ≡ false → self.new.io.space ≡ free_by self.new.kept.body }
-        ensures works { (self.new.io.failed || is_full result) ≡ false → CanCommit (D.state self.new.io.disk.now) self.new.io.space self.new.kept.body }
-        ensures ready { self.new.io.failed ≡ false → Ready (D.state self.new.io.disk.now) self.new.kept.body }
+        ensures works { (self.new.io.failed || is_full result) ≡ false → CanCommit (disk_of self.new.io) self.new.io.space self.new.kept.body }
+        ensures ready { self.new.io.failed ≡ false → Ready (disk_of self.new.io) self.new.kept.body }
         ensures failed { self.new.io.failed ≡ (self.old.io.failed || is_disk_fault result) }
-        ensures cause { HasDiskCause (D.state self.old.io.disk.now).faults (D.state self.new.io.disk.now).faults result }
-        ensures honest { (D.state self.new.io.disk.now).honest → (D.state self.old.io.disk.now).honest }
+        ensures cause { HasDiskCause (disk_of self.old.io).faults (disk_of self.new.io).faults result }
+        ensures honest { IsHonest self.new.io → IsHonest self.old.io }
         ensures same { self.new.io.disk.ghost_name ≡ self.old.io.disk.ghost_name }
     {
         if self.io.failed {

@@ -1,7 +1,8 @@
 // The commands on a dataset's head, each over the Io of a pool that hasn't failed.
 ghost use Rattle.std.specs.Prelude.{◌≡◌, ◌⊎◌, ◌+◌, ◌<◌, ◌≤◌, ◌^◌, ℕ, Bool, true, List, Option, Result, Err, length, IfErr, IfSome, OnOk, IfOk, is_ok};
 ghost use Rattle.zst_space.specs.FreeSectors.{FreeSectors};
-ghost use Rattle.zst_block.specs.Blocks.{FitsDisk, Has};
+ghost use Rattle.zst_block.specs.Blocks.{Has};
+ghost use Rattle.zst_block.specs.IoStates.{IsHonest, disk_of, io_of};
 ghost use Rattle.zst_names.specs.Names.{IsDataset};
 ghost use Rattle.zst_model.specs.declared.refusals.plan_fault.PlanFault.{PlanFault};
 ghost use Rattle.zst_model.specs.declared.refusals.refusal.Refusal.{Refusal};
@@ -12,7 +13,7 @@ ghost use Rattle.zst_model.specs.pools.Step.{on_head, punched, written};
 ghost use Rattle.zst_tree.specs.Sets.{SetFits};
 ghost use Rattle.zst_tree.specs.declared.tree.ObjSet.{ObjSet as ObjectSet};
 ghost use Rattle.zst_pool.specs.Checks.{FindsHead, freed, put_in};
-ghost use Rattle.zst_pool.specs.Heads.{ChangedHead, ChangesHead, JudgesHead, Stops, is_accepted, of_change, stop_of};
+ghost use Rattle.zst_pool.specs.Heads.{ChangedHead, ChangesHead, JudgesHead, Stops, is_accepted, of_change, rested, stop_of};
 ghost use Rattle.zst_dir.specs.RowNames.{AreNamed};
 ghost use Rattle.zst_image.specs.Reads.{free_by};
 ghost use Rattle.zst_pool.specs.Cost.{Cost, cells_only, object_cost, write_cost};
@@ -105,15 +106,14 @@ fn commit_head<D: Disk>(
     set: ObjSet,
     changed: Result<(), HeadFault>,
 ) -> Result<PoolState, PoolFault>
-    requires fits { FitsDisk (D.state io.old.disk.now).size io.old.space }
     requires sectors { io.old.space.sectors ≡ kept.now.body.sectors }
-    requires ready { Ready (D.state io.old.disk.now) kept.now.body }
+    requires ready { Ready (disk_of io.old) kept.now.body }
     requires levels { OnOk changed (SetFits set) }
-    ensures ran { (start : D) (start_failed : Bool) (make : Pool → DatedState → Result DatedState Refusal) (cost : Cost)
-        → ChangedHead kept.now name.now make cost (D.state start) start_failed (D.state io.old.disk.now) io.old.space io.old.failed set changed
-        → Ran (λ pool. on_head name.now pool (make pool)) cost kept.now (D.state start) start_failed (D.state io.new.disk.now) io.new.space io.new.failed result }
+    ensures ran { (start : D) (failed : Bool) (reference : ℕ) (make : Pool → DatedState → Result DatedState Refusal) (cost : Cost)
+        → ChangedHead kept.now name.now make cost (rested (D.state start) failed reference kept.now) (io_of io.old) set changed
+        → Ran (λ pool. on_head name.now pool (make pool)) cost kept.now (rested (D.state start) failed reference kept.now) (io_of io.new) result }
     ensures damaged { (sector : ℕ) (stated found : List ℕ) → result ≡ Err (PoolFault.Damaged sector stated found) → changed ≡ Err (HeadFault.Set (ObjFault.Block (BlockFault.Damaged sector stated found))) }
-    ensures honest { (D.state io.new.disk.now).honest → (D.state io.old.disk.now).honest }
+    ensures honest { IsHonest io.new → IsHonest io.old }
     ensures plans { (fault : PlanFault) → result ≡ Err (PoolFault.Plan fault) → (of_change changed ≡ Err (PoolFault.Plan fault)) ⊎ IsLast kept.now.body.number fault }
     ensures same { io.new.disk.ghost_name ≡ io.old.disk.ghost_name }
 {
@@ -140,10 +140,9 @@ pub fn put_object<D: Disk>(
     requires bonus { IsBonus bonus }
     requires spill { IfSome spill IsSpill }
     requires space { io.old.space ≡ free_by kept.now.body }
-    requires ready { Ready (D.state io.old.disk.now) kept.now.body }
-    ensures runs { Runs (λ pool. on_head name.now pool (put_in pool object head bonus spill)) (object_cost spill) (OfHead kept.now.dir name.now (slots_damage (D.state io.old.disk.now) (free_by kept.now.body))) kept.now (D.state io.old.disk.now) io.old.failed (D.state io.new.disk.now) io.new.space io.new.failed result }
+    requires ready { Ready (disk_of io.old) kept.now.body }
+    ensures runs { Runs (λ pool. on_head name.now pool (put_in pool object head bonus spill)) (object_cost spill) (OfHead kept.now.dir name.now (slots_damage (disk_of io.old) (free_by kept.now.body))) kept.now (io_of io.old) (io_of io.new) result }
     ensures plans { Plans (λ pool. on_head name.now pool (put_in pool object head bonus spill)) (object + 1) 0 kept.now result }
-    ensures same { io.new.disk.ghost_name ≡ io.old.disk.ghost_name }
 {
     let mut set = open_head(&kept.dir, name)?;
     let number = next_number(&kept.body);
@@ -165,10 +164,9 @@ pub fn write_block<D: Disk>(
     requires some { 0 < length bytes.now }
     requires small { length bytes.now ≤ 2 ^ 20 }
     requires space { io.old.space ≡ free_by kept.now.body }
-    requires ready { Ready (D.state io.old.disk.now) kept.now.body }
-    ensures runs { Runs (λ pool. on_head name.now pool (written pool object index bytes.now)) (write_cost name.now object) (OfHead kept.now.dir name.now (block_damage (D.state io.old.disk.now) (free_by kept.now.body))) kept.now (D.state io.old.disk.now) io.old.failed (D.state io.new.disk.now) io.new.space io.new.failed result }
+    requires ready { Ready (disk_of io.old) kept.now.body }
+    ensures runs { Runs (λ pool. on_head name.now pool (written pool object index bytes.now)) (write_cost name.now object) (OfHead kept.now.dir name.now (block_damage (disk_of io.old) (free_by kept.now.body))) kept.now (io_of io.old) (io_of io.new) result }
     ensures plans { Plans (λ pool. on_head name.now pool (written pool object index bytes.now)) 0 (index + 1) kept.now result }
-    ensures same { io.new.disk.ghost_name ≡ io.old.disk.ghost_name }
 {
     let mut set = open_head(&kept.dir, name)?;
     let number = next_number(&kept.body);
@@ -189,10 +187,9 @@ pub fn punch<D: Disk>(
     requires object { 0 < object }
     requires some { 0 < count }
     requires space { io.old.space ≡ free_by kept.now.body }
-    requires ready { Ready (D.state io.old.disk.now) kept.now.body }
-    ensures runs { Runs (λ pool. on_head name.now pool (punched pool object first count)) (cells_only 2) (OfHead kept.now.dir name.now (range_damage (D.state io.old.disk.now) (free_by kept.now.body))) kept.now (D.state io.old.disk.now) io.old.failed (D.state io.new.disk.now) io.new.space io.new.failed result }
+    requires ready { Ready (disk_of io.old) kept.now.body }
+    ensures runs { Runs (λ pool. on_head name.now pool (punched pool object first count)) (cells_only 2) (OfHead kept.now.dir name.now (range_damage (disk_of io.old) (free_by kept.now.body))) kept.now (io_of io.old) (io_of io.new) result }
     ensures plans { Plans (λ pool. on_head name.now pool (punched pool object first count)) 0 (first + count) kept.now result }
-    ensures same { io.new.disk.ghost_name ≡ io.old.disk.ghost_name }
 {
     let mut set = open_head(&kept.dir, name)?;
     let number = next_number(&kept.body);
@@ -212,10 +209,9 @@ pub fn free_objects<D: Disk>(
     requires first { 0 < first }
     requires some { 0 < count }
     requires space { io.old.space ≡ free_by kept.now.body }
-    requires ready { Ready (D.state io.old.disk.now) kept.now.body }
-    ensures runs { Runs (λ pool. on_head name.now pool (freed pool first count)) (cells_only 2) (OfHead kept.now.dir name.now (slots_damage (D.state io.old.disk.now) (free_by kept.now.body))) kept.now (D.state io.old.disk.now) io.old.failed (D.state io.new.disk.now) io.new.space io.new.failed result }
+    requires ready { Ready (disk_of io.old) kept.now.body }
+    ensures runs { Runs (λ pool. on_head name.now pool (freed pool first count)) (cells_only 2) (OfHead kept.now.dir name.now (slots_damage (disk_of io.old) (free_by kept.now.body))) kept.now (io_of io.old) (io_of io.new) result }
     ensures plans { Plans (λ pool. on_head name.now pool (freed pool first count)) (first + count) 0 kept.now result }
-    ensures same { io.new.disk.ghost_name ≡ io.old.disk.ghost_name }
 {
     let mut set = open_head(&kept.dir, name)?;
     let number = next_number(&kept.body);

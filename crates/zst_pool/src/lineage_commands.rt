@@ -1,5 +1,6 @@
 // The commands that make clones and bookmarks, and those that leave rows out.
 ghost use Rattle.std.specs.Prelude.{◌≡◌, ◌+◌, ◌≤◌, [], IfOk, length};
+ghost use Rattle.zst_block.specs.IoStates.{disk_of, io_of};
 ghost use Rattle.zst_model.specs.pools.Step.{with_bookmark, with_clone, with_destroyed, with_rollback};
 ghost use Rattle.zst_dir.specs.Removal.{AreUnused, without};
 ghost use Rattle.zst_dir.specs.Spelling.{dir_bytes};
@@ -31,10 +32,9 @@ pub fn make_clone<D: Disk>(
     name: &DatasetName,
 ) -> Result<PoolState, PoolFault>
     requires space { io.old.space ≡ free_by kept.now.body }
-    requires ready { Ready (D.state io.old.disk.now) kept.now.body }
-    ensures runs { Runs (with_clone origin.now name.now) (cells_only 0) NoDamage kept.now (D.state io.old.disk.now) io.old.failed (D.state io.new.disk.now) io.new.space io.new.failed result }
+    requires ready { Ready (disk_of io.old) kept.now.body }
+    ensures runs { Runs (with_clone origin.now name.now) (cells_only 0) NoDamage kept.now (io_of io.old) (io_of io.new) result }
     ensures plans { Plans (with_clone origin.now name.now) 0 0 kept.now result }
-    ensures same { io.new.disk.ghost_name ≡ io.old.disk.ghost_name }
 {
     let row = plan_clone(kept, origin, name)?;
     let mut dir = kept.dir.copy(alloc)?;
@@ -51,10 +51,9 @@ pub fn make_bookmark<D: Disk>(
     name: &BookName,
 ) -> Result<PoolState, PoolFault>
     requires space { io.old.space ≡ free_by kept.now.body }
-    requires ready { Ready (D.state io.old.disk.now) kept.now.body }
-    ensures runs { Runs (with_bookmark snapshot.now name.now) (cells_only 0) NoDamage kept.now (D.state io.old.disk.now) io.old.failed (D.state io.new.disk.now) io.new.space io.new.failed result }
+    requires ready { Ready (disk_of io.old) kept.now.body }
+    ensures runs { Runs (with_bookmark snapshot.now name.now) (cells_only 0) NoDamage kept.now (io_of io.old) (io_of io.new) result }
     ensures plans { Plans (with_bookmark snapshot.now name.now) 0 0 kept.now result }
-    ensures same { io.new.disk.ghost_name ≡ io.old.disk.ghost_name }
 {
     let row = plan_bookmark(kept, snapshot, name)?;
     let mut dir = kept.dir.copy(alloc)?;
@@ -81,10 +80,9 @@ pub fn destroy<D: Disk>(
     name: Name,
 ) -> Result<PoolState, PoolFault>
     requires space { io.old.space ≡ free_by kept.now.body }
-    requires ready { Ready (D.state io.old.disk.now) kept.now.body }
-    ensures runs { Runs (with_destroyed [] name) (cells_only 0) NoDamage kept.now (D.state io.old.disk.now) io.old.failed (D.state io.new.disk.now) io.new.space io.new.failed result }
+    requires ready { Ready (disk_of io.old) kept.now.body }
+    ensures runs { Runs (with_destroyed [] name) (cells_only 0) NoDamage kept.now (io_of io.old) (io_of io.new) result }
     ensures plans { Plans (with_destroyed [] name) 0 0 kept.now result }
-    ensures same { io.new.disk.ghost_name ≡ io.old.disk.ghost_name }
 {
     let going = plan_destroy(kept, name)?;
     let dir = dir_without(alloc, &kept.dir, &going)?;
@@ -100,10 +98,9 @@ pub fn roll_back<D: Disk>(
     name: &SnapName,
 ) -> Result<PoolState, PoolFault>
     requires space { io.old.space ≡ free_by kept.now.body }
-    requires ready { Ready (D.state io.old.disk.now) kept.now.body }
-    ensures runs { Runs (with_rollback [] destroys name.now) (cells_only 0) NoDamage kept.now (D.state io.old.disk.now) io.old.failed (D.state io.new.disk.now) io.new.space io.new.failed result }
+    requires ready { Ready (disk_of io.old) kept.now.body }
+    ensures runs { Runs (with_rollback [] destroys name.now) (cells_only 0) NoDamage kept.now (io_of io.old) (io_of io.new) result }
     ensures plans { Plans (with_rollback [] destroys name.now) 0 0 kept.now result }
-    ensures same { io.new.disk.ghost_name ≡ io.old.disk.ghost_name }
 {
     let snapshot = plan_rollback(kept, destroys, name)?;
     let dir = dir_rolled_back(alloc, &kept.dir, snapshot)?;

@@ -1,6 +1,7 @@
 ghost use Rattle.std.specs.Prelude.{◌≡◌, ◌≤◌, ◌∷◌, ◌||◌, [], ℕ, Bool, false, true, IfErr, IfOk, OnErr, Err};
 ghost use Rattle.zst_outside.specs.Images.{Leaves, OnlyReads};
-ghost use Rattle.zst_block.specs.Blocks.{SparesTaken};
+ghost use Rattle.zst_block.specs.Blocks.{FitsDisk, SparesTaken};
+ghost use Rattle.zst_block.specs.IoStates.{IsHonest, disk_of, io_of};
 ghost use Rattle.zst_model.specs.pools.AnswerLines.{ok_line};
 ghost use Rattle.zst_model.specs.pools.Pool.{Pool as Plain};
 ghost use Rattle.zst_model.specs.pools.Soundness.{Sound};
@@ -41,11 +42,12 @@ pub struct Pool<'d, D: Disk> {
 impl<'d, D: Disk> Pool<'d, D> {
     /// The pool of which this was kept when it was made or opened on this disk.
     pub fn new(alloc: Global, disk: &'d mut D, kept: PoolState) -> Pool<'d, D>
+        requires ready { Ready (D.state disk.old) kept.body }
         ensures same { result.io.disk.ghost_name ≡ disk.entry.ghost_name }
         ensures disk { result.io.disk.now ≡ disk.old }
         ensures kept { result.kept ≡ kept }
         ensures space { result.io.space ≡ free_by kept.body }
-        ensures works { Ready (D.state disk.old) kept.body → CanCommit (D.state result.io.disk.now) result.io.space kept.body }
+        ensures works { CanCommit (disk_of result.io) result.io.space kept.body }
         ensures failed { result.io.failed ≡ false }
     {
         let space = Space::new(kept.body.end, kept.body.sectors, Vec::new(alloc));
@@ -69,15 +71,15 @@ impl<'d, D: Disk> Pool<'d, D> {
     /// After E28 the pool answers E31.
     pub fn step(&mut self, alloc: Global, now: u64, command: Command) -> Result<Reply, PoolFault>
         requires command { IsCommand command }
-        requires ready { self.old.io.failed ≡ false → Ready (D.state self.old.io.disk.now) self.old.kept.body }
+        requires ready { self.old.io.failed ≡ false → Ready (disk_of self.old.io) self.old.kept.body }
 
         // At every moment each image reads as what is kept of the pool before the command, or of what the command makes of it.
-        ensures moments { (tight : Bool) (running : Plain) → (D.state self.new.io.disk.now).honest → IsAtRest tight (D.state self.old.io.disk.now) self.old.kept running
-            → Leaves (D.state self.old.io.disk.now) (D.state self.new.io.disk.now) (BeforeOrAfter tight running (stepped [] now command running)) }
+        ensures moments { (tight : Bool) (running : Plain) → IsHonest self.new.io → IsAtRest tight (disk_of self.old.io) self.old.kept running
+            → Leaves (disk_of self.old.io) (disk_of self.new.io) (BeforeOrAfter tight running (stepped [] now command running)) }
         // After its answer what the definition makes of the pool is at rest; after a refusal the pool as it was is.
-        ensures answer { (tight : Bool) (running : Plain) → (D.state self.new.io.disk.now).honest → self.old.io.failed ≡ false
-            → IsAtRest tight (D.state self.old.io.disk.now) self.old.kept running
-            → StepAnswer tight (D.state self.new.io.disk.now) self.new.kept running (stepped [] now command running) result }
+        ensures answer { (tight : Bool) (running : Plain) → IsHonest self.new.io → self.old.io.failed ≡ false
+            → IsAtRest tight (disk_of self.old.io) self.old.kept running
+            → StepAnswer tight (disk_of self.new.io) self.new.kept running (stepped [] now command running) result }
         // E3 to E6, E14 and E23 of datasets, snapshots, bookmarks and guids come exactly where the directory says so, whatever the object sets hold, unless no memory is left before; E23 of numbers only past them.
         ensures planned { self.old.io.failed ≡ false → ¬ (result ≡ Err PoolFault.OutOfMemory)
             → Plans (λ pool. stepped [] now command pool) (numbers_end command) (indices_end command) self.old.kept result }
@@ -85,19 +87,19 @@ impl<'d, D: Disk> Pool<'d, D> {
         // Whatever the image is, no more is taken than the command costs at most, and E24 comes only where that isn't there.
         ensures spends { self.old.io.failed ≡ false → (block : ℕ) × (block ≤ (cost_of command).most) × Spends (cost_of command).cells block self.old.kept self.new.io.space (λ reply. self.new.kept) result }
         // Where a pool was at rest, no more is taken than the command costs there.
-        ensures exact { (running : Plain) → (D.state self.new.io.disk.now).honest → self.old.io.failed ≡ false → IsAtRest false (D.state self.old.io.disk.now) self.old.kept running
+        ensures exact { (running : Plain) → IsHonest self.new.io → self.old.io.failed ≡ false → IsAtRest false (disk_of self.old.io) self.old.kept running
             → Spends (cost_of command).cells ((cost_of command).block running) self.old.kept self.new.io.space (λ reply. self.new.kept) result }
         // E25 tells a damage of the object set of the command's dataset, also where the image reads as no pool.
-        ensures damaged { (D.state self.new.io.disk.now).honest → IfErr result (IsOf (TellsDamage command self.old.kept.dir (D.state self.old.io.disk.now) (free_by self.old.kept.body))) }
+        ensures damaged { IsHonest self.new.io → IfErr result (IsOf (TellsDamage command self.old.kept.dir (disk_of self.old.io) (free_by self.old.kept.body))) }
         // What is refused changes nothing that is kept, and free sectors alone, unless the disk failed.
         ensures kept { OnErr result (self.new.kept ≡ self.old.kept) }
-        ensures spares { ¬ (result ≡ Err PoolFault.DiskFault) → OnErr result (SparesTaken (free_by self.old.kept.body) (D.state self.old.io.disk.now).seen (D.state self.new.io.disk.now).seen) }
+        ensures spares { ¬ (result ≡ Err PoolFault.DiskFault) → OnErr result (SparesTaken (free_by self.old.kept.body) (disk_of self.old.io).seen (disk_of self.new.io).seen) }
         // What later states haven't dated since stays as it was in each snapshot.
-        ensures sound { (running : Plain) (done : Stepped) → IsAtRest false (D.state self.old.io.disk.now) self.old.kept running → Sound running
+        ensures sound { (running : Plain) (done : Stepped) → IsAtRest false (disk_of self.old.io) self.old.kept running → Sound running
             → stepped [] now command running ≡ Ok done → Sound done.pool }
 
         // A command that only answers reads the disk, and leaves what is kept.
-        ensures only_reads { commits command ≡ false → OnlyReads (D.state self.old.io.disk.now) (D.state self.new.io.disk.now) }
+        ensures only_reads { commits command ≡ false → OnlyReads (disk_of self.old.io) (disk_of self.new.io) }
         ensures only_answers { commits command ≡ false → self.new.kept ≡ self.old.kept }
 
         // A pool that has failed answers nothing else, and does nothing.
@@ -107,11 +109,11 @@ impl<'d, D: Disk> Pool<'d, D> {
 
         // After E24 the sectors are those that were left when it was found.
         ensures space { (self.old.io.failed || is_full result) ≡ false → self.new.io.space ≡ free_by self.new.kept.body }
-        ensures works { (self.new.io.failed || is_full result) ≡ false → CanCommit (D.state self.new.io.disk.now) self.new.io.space self.new.kept.body }
-        ensures ready { self.new.io.failed ≡ false → Ready (D.state self.new.io.disk.now) self.new.kept.body }
+        ensures works { (self.new.io.failed || is_full result) ≡ false → CanCommit (disk_of self.new.io) self.new.io.space self.new.kept.body }
+        ensures ready { self.new.io.failed ≡ false → Ready (disk_of self.new.io) self.new.kept.body }
         ensures failed { self.new.io.failed ≡ (self.old.io.failed || is_disk_fault result) }
-        ensures cause { HasDiskCause (D.state self.old.io.disk.now).faults (D.state self.new.io.disk.now).faults result }
-        ensures honest { (D.state self.new.io.disk.now).honest → (D.state self.old.io.disk.now).honest }
+        ensures cause { HasDiskCause (disk_of self.old.io).faults (disk_of self.new.io).faults result }
+        ensures honest { IsHonest self.new.io → IsHonest self.old.io }
         ensures same { self.new.io.disk.ghost_name ≡ self.old.io.disk.ghost_name }
     {
         steps_keep_sound();
@@ -135,6 +137,8 @@ impl<'d, D: Disk> Pool<'d, D> {
         alloc: Global,
         ran: Result<PoolState, PoolFault>,
     ) -> Result<u64, PoolFault>
+        requires fits { FitsDisk (disk_of self.old.io).size (free_by self.old.kept.body) }
+        requires ready { IfOk ran (λ kept. Ready (disk_of self.old.io) kept.body) }
         ensures kept { keeping self.new.kept result ≡ ran }
         ensures number { IfOk result (λ number. number ≡ self.new.kept.body.number) }
         ensures stays { OnErr result (self.new.kept ≡ self.old.kept) }
@@ -180,10 +184,9 @@ fn run<D: Disk>(
     requires command { IsCommand command }
     requires commits { commits command ≡ true }
     requires space { io.old.space ≡ free_by kept.now.body }
-    requires ready { Ready (D.state io.old.disk.now) kept.now.body }
-    ensures runs { Runs (λ pool. stepped [] now command pool) (cost_of command) (TellsDamage command kept.now.dir (D.state io.old.disk.now) (free_by kept.now.body)) kept.now (D.state io.old.disk.now) io.old.failed (D.state io.new.disk.now) io.new.space io.new.failed result }
+    requires ready { Ready (disk_of io.old) kept.now.body }
+    ensures runs { Runs (λ pool. stepped [] now command pool) (cost_of command) (TellsDamage command kept.now.dir (disk_of io.old) (free_by kept.now.body)) kept.now (io_of io.old) (io_of io.new) result }
     ensures plans { Plans (λ pool. stepped [] now command pool) (numbers_end command) (indices_end command) kept.now result }
-    ensures same { io.new.disk.ghost_name ≡ io.old.disk.ghost_name }
 {
     match command {
         Command::Fs { dataset } => make_dataset(io, alloc, kept, 2, &dataset),

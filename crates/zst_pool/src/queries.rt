@@ -1,6 +1,6 @@
 // The commands that only answer.
 ghost use Rattle.std.specs.Prelude.{◌≡◌, ℕ, [], false};
-ghost use Rattle.zst_block.specs.Blocks.{FitsDisk};
+ghost use Rattle.zst_block.specs.IoStates.{disk_of, io_of};
 ghost use Rattle.zst_image.specs.Reads.{free_by};
 ghost use Rattle.zst_model.specs.pools.Step.{IsCommand, commits, stepped};
 ghost use Rattle.zst_pool.specs.Damage.{OfSet, TellsDamage, look_damage};
@@ -24,10 +24,8 @@ fn list_named<D: Disk>(
     kept: &PoolState,
     name: Name,
 ) -> Result<Reply, PoolFault>
-    requires fits { FitsDisk (D.state io.old.disk.now).size io.old.space }
-    ensures tells { (now : ℕ) → Tells (λ pool. stepped [] now (Command.ListObjects name) pool) (OfSet kept.now.dir name (look_damage (D.state io.old.disk.now))) kept.now (D.state io.old.disk.now) io.old.space io.old.failed (D.state io.new.disk.now) io.new.space io.new.failed result }
+    ensures tells { (now : ℕ) → Tells (λ pool. stepped [] now (Command.ListObjects name) pool) (OfSet kept.now.dir name (look_damage (disk_of io.old))) kept.now (io_of io.old) (io_of io.new) result }
     ensures plans { (now : ℕ) → Plans (λ pool. stepped [] now (Command.ListObjects name) pool) 0 0 kept.now result }
-    ensures same { io.new.disk.ghost_name ≡ io.old.disk.ghost_name }
 {
     let set = open_set(&kept.dir, name)?;
     Ok(list_objects(io, alloc, &set)?)
@@ -43,10 +41,8 @@ pub fn tell<D: Disk>(
 ) -> Result<Reply, PoolFault>
     requires command { IsCommand command }
     requires answers { commits command ≡ false }
-    requires fits { FitsDisk (D.state io.old.disk.now).size io.old.space }
-    ensures tells { (now : ℕ) → Tells (λ pool. stepped [] now command pool) (TellsDamage command kept.now.dir (D.state io.old.disk.now) (free_by kept.now.body)) kept.now (D.state io.old.disk.now) io.old.space io.old.failed (D.state io.new.disk.now) io.new.space io.new.failed result }
+    ensures tells { (now : ℕ) → Tells (λ pool. stepped [] now command pool) (TellsDamage command kept.now.dir (disk_of io.old) (free_by kept.now.body)) kept.now (io_of io.old) (io_of io.new) result }
     ensures plans { (now : ℕ) → Plans (λ pool. stepped [] now command pool) (numbers_end command) (indices_end command) kept.now result }
-    ensures same { io.new.disk.ghost_name ≡ io.old.disk.ghost_name }
 {
     match command {
         Command::Read {

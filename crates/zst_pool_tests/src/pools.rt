@@ -1,5 +1,6 @@
 // Pools on disks in memory, and lines on them.
 ghost use Rattle.std.specs.Prelude.{◌≡◌, ◌≤◌, ◌^◌, false, IfOk};
+ghost use Rattle.zst_block.specs.IoStates.{disk_of};
 ghost use Rattle.zst_model.specs.pools.Step.{IsCommand};
 ghost use Rattle.zst_image.specs.Commits.{Ready};
 ghost use Rattle.zst_pool.specs.Calls.{CanCommit};
@@ -43,7 +44,7 @@ pub(crate) fn pool_on<'d>(
     alloc: Global,
     disk: &'d mut MemDisk,
 ) -> Result<Pool<'d, MemDisk>, TestRefusal>
-    ensures works { IfOk result (λ pool. CanCommit (⟦<MemDisk as Disk>⟧.state pool.io.disk.now) pool.io.space pool.kept.body) }
+    ensures works { IfOk result (λ pool. CanCommit (disk_of pool.io) pool.io.space pool.kept.body) }
     ensures same { IfOk result (λ pool. pool.io.disk.ghost_name ≡ disk.entry.ghost_name) }
 {
     let kept = PoolState::open(alloc, disk)?;
@@ -56,8 +57,8 @@ pub(crate) fn step_in(
     pool: &mut Pool<'_, MemDisk>,
     line: &str,
 ) -> Result<Reply, TestRefusal>
-    requires ready { pool.old.io.failed ≡ false → Ready (⟦<MemDisk as Disk>⟧.state pool.old.io.disk.now) pool.old.kept.body }
-    ensures ready { pool.new.io.failed ≡ false → Ready (⟦<MemDisk as Disk>⟧.state pool.new.io.disk.now) pool.new.kept.body }
+    requires ready { pool.old.io.failed ≡ false → Ready (disk_of pool.old.io) pool.old.kept.body }
+    ensures ready { pool.new.io.failed ≡ false → Ready (disk_of pool.new.io) pool.new.kept.body }
     ensures same { pool.new.io.disk.ghost_name ≡ pool.old.io.disk.ghost_name }
 {
     let command = command_of(alloc, line)?;

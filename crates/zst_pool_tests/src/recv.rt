@@ -1,5 +1,6 @@
 //! What no line shows of a receive: what is told of one that runs and isn't kept.
 ghost use Rattle.std.specs.Prelude.{◌≡◌};
+ghost use Rattle.zst_block.specs.IoStates.{disk_of};
 ghost use Rattle.zst_pool.specs.Calls.{CanCommit};
 
 use crate::pools::{SMALL, pool_on, with_lines};
@@ -36,7 +37,7 @@ fn small_stream(alloc: Global) -> Result<Vec<u8>, TestRefusal> {
 
 // A receive of the small pool's stream into tank/b that runs, and isn't kept.
 fn running(alloc: Global, pool: &mut Pool<'_, MemDisk>, stream: &[u8]) -> Result<Recv, TestRefusal>
-    requires works { CanCommit (⟦<MemDisk as Disk>⟧.state pool.old.io.disk.now) pool.old.io.space pool.old.kept.body }
+    requires works { CanCommit (disk_of pool.old.io) pool.old.io.space pool.old.kept.body }
     ensures same { pool.new.io.disk.ghost_name ≡ pool.old.io.disk.ghost_name }
 {
     let mut recv = Recv::open(pool, alloc, into_b()?)?;

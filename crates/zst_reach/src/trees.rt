@@ -1,6 +1,7 @@
 // A tree is walked, beside one that was walked before.
 ghost use Rattle.std.specs.Prelude.{◌≡◌, ◌↔◌, ◌⊎◌, ◌-◌, ◌<◌, ◌≤◌, ℕ, List, false, IfOk, IsTrue, OnOk, length};
-ghost use Rattle.zst_block.specs.Blocks.{FitsDisk, Has, IsBlock};
+ghost use Rattle.zst_block.specs.Blocks.{IsBlock};
+ghost use Rattle.zst_block.specs.IoStates.{IsHonest, blocks_of, disk_of, io_of};
 ghost use Rattle.zst_block.specs.IoCalls.{Looks, stop_of};
 ghost use Rattle.zst_block.specs.Ptr.{is_flat};
 ghost use Rattle.zst_marks.specs.Marks.{HasRoomFor, IsMarked, MarksMore};
@@ -23,12 +24,9 @@ fn load_beside<D: Disk>(
     known_level: u8,
     ptr: Ptr,
 ) -> Result<Option<Node>, BlockFault>
-    requires fits { FitsDisk (D.state io.old.disk.now).size io.old.space }
-    ensures beside { (D.state io.new.disk.now).honest → IfOk result (IsBeside (D.state io.old.disk.now).seen level known_level ptr) }
+    ensures beside { IsHonest io.new → IfOk result (IsBeside (disk_of io.old).seen level known_level ptr) }
     ensures there { Delivers (λ done. Unit {0}) result }
-    ensures looks { Looks (D.state io.old.disk.now) io.old.space io.old.failed (D.state io.new.disk.now) io.new.space io.new.failed (stop_of result) }
-    ensures kept_fit { FitsDisk (D.state io.new.disk.now).size io.new.space }
-    ensures same { io.new.disk.ghost_name ≡ io.old.disk.ghost_name }
+    ensures looks { Looks (io_of io.old) (io_of io.new) (stop_of result) }
 {
     if known_level != level || ptr.is_flat() {
         return Ok(None);
@@ -73,22 +71,20 @@ pub fn mark_below<D: Disk>(
     known: Ptr,
 ) -> Result<(), BlockFault>
     requires room { HasRoomFor marks.old end }
-    requires fits { FitsDisk (D.state io.old.disk.now).size io.old.space }
 
     // Where all below the known one was marked, all below this one is. Nothing else is marked than what
     // is reached, and what was marked stays so.
-    ensures all { (D.state io.new.disk.now).honest → AreMarked (D.state io.old.disk.now).seen end marks.old known_level known → OnOk result (AreMarked (D.state io.old.disk.now).seen end marks.new level ptr) }
-    ensures only { (D.state io.new.disk.now).honest → (sector : ℕ) → IsMarked marks.new sector → IsMarked marks.old sector ⊎ ReachesSector (IsBlock (D.state io.old.disk.now).seen) level ptr sector }
+    ensures all { IsHonest io.new → AreMarked (disk_of io.old).seen end marks.old known_level known → OnOk result (AreMarked (disk_of io.old).seen end marks.new level ptr) }
+    ensures only { IsHonest io.new → (sector : ℕ) → IsMarked marks.new sector → IsMarked marks.old sector ⊎ ReachesSector (IsBlock (disk_of io.old).seen) level ptr sector }
     ensures more { MarksMore marks.old marks.new }
 
     // A tree that is there is walked, unless the disk fails, and what is damaged is a node of the tree.
-    ensures there { (base : ℕ) (map : Map) → (D.state io.new.disk.now).honest → Subtree (Has (D.state io.old.disk.now).seen io.old.space) level ptr base map → Delivers (λ done. Unit {0}) result }
-    ensures damaged { (D.state io.new.disk.now).honest → NamesDamage (IsSeen (D.state io.old.disk.now).seen) (D.state io.old.disk.now).size NamesNode level ptr result }
+    ensures there { (base : ℕ) (map : Map) → IsHonest io.new → Subtree (blocks_of io.old) level ptr base map → Delivers (λ done. Unit {0}) result }
+    ensures damaged { IsHonest io.new → NamesDamage (IsSeen (disk_of io.old).seen) (disk_of io.old).size NamesNode level ptr result }
 
     // What is shared isn't read again.
     ensures shared { known_level ≡ level → known ≡ ptr → io.new ≡ io.old }
-    ensures looks { Looks (D.state io.old.disk.now) io.old.space io.old.failed (D.state io.new.disk.now) io.new.space io.new.failed (stop_of result) }
-    ensures same { io.new.disk.ghost_name ≡ io.old.disk.ghost_name }
+    ensures looks { Looks (io_of io.old) (io_of io.new) (stop_of result) }
 {
     if ptr.is_flat() {
         return Ok(());

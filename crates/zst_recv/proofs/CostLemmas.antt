@@ -1,11 +1,11 @@
 -- What the records of a piece spend, one after another, and with the commit.
-use Rattle.std.proofs.Common.{◌≡◌, ◌⊎◌, inl, inr, ℕ, ◌+◌, ◌<◌, ◌≤◌, Bool, true, false, List, [], ◌∷◌, ◌++◌, length, drop, refl, sym, ap, ◌∙◌, subst, arith, append_assoc}
+use Rattle.std.proofs.Common.{◌≡◌, ◌⊎◌, inl, inr, ℕ, ◌+◌, ◌<◌, ◌≤◌, true, false, List, [], ◌∷◌, ◌++◌, length, drop, refl, sym, ap, ◌∙◌, subst, arith, append_assoc}
 use Rattle.std.specs.Prelude.{Option, Some, None, Err}
 use Rattle.std.proofs.Math.Seq.{drop-append_seam}
 use Rattle.std.proofs.lemmas.List.Sums.{sum_by-append}
-use Rattle.zst_outside.specs.Images.{DiskState}
 use Rattle.zst_space.specs.FreeSectors.{FreeSectors, largest_of, total}
 use Rattle.zst_block.specs.IoCalls.{TakesAtMost, Works}
+use Rattle.zst_block.specs.IoStates.{IoState}
 use Rattle.zst_block.specs.declared.fault.BlockFault.{BlockFault}
 use Rattle.zst_block.specs.declared.fault.BlockFault.TheVariants as blocks
 use Rattle.zst_dir.specs.Spelling.{dir_bytes}
@@ -66,10 +66,9 @@ spends_idle records space stop none = record {
 }
 
 -- by one record that was applied
-pub spends_one : (c : Covered) (old : DiskState) (space : FreeSectors) (failed : Bool) (new : DiskState) (less : FreeSectors) (failed' : Bool) (stop : Option BlockFault)
-    → Works (record_cost c.head) (record_block c.head) old space failed new less failed' stop → Spends (c ∷ []) space less stop
-spends_one c old space failed new less failed' stop works = record {
-  takes = takes_more (record_cost c.head) (records_cost (c ∷ [])) space less (omega arith) works.takes;
+pub spends_one : (c : Covered) {old new : IoState} {stop : Option BlockFault} → Works (record_cost c.head) (record_block c.head) old new stop → Spends (c ∷ []) old.space new.space stop
+spends_one c {old} {new} works = record {
+  takes = takes_more (record_cost c.head) (records_cost (c ∷ [])) old.space new.space (omega arith) works.takes;
   before = λ need largest is. let full = works.full need largest is in omega (arith, full.before);
   needed = λ need largest is. either need (let full = works.full need largest is in full.needed);
 }

@@ -7,9 +7,8 @@ use Rattle.std.proofs.lemmas.List.Elements.{All-drop, All-head}
 use Rattle.std.proofs.lemmas.List.Sums.{sum_by-append}
 use Rattle.zst_outside.specs.Causes.{Rose-earlier}
 use Rattle.zst_outside.specs.Images.{DiskState, OnlyReads-none}
-use Rattle.zst_space.specs.FreeSectors.{FreeSectors}
-use Rattle.zst_block.specs.Blocks.{FitsDisk}
 use Rattle.zst_block.specs.IoCalls.{fails}
+use Rattle.zst_block.specs.IoStates.{IoState}
 use Rattle.zst_block.specs.declared.fault.BlockFault.{BlockFault}
 use Rattle.zst_block.proofs.BlocksLaws.{FillsFree-reads, FillsFree-then}
 use Rattle.zst_image.specs.Reads.{free_by}
@@ -34,45 +33,40 @@ use Rattle.zst_recv.specs.declared.fault.RecvFault.TheVariants as faults
 
 -- ---- what is written
 
+or_false : (b : Bool) → (b || false) ≡ b
+or_false true = refl
+or_false false = refl
+
 -- nothing is
-pub Fills-none : (disk : DiskState) (space : FreeSectors) (failed : Bool) → FitsDisk disk.size space → Fills disk space failed disk space failed None
-Fills-none disk space failed fits = record {
-  fills = FillsFree-reads disk disk space (OnlyReads-none disk);
-  fits = fits;
+pub Fills-none : (io : IoState) → Fills io io None
+Fills-none io = record {
+  fills = FillsFree-reads io.disk io.disk io.space (OnlyReads-none io.disk);
   sectors = refl;
   full = λ need largest is. absurd (cc);
-  failed = sym (or_false failed);
+  failed = sym (or_false io.failed);
   cause = record { later = omega arith; fault = λ is. absurd (cc) };
+  same = refl;
 }
-  where
-    or_false : (b : Bool) → (b || false) ≡ b
-    or_false true = refl
-    or_false false = refl
 
 -- and then more
-pub Fills-then : (old mid new : DiskState) (space less least : FreeSectors) (failed failed' failed'' : Bool) (stop : Option BlockFault)
-    → Fills old space failed mid less failed' None → Fills mid less failed' new least failed'' stop → Fills old space failed new least failed'' stop
-Fills-then old mid new space less least failed failed' failed'' stop first second = record {
-  fills = FillsFree-then old mid new space less least first.fills second.fills;
-  fits = second.fits;
+pub Fills-then : {old mid new : IoState} {stop : Option BlockFault} → Fills old mid None → Fills mid new stop → Fills old new stop
+Fills-then {old} {mid} {new} {stop} first second = record {
+  fills = FillsFree-then old.disk mid.disk new.disk old.space mid.space new.space first.fills second.fills;
   sectors = second.sectors ∙ first.sectors;
   full = second.full;
-  failed = second.failed ∙ ap (λ (b : Bool). b || fails stop) (first.failed ∙ or_false failed);
+  failed = second.failed ∙ ap (λ (b : Bool). b || fails stop) (first.failed ∙ or_false old.failed);
   cause = record {
-    later = let one = first.cause.later in let two = second.cause.later in omega (arith, one, two);
-    fault = λ is. Rose-earlier old.faults mid.faults new.faults first.cause.later (second.cause.fault is);
+    later = omega (arith, first.cause.later, second.cause.later);
+    fault = λ is. Rose-earlier old.disk.faults mid.disk.faults new.disk.faults first.cause.later (second.cause.fault is);
   };
+  same = second.same ∙ first.same;
 }
-  where
-    or_false : (b : Bool) → (b || false) ≡ b
-    or_false true = refl
-    or_false false = refl
 
 -- so the event goes on
-pub goes_under : {tight : Bool} (start old now : DiskState) (space less : FreeSectors) (kept : PoolState) (running : Pool) (failed failed' : Bool) (stop : Option BlockFault)
-    → IsUnderWay tight start old space kept running → Fills old space failed now less failed' stop → IsUnderWay tight start now less kept running
-goes_under start old now space less kept running failed failed' stop way fills =
-    record { rested = way.rested; fills = FillsFree-then start old now (free_by kept.body) space less way.fills fills.fills }
+pub goes_under : {tight : Bool} {start : DiskState} {old now : IoState} {stop : Option BlockFault} (kept : PoolState) (running : Pool)
+    → IsUnderWay tight start old.disk old.space kept running → Fills old now stop → IsUnderWay tight start now.disk now.space kept running
+goes_under {start = start} {old = old} {now = now} kept running way fills =
+    record { rested = way.rested; fills = FillsFree-then start old.disk now.disk (free_by kept.body) old.space now.space way.fills fills.fills }
 
 -- ---- records
 

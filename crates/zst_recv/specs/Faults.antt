@@ -1,9 +1,9 @@
 -- The faults of a receive.
 use Rattle.std.specs.Prelude.{◌≡◌, ◌<◌, ◌||◌, ◌^◌, ℕ, Bool, true, false, Option, Some, None, Result, Ok, Err}
-use Rattle.zst_outside.specs.Images.{DiskState}
-use Rattle.zst_space.specs.FreeSectors.{FreeSectors, largest_of}
-use Rattle.zst_block.specs.Blocks.{FillsFree, FitsDisk}
+use Rattle.zst_space.specs.FreeSectors.{largest_of}
+use Rattle.zst_block.specs.Blocks.{FillsFree}
 use Rattle.zst_block.specs.IoCalls.{HasCause, fails}
+use Rattle.zst_block.specs.IoStates.{IoState}
 use Rattle.zst_block.specs.declared.fault.BlockFault.{BlockFault}
 use Rattle.zst_block.specs.declared.fault.BlockFault.TheVariants as blocks
 use Rattle.zst_model.specs.declared.refusals.faults.Quantity.TheVariants as quantities
@@ -89,10 +89,10 @@ cut_of false pushed = Ok tt
 
 -- Blocks alone are written, into free sectors, whatever is there: the disk is full only where the longest extent is shorter than what is
 -- needed, and failed only where its count of faults rose.
-pub record Fills (old : DiskState) (old_space : FreeSectors) (old_failed : Bool) (new : DiskState) (new_space : FreeSectors) (new_failed : Bool) (stop : Option BlockFault) : Type 0 where
-  pub fills : FillsFree old old_space new new_space
-  pub fits : FitsDisk new.size new_space
-  pub sectors : new_space.sectors ≡ old_space.sectors
-  pub full : (need largest : ℕ) → stop ≡ Some (blocks.Full need largest) → (largest < need) × (largest ≡ largest_of new_space)
-  pub failed : new_failed ≡ (old_failed || fails stop)
-  pub cause : HasCause old.faults new.faults stop
+pub record Fills (old new : IoState) (stop : Option BlockFault) : Type 0 where
+  pub fills : FillsFree old.disk old.space new.disk new.space
+  pub sectors : new.space.sectors ≡ old.space.sectors
+  pub full : (need largest : ℕ) → stop ≡ Some (blocks.Full need largest) → (largest < need) × (largest ≡ largest_of new.space)
+  pub failed : new.failed ≡ (old.failed || fails stop)
+  pub cause : HasCause old.disk.faults new.disk.faults stop
+  pub same : new.reference ≡ old.reference

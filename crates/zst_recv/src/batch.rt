@@ -1,7 +1,8 @@
 // What one feed takes of a stream.
 ghost use Rattle.std.specs.Prelude.{◌≡◌, ◌+◌, ℕ, Bool, false, true, List, [], ◌∷◌, Option, None, Ok, Err, IfErr, OnErr, OnOk};
 ghost use Rattle.zst_apply.specs.Damage.{apply_damage};
-ghost use Rattle.zst_block.specs.Blocks.{FitsDisk, Has, SparesTaken};
+ghost use Rattle.zst_block.specs.Blocks.{Has};
+ghost use Rattle.zst_block.specs.IoStates.{IsHonest, IsSparedBy, blocks_of, disk_of, io_of};
 ghost use Rattle.zst_space.specs.FreeSectors.{FreeSectors};
 ghost use Rattle.zst_dir.specs.RowNames.{AreNamed};
 ghost use Rattle.zst_dir.specs.Rows.{Rows};
@@ -59,20 +60,18 @@ fn move_by<D: Disk>(
     flags: u32,
     number: u64,
 ) -> Result<(), RecvFault>
-    requires fits { FitsDisk (D.state io.old.disk.now).size io.old.space }
     requires covered { IsRead (covered_of covered.now) }
     requires later { IsLater covered.now.head.now }
-    ensures moved { (tight : Bool) (state : PlainPartial) → (D.state io.new.disk.now).honest → PartialIs (bound_of tight number) (Has (D.state io.old.disk.now).seen io.old.space) partial.old state
-        → Makes (PartialIs (bound_of tight number) (Has (D.state io.new.disk.now).seen io.new.space) partial.new) (moved_by number (covered_of covered.now) flags state) result }
+    ensures moved { (tight : Bool) (state : PlainPartial) → IsHonest io.new → PartialIs (bound_of tight number) (blocks_of io.old) partial.old state
+        → Makes (PartialIs (bound_of tight number) (blocks_of io.new) partial.new) (moved_by number (covered_of covered.now) flags state) result }
     ensures stays { OnErr result (partial.new ≡ partial.old) }
     ensures known { IfErr result IsRecordFault }
-    ensures damaged { (sector : ℕ) (stated found : List ℕ) → (D.state io.new.disk.now).honest → result ≡ Err (RecvFault.Pool (PoolFault.Damaged sector stated found))
-        → apply_damage (SparesTaken io.old.space (D.state io.old.disk.now).seen) (D.state io.old.disk.now).size partial.old.objects sector stated found }
+    ensures damaged { (sector : ℕ) (stated found : List ℕ) → IsHonest io.new → result ≡ Err (RecvFault.Pool (PoolFault.Damaged sector stated found))
+        → apply_damage (IsSparedBy io.old) (disk_of io.old).size partial.old.objects sector stated found }
     ensures unplanned { (fault : PlanFault) → result ≡ Err (RecvFault.Pool (PoolFault.Plan fault)) → is_planned fault ≡ false }
     ensures puts { (rows : Rows) (target : List ℕ) → CanPut rows target partial.old → CanPut rows target partial.new }
-    ensures fills { Fills (D.state io.old.disk.now) io.old.space io.old.failed (D.state io.new.disk.now) io.new.space io.new.failed (stop_of result) }
+    ensures fills { Fills (io_of io.old) (io_of io.new) (stop_of result) }
     ensures spends { Spends (covered_of covered.now ∷ []) io.old.space io.new.space (stop_of result) }
-    ensures same { io.new.disk.ghost_name ≡ io.old.disk.ghost_name }
 {
     match apply(io, &mut partial.objects, covered, flags, number) {
         Ok(()) => {
@@ -106,12 +105,11 @@ impl Batch {
         ask: &RecvAsk,
         covered: &Record<'_>,
     ) -> Result<(), RecvFault>
-        requires fits { FitsDisk (D.state io.old.disk.now).size io.old.space }
         requires stage { StageFits kept.now.dir ask.now.target self.old.stage }
         requires covered { IsRead (covered_of covered.now) }
-        ensures took { (tight : Bool) (start : D) (running : Plain) (work : Work) → (D.state io.new.disk.now).honest → IsUnderWay tight (D.state start) (D.state io.old.disk.now) io.old.space kept.now running → TellsBefore ask.now work.stage kept.now.dir running
-            → IsWork (bound_of tight (running.number + 1)) (Has (D.state io.old.disk.now).seen io.old.space) self.old work
-            → Takes (IsWork (bound_of tight (running.number + 1)) (Has (D.state io.new.disk.now).seen io.new.space) self.new) work (taken ask.now running (covered_of covered.now) work) result }
+        ensures took { (tight : Bool) (start : D) (running : Plain) (work : Work) → IsHonest io.new → IsUnderWay tight (D.state start) (disk_of io.old) io.old.space kept.now running → TellsBefore ask.now work.stage kept.now.dir running
+            → IsWork (bound_of tight (running.number + 1)) (blocks_of io.old) self.old work
+            → Takes (IsWork (bound_of tight (running.number + 1)) (blocks_of io.new) self.new) work (taken ask.now running (covered_of covered.now) work) result }
         ensures stays { OnErr result (self.new ≡ self.old) }
         ensures idle { self.new.taken ≡ false → self.new ≡ self.old }
         // Whatever the image, BEGIN is the end of waiting, END that of a partial state which is under way, and nothing else begins one.
@@ -123,16 +121,15 @@ impl Batch {
         ensures over { is_live self.old.stage ≡ true → is_live self.new.stage ≡ false → is_end covered.now.head.now ≡ true }
         ensures known { IfErr result IsRecordFault }
         // E25 tells a damage of the set as the refused record found it.
-        ensures damaged { (sector : ℕ) (stated found : List ℕ) → (D.state io.new.disk.now).honest → result ≡ Err (RecvFault.Pool (PoolFault.Damaged sector stated found))
-            → IsDamagedState (SparesTaken io.old.space (D.state io.old.disk.now).seen) (D.state io.old.disk.now).size kept.now.dir ask.now.target sector stated found }
+        ensures damaged { (sector : ℕ) (stated found : List ℕ) → IsHonest io.new → result ≡ Err (RecvFault.Pool (PoolFault.Damaged sector stated found))
+            → IsDamagedState (IsSparedBy io.old) (disk_of io.old).size kept.now.dir ask.now.target sector stated found }
         // Whatever the image, whether BEGIN is taken is for its plan over the rows alone to say, and nothing else asks a plan.
         ensures planned { (running : Plain) (header : PlainHeader) (len : ℕ) → covered.now.head.now ≡ heads.Begin header len → waits_at self.old.stage ≡ true → AreNamed kept.now.dir running → TellsNeeded kept.now.dir running ask.now header
             → IsPlannedBy (recv_plan ask.now header running) result }
         ensures because { (fault : PlanFault) → is_planned fault ≡ true → result ≡ Err (RecvFault.Pool (PoolFault.Plan fault)) → (waits_at self.old.stage ≡ true) × (header : PlainHeader) × (len : ℕ) × (covered.now.head.now ≡ heads.Begin header len) }
         ensures stage { StageFits kept.now.dir ask.now.target self.new.stage }
-        ensures fills { Fills (D.state io.old.disk.now) io.old.space io.old.failed (D.state io.new.disk.now) io.new.space io.new.failed (stop_of result) }
+        ensures fills { Fills (io_of io.old) (io_of io.new) (stop_of result) }
         ensures spends { Spends (covered_of covered.now ∷ []) io.old.space io.new.space (stop_of result) }
-        ensures same { io.new.disk.ghost_name ≡ io.old.disk.ghost_name }
     {
         match covered.head {
             Head::Begin { header, .. } => self.begin(&kept.dir, ask, header),
@@ -199,26 +196,24 @@ impl Batch {
         number: u64,
         covered: &Record<'_>,
     ) -> Result<(), RecvFault>
-        requires fits { FitsDisk (D.state io.old.disk.now).size io.old.space }
         requires covered { IsRead (covered_of covered.now) }
         requires later { IsLater covered.now.head.now }
         requires not_last { closing covered.now.head.now ≡ None }
-        ensures took { (tight : Bool) (running : Plain) (ask : Ask) (work : Work) → (D.state io.new.disk.now).honest → number ≡ running.number + 1
-            → IsWork (bound_of tight (running.number + 1)) (Has (D.state io.old.disk.now).seen io.old.space) self.old work
-            → Takes (IsWork (bound_of tight (running.number + 1)) (Has (D.state io.new.disk.now).seen io.new.space) self.new) work (taken ask running (covered_of covered.now) work) result }
+        ensures took { (tight : Bool) (running : Plain) (ask : Ask) (work : Work) → IsHonest io.new → number ≡ running.number + 1
+            → IsWork (bound_of tight (running.number + 1)) (blocks_of io.old) self.old work
+            → Takes (IsWork (bound_of tight (running.number + 1)) (blocks_of io.new) self.new) work (taken ask running (covered_of covered.now) work) result }
         ensures stays { OnErr result (self.new ≡ self.old) }
         ensures idle { self.new.taken ≡ false → self.new ≡ self.old }
         ensures waits { waits_at self.new.stage ≡ true → self.new ≡ self.old }
         ensures lives { has_partial self.new.stage ≡ true → is_live self.old.stage ≡ true }
         ensures still { is_live self.old.stage ≡ true → is_live self.new.stage ≡ true }
         ensures known { IfErr result IsRecordFault }
-        ensures damaged { (rows : Rows) (target : List ℕ) (sector : ℕ) (stated found : List ℕ) → (D.state io.new.disk.now).honest → StageFits rows target self.old.stage → result ≡ Err (RecvFault.Pool (PoolFault.Damaged sector stated found))
-            → IsDamagedState (SparesTaken io.old.space (D.state io.old.disk.now).seen) (D.state io.old.disk.now).size rows target sector stated found }
+        ensures damaged { (rows : Rows) (target : List ℕ) (sector : ℕ) (stated found : List ℕ) → IsHonest io.new → StageFits rows target self.old.stage → result ≡ Err (RecvFault.Pool (PoolFault.Damaged sector stated found))
+            → IsDamagedState (IsSparedBy io.old) (disk_of io.old).size rows target sector stated found }
         ensures unplanned { (fault : PlanFault) → result ≡ Err (RecvFault.Pool (PoolFault.Plan fault)) → is_planned fault ≡ false }
         ensures stage { (rows : Rows) (target : List ℕ) → StageFits rows target self.old.stage → StageFits rows target self.new.stage }
-        ensures fills { Fills (D.state io.old.disk.now) io.old.space io.old.failed (D.state io.new.disk.now) io.new.space io.new.failed (stop_of result) }
+        ensures fills { Fills (io_of io.old) (io_of io.new) (stop_of result) }
         ensures spends { Spends (covered_of covered.now ∷ []) io.old.space io.new.space (stop_of result) }
-        ensures same { io.new.disk.ghost_name ≡ io.old.disk.ghost_name }
     {
         match &mut self.stage {
             Stage::Lives { flags, partial } => move_by(io, partial, covered, *flags, number)?,

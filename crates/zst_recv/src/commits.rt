@@ -1,6 +1,7 @@
 // What a feed commits.
 ghost use Rattle.std.specs.Prelude.{◌≡◌, ◌+◌, ◌<◌, Bool, Err, ℕ, List, Option, IfErr, OnErr, OnOk, false, true, ◌⊎◌};
-ghost use Rattle.zst_block.specs.Blocks.{Has, KeepsBlocks};
+ghost use Rattle.zst_block.specs.Blocks.{KeepsBlocks};
+ghost use Rattle.zst_block.specs.IoStates.{IsHonest, blocks_of, disk_of};
 ghost use Rattle.zst_image.specs.Commits.{Ready};
 ghost use Rattle.zst_image.specs.Reads.{bound_of, free_by};
 ghost use Rattle.zst_model.specs.pools.Pool.{Pool as Plain};
@@ -41,17 +42,17 @@ pub(crate) fn put<D: Disk>(
 ) -> Result<(), PoolFault>
     requires open { pool.old.io.failed ≡ false }
     requires stage { (target : List ℕ) × StageFits pool.old.kept.dir target batch.now.stage }
-    requires works { CanCommit (D.state pool.old.io.disk.now) pool.old.io.space pool.old.kept.body }
-    ensures puts { (tight : Bool) (start : D) (running : Plain) (work : Work) → (D.state pool.new.io.disk.now).honest → IsUnderWay tight (D.state start) (D.state pool.old.io.disk.now) pool.old.io.space pool.old.kept running
-        → IsWork (bound_of tight (running.number + 1)) (Has (D.state pool.old.io.disk.now).seen pool.old.io.space) batch.now work
-        → Puts tight (D.state start) (D.state pool.new.io.disk.now) pool.new.kept running (put work running) result }
+    requires works { CanCommit (disk_of pool.old.io) pool.old.io.space pool.old.kept.body }
+    ensures puts { (tight : Bool) (start : D) (running : Plain) (work : Work) → IsHonest pool.new.io → IsUnderWay tight (D.state start) (disk_of pool.old.io) pool.old.io.space pool.old.kept running
+        → IsWork (bound_of tight (running.number + 1)) (blocks_of pool.old.io) batch.now work
+        → Puts tight (D.state start) (disk_of pool.new.io) pool.new.kept running (put work running) result }
     // Where it goes on, its partial state still stands for the one that was taken.
-    ensures goes_on { (bound : Option ℕ) (work : Work) → IsWork bound (Has (D.state pool.old.io.disk.now).seen pool.old.io.space) batch.now work
-        → OnOk result (IsWork bound (Has (D.state pool.new.io.disk.now).seen pool.new.io.space) batch.now work) }
+    ensures goes_on { (bound : Option ℕ) (work : Work) → IsWork bound (blocks_of pool.old.io) batch.now work
+        → OnOk result (IsWork bound (blocks_of pool.new.io) batch.now work) }
     // What the latest body leaves free is free again once a partial state was committed; and nothing was done where no record was taken.
     ensures space { batch.now.taken ≡ true → has_partial batch.now.stage ≡ true → OnOk result (pool.new.io.space ≡ free_by pool.new.kept.body) }
     // The blocks that were there still are, over the sectors that the new body leaves free.
-    ensures blocks { batch.now.taken ≡ true → has_partial batch.now.stage ≡ true → OnOk result (KeepsBlocks (D.state pool.old.io.disk.now).seen pool.old.io.space (D.state pool.new.io.disk.now).seen (free_by pool.new.kept.body)) }
+    ensures blocks { batch.now.taken ≡ true → has_partial batch.now.stage ≡ true → OnOk result (KeepsBlocks (disk_of pool.old.io).seen pool.old.io.space (disk_of pool.new.io).seen (free_by pool.new.kept.body)) }
     ensures idle_disk { batch.now.taken ≡ false → pool.new.io.disk.now ≡ pool.old.io.disk.now }
     ensures idle_kept { batch.now.taken ≡ false → pool.new.kept ≡ pool.old.kept }
     ensures fits { (target : List ℕ) → StageFits pool.old.kept.dir target batch.now.stage → OnOk result (LivesOn pool.new.kept.dir target batch.now.stage) }
@@ -62,10 +63,10 @@ pub(crate) fn put<D: Disk>(
     ensures full { (need largest : ℕ) → result ≡ Err (PoolFault.Full need largest) → (largest < need) × (largest ≡ largest_of pool.new.io.space) }
     // Before the commit no free extent had as many sectors as a directory may take that has 2,048 bytes more.
     ensures short { (need largest : ℕ) → result ≡ Err (PoolFault.Full need largest) → IsCallFull pool.old.io.space pool.new.io.space pool.old.kept.dir need largest }
-    ensures ready { pool.new.io.failed ≡ false → Ready (D.state pool.new.io.disk.now) pool.new.kept.body }
+    ensures ready { pool.new.io.failed ≡ false → Ready (disk_of pool.new.io) pool.new.kept.body }
     ensures failed { pool.new.io.failed ≡ is_disk_fault result }
-    ensures cause { HasDiskCause (D.state pool.old.io.disk.now).faults (D.state pool.new.io.disk.now).faults result }
-    ensures honest { (D.state pool.new.io.disk.now).honest → (D.state pool.old.io.disk.now).honest }
+    ensures cause { HasDiskCause (disk_of pool.old.io).faults (disk_of pool.new.io).faults result }
+    ensures honest { IsHonest pool.new.io → IsHonest pool.old.io }
     ensures same { pool.new.io.disk.ghost_name ≡ pool.old.io.disk.ghost_name }
 {
     if !batch.taken {

@@ -1,6 +1,6 @@
 // How a piece is read: each record that it covers is taken.
 ghost use Rattle.std.specs.Prelude.{◌≡◌, ◌+◌, ◌++◌, ◌<◌, ◌≤◌, ◌^◌, ℕ, Bool, List, [], length, Ok, Err, IfErr, IfOk, OnOk, false, true};
-ghost use Rattle.zst_block.specs.Blocks.{FitsDisk, Has};
+ghost use Rattle.zst_block.specs.IoStates.{IsHonest, blocks_of, disk_of, io_of};
 ghost use Rattle.zst_image.specs.Reads.{bound_of};
 ghost use Rattle.zst_model.specs.pools.Pool.{Pool as Plain};
 ghost use Rattle.zst_pool.specs.Calls.{IsUnderWay};
@@ -36,20 +36,19 @@ fn drain<D: Disk>(
     ask: &RecvAsk,
     batch: &mut Batch,
 ) -> Result<bool, RecvFault>
-    requires fits { FitsDisk (D.state io.old.disk.now).size io.old.space }
     requires stage { StageFits kept.now.dir ask.now.target batch.old.stage }
     requires reads { HasRead reader.old batch.old.stage }
-    ensures drained { (tight : Bool) (start : D) (running : Plain) (work : Work) (text : List ℕ) (handed : List Covered) → (D.state io.new.disk.now).honest
-        → IsUnderWay tight (D.state start) (D.state io.old.disk.now) io.old.space kept.now running → TellsBefore ask.now work.stage kept.now.dir running
-        → StandsFor reader.old text handed → IsWork (bound_of tight (running.number + 1)) (Has (D.state io.old.disk.now).seen io.old.space) batch.old work
-        → Drains ask.now running reader.new text handed (IsWork (bound_of tight (running.number + 1)) (Has (D.state io.new.disk.now).seen io.new.space) batch.new) work result }
+    ensures drained { (tight : Bool) (start : D) (running : Plain) (work : Work) (text : List ℕ) (handed : List Covered) → IsHonest io.new
+        → IsUnderWay tight (D.state start) (disk_of io.old) io.old.space kept.now running → TellsBefore ask.now work.stage kept.now.dir running
+        → StandsFor reader.old text handed → IsWork (bound_of tight (running.number + 1)) (blocks_of io.old) batch.old work
+        → Drains ask.now running reader.new text handed (IsWork (bound_of tight (running.number + 1)) (blocks_of io.new) batch.new) work result }
     ensures stage { StageFits kept.now.dir ask.now.target batch.new.stage }
     ensures idle { batch.new.taken ≡ false → batch.new ≡ batch.old }
     ensures waits { waits_at batch.new.stage ≡ true → batch.new ≡ batch.old }
     ensures known { IfErr result IsFeedFault }
     ensures stream { (text : List ℕ) (handed : List Covered) (fault : StreamFault) → StandsFor reader.old text handed → result ≡ Err (RecvFault.Stream fault) → (reading text).outcome ≡ faulty fault }
-    ensures damaged { (sector : ℕ) (stated found : List ℕ) → (D.state io.new.disk.now).honest → result ≡ Err (RecvFault.Pool (PoolFault.Damaged sector stated found))
-        → IsDamagedFeed (D.state io.old.disk.now) io.old.space kept.now.dir ask.now.target sector stated found }
+    ensures damaged { (sector : ℕ) (stated found : List ℕ) → IsHonest io.new → result ≡ Err (RecvFault.Pool (PoolFault.Damaged sector stated found))
+        → IsDamagedFeed (disk_of io.old) io.old.space kept.now.dir ask.now.target sector stated found }
     ensures reads { (text : List ℕ) (handed : List Covered) → StandsFor reader.old text handed → (later : List Covered) × StandsFor reader.new text later }
     // A receive that is over then has covered END.
     ensures over { (text : List ℕ) (handed : List Covered) → StandsFor reader.old text handed → is_live batch.old.stage ≡ true → is_live batch.new.stage ≡ false → (reading text).outcome ≡ complete }
@@ -65,11 +64,10 @@ fn drain<D: Disk>(
     ensures uncovered { OnOk result (waits_at batch.new.stage ≡ true → (text : List ℕ) (handed : List Covered) → StandsFor reader.old text handed → (reading text).covered ≡ []) }
     ensures pushed { pushed_of reader.new ≡ pushed_of reader.old }
     ensures room { result ≡ Ok false → 0 < room_of reader.new }
-    ensures fills { Fills (D.state io.old.disk.now) io.old.space io.old.failed (D.state io.new.disk.now) io.new.space io.new.failed (stop_of result) }
+    ensures fills { Fills (io_of io.old) (io_of io.new) (stop_of result) }
     // What was handed out took no more sectors than it costs, the refused record among it.
     ensures spends { (text : List ℕ) (handed : List Covered) → StandsFor reader.old text handed
         → (records : List Covered) × StandsFor reader.new text (handed ++ records) × Spends records io.old.space io.new.space (stop_of result) }
-    ensures same { io.new.disk.ghost_name ≡ io.old.disk.ghost_name }
 {
     faults_are_found();
     'records: loop {
@@ -91,21 +89,20 @@ pub(crate) fn read<D: Disk>(
     batch: &mut Batch,
     piece: &[u8],
 ) -> Result<(), RecvFault>
-    requires fits { FitsDisk (D.state io.old.disk.now).size io.old.space }
     requires stage { StageFits kept.now.dir ask.now.target batch.old.stage }
     requires reads { HasRead reader.old batch.old.stage }
     requires limit { pushed_of reader.old + length piece.now ≤ 2 ^ 62 }
-    ensures read { (tight : Bool) (start : D) (running : Plain) (work : Work) (text : List ℕ) (handed : List Covered) → (D.state io.new.disk.now).honest
-        → IsUnderWay tight (D.state start) (D.state io.old.disk.now) io.old.space kept.now running → TellsBefore ask.now work.stage kept.now.dir running
-        → HandsOut reader.old text handed waiting → IsWork (bound_of tight (running.number + 1)) (Has (D.state io.old.disk.now).seen io.old.space) batch.old work
-        → Reads ask.now running reader.new text piece.now (IsWork (bound_of tight (running.number + 1)) (Has (D.state io.new.disk.now).seen io.new.space) batch.new) work result }
+    ensures read { (tight : Bool) (start : D) (running : Plain) (work : Work) (text : List ℕ) (handed : List Covered) → IsHonest io.new
+        → IsUnderWay tight (D.state start) (disk_of io.old) io.old.space kept.now running → TellsBefore ask.now work.stage kept.now.dir running
+        → HandsOut reader.old text handed waiting → IsWork (bound_of tight (running.number + 1)) (blocks_of io.old) batch.old work
+        → Reads ask.now running reader.new text piece.now (IsWork (bound_of tight (running.number + 1)) (blocks_of io.new) batch.new) work result }
     ensures stage { StageFits kept.now.dir ask.now.target batch.new.stage }
     ensures idle { batch.new.taken ≡ false → batch.new ≡ batch.old }
     ensures waits { waits_at batch.new.stage ≡ true → batch.new ≡ batch.old }
     ensures known { IfErr result IsFeedFault }
     ensures stream { (text : List ℕ) (handed : List Covered) (fault : StreamFault) → StandsFor reader.old text handed → result ≡ Err (RecvFault.Stream fault) → (reading (text ++ piece.now)).outcome ≡ faulty fault }
-    ensures damaged { (sector : ℕ) (stated found : List ℕ) → (D.state io.new.disk.now).honest → result ≡ Err (RecvFault.Pool (PoolFault.Damaged sector stated found))
-        → IsDamagedFeed (D.state io.old.disk.now) io.old.space kept.now.dir ask.now.target sector stated found }
+    ensures damaged { (sector : ℕ) (stated found : List ℕ) → IsHonest io.new → result ≡ Err (RecvFault.Pool (PoolFault.Damaged sector stated found))
+        → IsDamagedFeed (disk_of io.old) io.old.space kept.now.dir ask.now.target sector stated found }
     ensures reads { HasRead reader.new stages.Over }
     // Where no fault was found the batch stands behind what was read; where it goes on that is all of the piece.
     ensures behind { OnOk result (HasRead reader.new batch.new.stage) }
@@ -121,10 +118,9 @@ pub(crate) fn read<D: Disk>(
         → (waits_at batch.old.stage ≡ true) × RefusesEach kept.now.dir ask.now (text ++ piece.now) fault }
     ensures uncovered { OnOk result (waits_at batch.new.stage ≡ true → (text : List ℕ) (handed : List Covered) → StandsFor reader.old text handed → (reading text).covered ≡ [] → (reading (text ++ piece.now)).covered ≡ []) }
     ensures still { OnOk result ((text : List ℕ) (handed : List Covered) → StandsFor reader.old text handed → waits_at batch.old.stage ≡ true → (reading (text ++ piece.now)).covered ≡ [] → waits_at batch.new.stage ≡ true) }
-    ensures fills { Fills (D.state io.old.disk.now) io.old.space io.old.failed (D.state io.new.disk.now) io.new.space io.new.failed (stop_of result) }
+    ensures fills { Fills (io_of io.old) (io_of io.new) (stop_of result) }
     // Whatever the text: the records that it covers behind those that were handed out took no more sectors than they cost.
     ensures spends { (text : List ℕ) (handed : List Covered) → StandsFor reader.old text handed → Spends (records_behind handed (text ++ piece.now)) io.old.space io.new.space (stop_of result) }
-    ensures same { io.new.disk.ghost_name ≡ io.old.disk.ghost_name }
 {
     let mut rest = piece;
     'pushes: while !rest.is_empty() {

@@ -39,15 +39,13 @@ pub struct Recv {
 impl Recv {
     ghost use Rattle.std.specs.Prelude.{◌≡◌, ◌+◌, ◌<◌, ◌≤◌, ◌||◌, ◌-◌, ℕ, Bool, List, [], length, Option, IfErr, IfOk, IsSome, OnOk, Err, false, true, not, sum_by, if◌then◌else◌, ◌++◌};
     ghost use Rattle.zst_block.specs.Blocks.{Has, KeepsBlocks};
+    ghost use Rattle.zst_block.specs.IoStates.{IsHonest, disk_of};
     ghost use Rattle.zst_block.specs.IoCalls.{HasCause, fails};
     ghost use Rattle.zst_image.specs.Commits.{Ready};
     ghost use Rattle.zst_image.specs.Reads.{bound_of, free_by};
     ghost use Rattle.zst_model.specs.declared.refusals.plan_fault.PlanFault.{PlanFault as PlainPlanFault};
     ghost use Rattle.zst_model.specs.declared.refusals.stream_fault.StreamFault.{StreamFault as PlainFault};
-    ghost use Rattle.zst_model.specs.declared.sends.header.Point.{Point as PlainPoint};
-    ghost use Rattle.zst_model.specs.pools.KeptPool.{kept_of};
     ghost use Rattle.zst_model.specs.pools.Pool.{Pool as Plain};
-    ghost use Rattle.zst_outside.specs.Images.{OnlyReads};
     ghost use Rattle.zst_pool.specs.Calls.{IsAtRest};
     ghost use Rattle.zst_pool.specs.Partials.{without_unkept};
     ghost use Rattle.zst_reader.specs.StandsFor.{HandsOut, StandsFor, pushed_of};
@@ -124,12 +122,12 @@ impl Recv {
     ) -> Result<FeedReport, RecvFault>
         requires live { is_live self.old.stage ≡ true }
         requires recv { RecvFits pool.old.kept.dir self.old }
-        requires ready { pool.old.io.failed ≡ false → Ready (D.state pool.old.io.disk.now) pool.old.kept.body }
+        requires ready { pool.old.io.failed ≡ false → Ready (disk_of pool.old.io) pool.old.kept.body }
         // What the definition makes of the pool that runs and of the receive, at every moment and in the end.
-        ensures feeds { (tight : Bool) (running : Plain) (text : List ℕ) (stage : PlainStage) → (D.state pool.new.io.disk.now).honest → pool.old.io.failed ≡ false
-            → IsAtRest tight (D.state pool.old.io.disk.now) pool.old.kept running → TellsBefore self.old.ask stage pool.old.kept.dir running
-            → Receives (bound_of tight running.number) (Has (D.state pool.old.io.disk.now).seen (free_by pool.old.kept.body)) self.old text stage
-            → Feeds tight (D.state pool.old.io.disk.now) (D.state pool.new.io.disk.now) pool.new.kept self.new text piece.now stage running result }
+        ensures feeds { (tight : Bool) (running : Plain) (text : List ℕ) (stage : PlainStage) → IsHonest pool.new.io → pool.old.io.failed ≡ false
+            → IsAtRest tight (disk_of pool.old.io) pool.old.kept running → TellsBefore self.old.ask stage pool.old.kept.dir running
+            → Receives (bound_of tight running.number) (Has (disk_of pool.old.io).seen (free_by pool.old.kept.body)) self.old text stage
+            → Feeds tight (disk_of pool.old.io) (disk_of pool.new.io) pool.new.kept self.new text piece.now stage running result }
         // Whatever the image, E24 comes only where the longest extent that is then free is shorter than what is needed.
         ensures full { (need largest : ℕ) → result ≡ Err (RecvFault.Pool (PoolFault.Full need largest)) → (largest < need) × (largest ≡ largest_of pool.new.io.space) }
         // Whatever the image and the text: fewer sectors were free before it than the piece costs, by what it covers behind what was handed out.
@@ -163,8 +161,8 @@ impl Recv {
         // With END the reading of all that it was fed is complete.
         ensures whole { (text : List ℕ) (handed : List Covered) → StandsFor self.old.reader text handed → IfOk result (λ told. told.done ≡ true → (reading (text ++ piece.now)).outcome ≡ complete) }
         // Whatever the image, E25 tells a damage of a set of this target's partial state, as the refused record found it.
-        ensures damaged { (sector : ℕ) (stated found : List ℕ) → (D.state pool.new.io.disk.now).honest → pool.old.io.failed ≡ false → result ≡ Err (RecvFault.Pool (PoolFault.Damaged sector stated found))
-            → IsDamagedFeed (D.state pool.old.io.disk.now) (free_by pool.old.kept.body) pool.old.kept.dir self.old.ask.target sector stated found }
+        ensures damaged { (sector : ℕ) (stated found : List ℕ) → IsHonest pool.new.io → pool.old.io.failed ≡ false → result ≡ Err (RecvFault.Pool (PoolFault.Damaged sector stated found))
+            → IsDamagedFeed (disk_of pool.old.io) (free_by pool.old.kept.body) pool.old.kept.dir self.old.ask.target sector stated found }
         // Whatever the image, where BEGIN is covered and its plan refuses a pool that the rows name, that is the answer: nothing else, as
         // E24, E25 or E28, comes before. And of all but limits no other answer is a plan's: it refuses each pool that they name.
         ensures planned { (text : List ℕ) (handed : List Covered) (fault : PlainPlanFault) → pool.old.io.failed ≡ false → is_waiting self.old ≡ true → StandsFor self.old.reader text handed → (reading text).covered ≡ []
@@ -177,11 +175,11 @@ impl Recv {
         ensures uncovered { (text : List ℕ) (handed : List Covered) → StandsFor self.old.reader text handed → (reading text).covered ≡ [] → is_waiting self.new ≡ true → (reading (text ++ piece.now)).covered ≡ [] }
         ensures open_still { pool.old.io.failed ≡ false → ¬ (result ≡ Err (RecvFault.Pool PoolFault.Failed)) }
         // Where it goes on, the blocks that were there still are, over the sectors that the latest body leaves free.
-        ensures blocks { IfOk result (λ told. told.done ≡ false → KeepsBlocks (D.state pool.old.io.disk.now).seen (free_by pool.old.kept.body) (D.state pool.new.io.disk.now).seen (free_by pool.new.kept.body)) }
-        ensures ready { pool.new.io.failed ≡ false → Ready (D.state pool.new.io.disk.now) pool.new.kept.body }
+        ensures blocks { IfOk result (λ told. told.done ≡ false → KeepsBlocks (disk_of pool.old.io).seen (free_by pool.old.kept.body) (disk_of pool.new.io).seen (free_by pool.new.kept.body)) }
+        ensures ready { pool.new.io.failed ≡ false → Ready (disk_of pool.new.io) pool.new.kept.body }
         ensures failed { pool.new.io.failed ≡ (pool.old.io.failed || fails (stop_of result)) }
-        ensures cause { HasCause (D.state pool.old.io.disk.now).faults (D.state pool.new.io.disk.now).faults (stop_of result) }
-        ensures honest { (D.state pool.new.io.disk.now).honest → (D.state pool.old.io.disk.now).honest }
+        ensures cause { HasCause (disk_of pool.old.io).faults (disk_of pool.new.io).faults (stop_of result) }
+        ensures honest { IsHonest pool.new.io → IsHonest pool.old.io }
         ensures same { pool.new.io.disk.ghost_name ≡ pool.old.io.disk.ghost_name }
     {
         if pool.io.failed {

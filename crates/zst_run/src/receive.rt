@@ -1,10 +1,10 @@
 // The line that receives a snapshot: its stream is read piece by piece, and each piece is one commit of the image.
 ghost use Rattle.std.specs.Prelude.{◌≡◌, ◌++◌, ◌∷◌, ◌≤◌, ℕ, Bool, List, [], Err, IfErr, IsSome, OnOk, Option, Some, codes, false, length, take, true};
-ghost use Rattle.std.specs.List.{concat};
 ghost use Rattle.zst_outside.specs.Printing.{Prints};
 ghost use Rattle.zst_outside.specs.States.{Gave, HandedOn};
 ghost use Rattle.zst_space.specs.FreeSectors.{FreeSectors};
 ghost use Rattle.zst_block.specs.Blocks.{Has, KeepsBlocks};
+ghost use Rattle.zst_block.specs.IoStates.{IsHonest, disk_of};
 ghost use Rattle.zst_image.specs.Commits.{Ready};
 ghost use Rattle.zst_image.specs.Reads.{free_by};
 ghost use Rattle.zst_model.specs.pools.Pool.{Pool as Plain};
@@ -162,25 +162,25 @@ fn feed_piece<D: Disk, S: Source>(
     requires live { is_live recv.old.stage ≡ true }
     requires recv { RecvFits pool.old.kept.dir recv.old }
     requires works { pool.old.io.failed ≡ false }
-    requires ready { Ready (D.state pool.old.io.disk.now) pool.old.kept.body }
+    requires ready { Ready (disk_of pool.old.io) pool.old.kept.body }
     requires room { length room.old ≡ piece_size }
-    ensures turns { Turns (D.state pool.old.io.disk.now) (D.state pool.new.io.disk.now) pool.old.kept pool.new.kept recv.old recv.new items.old items.new (S.state input.old) (S.state input.new) result }
+    ensures turns { Turns (disk_of pool.old.io) (disk_of pool.new.io) pool.old.kept pool.new.kept recv.old recv.new items.old items.new (S.state input.old) (S.state input.new) result }
     // Whatever the image, the plan over the rows at the start says whether BEGIN is refused.
     ensures plans { (rows : Rows) (text piece : List ℕ) → Gave (S.state input.old) (S.state input.new) piece → PlansOn rows pool.old.kept recv.old text → TurnPlans rows recv.old.ask pool.new.kept recv.new (text ++ piece) result }
     // One that goes on leaves each block that was there, and E25 tells a damage of the set as the refused record found it.
-    ensures blocks { result ≡ Turn.More → KeepsBlocks (D.state pool.old.io.disk.now).seen (free_by pool.old.kept.body) (D.state pool.new.io.disk.now).seen (free_by pool.new.kept.body) }
-    ensures damaged { (sector : ℕ) (stated found : List ℕ) → (D.state pool.new.io.disk.now).honest → result ≡ Turn.Refused (Refusal.Damaged sector stated found)
-        → IsDamagedFeed (D.state pool.old.io.disk.now) (free_by pool.old.kept.body) pool.old.kept.dir recv.old.ask.target sector stated found }
+    ensures blocks { result ≡ Turn.More → KeepsBlocks (disk_of pool.old.io).seen (free_by pool.old.kept.body) (disk_of pool.new.io).seen (free_by pool.new.kept.body) }
+    ensures damaged { (sector : ℕ) (stated found : List ℕ) → IsHonest pool.new.io → result ≡ Turn.Refused (Refusal.Damaged sector stated found)
+        → IsDamagedFeed (disk_of pool.old.io) (free_by pool.old.kept.body) pool.old.kept.dir recv.old.ask.target sector stated found }
     // A receive that goes on is live over a pool that works; each piece before it was whole, and a stream has no more bytes than it may have.
-    ensures leaves { TurnLeaves (D.state pool.old.io.disk.now) (D.state pool.new.io.disk.now) recv.old recv.new pool.new.io.failed result }
+    ensures leaves { TurnLeaves (disk_of pool.old.io) (disk_of pool.new.io) recv.old recv.new pool.new.io.failed result }
     ensures within { fed_of recv.new ≤ stream_limit }
     ensures ask { recv.new.ask ≡ recv.old.ask }
     ensures recv { RecvFits pool.new.kept.dir recv.new }
-    ensures ready { pool.new.io.failed ≡ false → Ready (D.state pool.new.io.disk.now) pool.new.kept.body }
+    ensures ready { pool.new.io.failed ≡ false → Ready (disk_of pool.new.io) pool.new.kept.body }
     ensures room { length room.new ≡ length room.old }
-    ensures later { (D.state pool.old.io.disk.now).faults ≤ (D.state pool.new.io.disk.now).faults }
+    ensures later { (disk_of pool.old.io).faults ≤ (disk_of pool.new.io).faults }
     ensures input_later { (S.state input.old).faults ≤ (S.state input.new).faults }
-    ensures honest { (D.state pool.new.io.disk.now).honest → (D.state pool.old.io.disk.now).honest }
+    ensures honest { IsHonest pool.new.io → IsHonest pool.old.io }
     ensures same { pool.new.io.disk.ghost_name ≡ pool.old.io.disk.ghost_name }
 {
     records_are_counted();
@@ -206,8 +206,8 @@ fn cut<D: Disk>(pool: &mut Pool<'_, D>, recv: Recv, end: End) -> Refusal
     requires live { is_live recv.stage ≡ true }
     requires recv { RecvFits pool.old.kept.dir recv }
     ensures is { result ≡ cut_refusal end (fed_of recv) }
-    ensures rests { (tight : Bool) (bound : Option ℕ) (running : Plain) (image : List ℕ) (space : FreeSectors) (stage : Stage) (text : List ℕ) → IsAtRest tight (D.state pool.old.io.disk.now) pool.old.kept running
-        → HasTaken bound (Has image space) recv text stage → IsAtRest tight (D.state pool.new.io.disk.now) pool.new.kept (left_by stage running) }
+    ensures rests { (tight : Bool) (bound : Option ℕ) (running : Plain) (image : List ℕ) (space : FreeSectors) (stage : Stage) (text : List ℕ) → IsAtRest tight (disk_of pool.old.io) pool.old.kept running
+        → HasTaken bound (Has image space) recv text stage → IsAtRest tight (disk_of pool.new.io) pool.new.kept (left_by stage running) }
     ensures disk { pool.new.io.disk.now ≡ pool.old.io.disk.now }
     ensures same { pool.new.io.disk.ghost_name ≡ pool.old.io.disk.ghost_name }
 {
@@ -250,16 +250,16 @@ fn feed_all<D: Disk, S: Source>(
     requires reads { StandsFor recv.reader [] [] }
     requires hands { HasHanded recv [] }
     requires works { pool.old.io.failed ≡ false }
-    requires ready { Ready (D.state pool.old.io.disk.now) pool.old.kept.body }
+    requires ready { Ready (disk_of pool.old.io) pool.old.kept.body }
     requires room { length room.old ≡ piece_size }
     ensures plans { (rows : Rows) (text : List ℕ) → Gave (S.state input.old) (S.state input.new) text → PlansOn rows pool.old.kept recv [] → SaysOfPlan rows recv.ask text (told result) }
-    ensures damaged { (sector : ℕ) (stated found : List ℕ) → (D.state pool.new.io.disk.now).honest → result ≡ Err (Refusal.Damaged sector stated found)
-        → IsDamagedReceive (D.state pool.old.io.disk.now) pool.old.kept.body recv.ask.target sector stated found }
-    ensures fed { Fed (λ tight start. WaitsForMore tight (D.state pool.old.io.disk.now) pool.old.kept recv recv.ask start [] 0) pool.old.kept (D.state pool.old.io.disk.now) (D.state pool.new.io.disk.now) recv.ask (S.state input.old) (S.state input.new) (told result) }
-    ensures refused { IfErr result (IsEnd (D.state pool.old.io.disk.now) (D.state pool.new.io.disk.now) (S.state input.old) (S.state input.new)) }
-    ensures later { (D.state pool.old.io.disk.now).faults ≤ (D.state pool.new.io.disk.now).faults }
+    ensures damaged { (sector : ℕ) (stated found : List ℕ) → IsHonest pool.new.io → result ≡ Err (Refusal.Damaged sector stated found)
+        → IsDamagedReceive (disk_of pool.old.io) pool.old.kept.body recv.ask.target sector stated found }
+    ensures fed { Fed (λ tight start. WaitsForMore tight (disk_of pool.old.io) pool.old.kept recv recv.ask start [] 0) pool.old.kept (disk_of pool.old.io) (disk_of pool.new.io) recv.ask (S.state input.old) (S.state input.new) (told result) }
+    ensures refused { IfErr result (IsEnd (disk_of pool.old.io) (disk_of pool.new.io) (S.state input.old) (S.state input.new)) }
+    ensures later { (disk_of pool.old.io).faults ≤ (disk_of pool.new.io).faults }
     ensures input_later { (S.state input.old).faults ≤ (S.state input.new).faults }
-    ensures honest { (D.state pool.new.io.disk.now).honest → (D.state pool.old.io.disk.now).honest }
+    ensures honest { IsHonest pool.new.io → IsHonest pool.old.io }
     ensures same { pool.new.io.disk.ghost_name ≡ pool.old.io.disk.ghost_name }
 {
     let mut items = 0;
@@ -281,15 +281,15 @@ fn receive_into<D: Disk, S: Source>(
     input: &mut S,
 ) -> Result<Receipt, Refusal>
     requires works { pool.old.io.failed ≡ false }
-    requires ready { Ready (D.state pool.old.io.disk.now) pool.old.kept.body }
+    requires ready { Ready (disk_of pool.old.io) pool.old.kept.body }
     ensures plans { (text : List ℕ) → Gave (S.state input.old) (S.state input.new) text → SaysOfPlan pool.old.kept.dir ask text (told result) }
-    ensures damaged { (sector : ℕ) (stated found : List ℕ) → (D.state pool.new.io.disk.now).honest → result ≡ Err (Refusal.Damaged sector stated found)
-        → IsDamagedReceive (D.state pool.old.io.disk.now) pool.old.kept.body ask.target sector stated found }
-    ensures fed { Fed (λ tight. IsReady ask tight (D.state pool.old.io.disk.now) pool.old.kept) pool.old.kept (D.state pool.old.io.disk.now) (D.state pool.new.io.disk.now) ask (S.state input.old) (S.state input.new) (told result) }
-    ensures refused { IfErr result (IsEnd (D.state pool.old.io.disk.now) (D.state pool.new.io.disk.now) (S.state input.old) (S.state input.new)) }
-    ensures later { (D.state pool.old.io.disk.now).faults ≤ (D.state pool.new.io.disk.now).faults }
+    ensures damaged { (sector : ℕ) (stated found : List ℕ) → IsHonest pool.new.io → result ≡ Err (Refusal.Damaged sector stated found)
+        → IsDamagedReceive (disk_of pool.old.io) pool.old.kept.body ask.target sector stated found }
+    ensures fed { Fed (λ tight. IsReady ask tight (disk_of pool.old.io) pool.old.kept) pool.old.kept (disk_of pool.old.io) (disk_of pool.new.io) ask (S.state input.old) (S.state input.new) (told result) }
+    ensures refused { IfErr result (IsEnd (disk_of pool.old.io) (disk_of pool.new.io) (S.state input.old) (S.state input.new)) }
+    ensures later { (disk_of pool.old.io).faults ≤ (disk_of pool.new.io).faults }
     ensures input_later { (S.state input.old).faults ≤ (S.state input.new).faults }
-    ensures honest { (D.state pool.new.io.disk.now).honest → (D.state pool.old.io.disk.now).honest }
+    ensures honest { IsHonest pool.new.io → IsHonest pool.old.io }
     ensures same { pool.new.io.disk.ghost_name ≡ pool.old.io.disk.ghost_name }
 {
     let Ok(mut room) = vec![in alloc; 0; PIECE] else {

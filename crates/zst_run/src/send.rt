@@ -4,7 +4,8 @@ ghost use Rattle.std.specs.List.{position};
 ghost use Rattle.zst_outside.specs.Images.{OnlyReads};
 ghost use Rattle.zst_outside.specs.States.{SinkState};
 ghost use Rattle.zst_space.specs.FreeSectors.{FreeSectors};
-ghost use Rattle.zst_block.specs.Blocks.{FitsDisk, Has};
+ghost use Rattle.zst_block.specs.Blocks.{Has};
+ghost use Rattle.zst_block.specs.IoStates.{IsHonest, blocks_of, disk_of};
 ghost use Rattle.zst_dir.specs.RowNames.{AreNamed};
 ghost use Rattle.zst_image.specs.Reads.{RunsBy};
 ghost use Rattle.zst_model.specs.pools.Pool.{Pool as Plain};
@@ -131,25 +132,23 @@ fn pass_piece<D: Disk, K: Sink>(
 ) -> Option<Result<(), Refusal>>
     requires room { 0 < length room.old }
     requires send { SendFits send.old }
-    requires fits { FitsDisk (D.state pool.old.io.disk.now).size pool.old.io.space }
     requires works { pool.old.io.failed ≡ false }
     requires within { count.old ≤ stream_limit }
-    ensures passed { (start : Option Point) (sent : Sent) (begun : SinkState) → (D.state pool.new.io.disk.now).honest → Sending (Has (D.state pool.old.io.disk.now).seen pool.old.io.space) start sent send.old begun (K.state out.old) count.old
-        → Passed (Has (D.state pool.new.io.disk.now).seen pool.new.io.space) start sent send.new (D.state pool.old.io.disk.now).faults (D.state pool.new.io.disk.now).faults begun (K.state out.new) count.new result }
+    ensures passed { (start : Option Point) (sent : Sent) (begun : SinkState) → IsHonest pool.new.io → Sending (blocks_of pool.old.io) start sent send.old begun (K.state out.old) count.old
+        → Passed (blocks_of pool.new.io) start sent send.new (disk_of pool.old.io).faults (disk_of pool.new.io).faults begun (K.state out.new) count.new result }
     ensures advances { Advances count.old count.new result }
-    ensures refused { IfSome result (λ answer. IfErr answer (IsSendRefusal OfGiving (D.state pool.old.io.disk.now) (D.state pool.new.io.disk.now) (K.state out.old) (K.state out.new))) }
+    ensures refused { IfSome result (λ answer. IfErr answer (IsSendRefusal OfGiving (disk_of pool.old.io) (disk_of pool.new.io) (K.state out.old) (K.state out.new))) }
     ensures unplanned { (fault : PlanFault) → result ≢ Some (Err (Refusal.Plan fault)) }
     ensures set { sent_set send.new ≡ sent_set send.old }
-    ensures knows { (images : List (List ℕ)) → Contains images (D.state pool.old.io.disk.now).seen → (D.state pool.new.io.disk.now).honest → Knows (IsAmong images) send.old → Knows (IsAmong images) send.new }
-    ensures damaged { (images : List (List ℕ)) → Contains images (D.state pool.old.io.disk.now).seen → (D.state pool.new.io.disk.now).honest → Knows (IsAmong images) send.old
-        → IfSome result (TellsOf (IsDamagedSend (IsAmong images) (D.state pool.old.io.disk.now).size (sent_set send.old))) }
+    ensures knows { (images : List (List ℕ)) → Contains images (disk_of pool.old.io).seen → IsHonest pool.new.io → Knows (IsAmong images) send.old → Knows (IsAmong images) send.new }
+    ensures damaged { (images : List (List ℕ)) → Contains images (disk_of pool.old.io).seen → IsHonest pool.new.io → Knows (IsAmong images) send.old
+        → IfSome result (TellsOf (IsDamagedSend (IsAmong images) (disk_of pool.old.io).size (sent_set send.old))) }
     ensures room { length room.new ≡ length room.old }
     ensures send { SendFits send.new }
     ensures works { result ≡ None → pool.new.io.failed ≡ false }
-    ensures reads { OnlyReads (D.state pool.old.io.disk.now) (D.state pool.new.io.disk.now) }
-    ensures later { (D.state pool.old.io.disk.now).faults ≤ (D.state pool.new.io.disk.now).faults }
+    ensures reads { OnlyReads (disk_of pool.old.io) (disk_of pool.new.io) }
+    ensures later { (disk_of pool.old.io).faults ≤ (disk_of pool.new.io).faults }
     ensures out_later { (K.state out.old).faults ≤ (K.state out.new).faults }
-    ensures fits { FitsDisk (D.state pool.new.io.disk.now).size pool.new.io.space }
     ensures same { pool.new.io.disk.ghost_name ≡ pool.old.io.disk.ghost_name }
 {
     match send.take(pool, room) {
@@ -170,16 +169,15 @@ fn pass_all<D: Disk, K: Sink>(
 ) -> Result<(), Refusal>
     requires room { 0 < length room.old }
     requires send { SendFits send }
-    requires fits { FitsDisk (D.state pool.old.io.disk.now).size pool.old.io.space }
     requires works { pool.old.io.failed ≡ false }
-    ensures sends { (start : Option Point) (sent : Sent) → (D.state pool.new.io.disk.now).honest → Sending (Has (D.state pool.old.io.disk.now).seen pool.old.io.space) start sent send (K.state out.old) (K.state out.old) 0
-        → SendsBy start (Ok sent) (D.state pool.old.io.disk.now).faults (D.state pool.new.io.disk.now).faults (K.state out.old) (K.state out.new) result }
+    ensures sends { (start : Option Point) (sent : Sent) → IsHonest pool.new.io → Sending (blocks_of pool.old.io) start sent send (K.state out.old) (K.state out.old) 0
+        → SendsBy start (Ok sent) (disk_of pool.old.io).faults (disk_of pool.new.io).faults (K.state out.old) (K.state out.new) result }
     ensures unplanned { (fault : PlanFault) → result ≢ Err (Refusal.Plan fault) }
-    ensures damaged { (images : List (List ℕ)) → Contains images (D.state pool.old.io.disk.now).seen → (D.state pool.new.io.disk.now).honest → Knows (IsAmong images) send
-        → TellsOf (IsDamagedSend (IsAmong images) (D.state pool.old.io.disk.now).size (sent_set send)) result }
-    ensures refused { IfErr result (IsSendRefusal OfGiving (D.state pool.old.io.disk.now) (D.state pool.new.io.disk.now) (K.state out.old) (K.state out.new)) }
-    ensures reads { OnlyReads (D.state pool.old.io.disk.now) (D.state pool.new.io.disk.now) }
-    ensures later { (D.state pool.old.io.disk.now).faults ≤ (D.state pool.new.io.disk.now).faults }
+    ensures damaged { (images : List (List ℕ)) → Contains images (disk_of pool.old.io).seen → IsHonest pool.new.io → Knows (IsAmong images) send
+        → TellsOf (IsDamagedSend (IsAmong images) (disk_of pool.old.io).size (sent_set send)) result }
+    ensures refused { IfErr result (IsSendRefusal OfGiving (disk_of pool.old.io) (disk_of pool.new.io) (K.state out.old) (K.state out.new)) }
+    ensures reads { OnlyReads (disk_of pool.old.io) (disk_of pool.new.io) }
+    ensures later { (disk_of pool.old.io).faults ≤ (disk_of pool.new.io).faults }
     ensures same { pool.new.io.disk.ghost_name ≡ pool.old.io.disk.ghost_name }
 {
     let mut count = 0;
@@ -283,16 +281,15 @@ fn send_from<D: Disk, K: Sink>(
     asked: &SendRequest,
     out: &mut K,
 ) -> Result<(), Refusal>
-    requires fits { FitsDisk (D.state pool.old.io.disk.now).size pool.old.io.space }
     requires works { pool.old.io.failed ≡ false }
-    ensures sends { (running : Plain) → (D.state pool.new.io.disk.now).honest → RunsBy None (Has (D.state pool.old.io.disk.now).seen pool.old.io.space) pool.old.kept.dir running
-        → SendsBy (start_of asked.now) (to_send asked.now running) (D.state pool.old.io.disk.now).faults (D.state pool.new.io.disk.now).faults (K.state out.old) (K.state out.new) result }
+    ensures sends { (running : Plain) → IsHonest pool.new.io → RunsBy None (blocks_of pool.old.io) pool.old.kept.dir running
+        → SendsBy (start_of asked.now) (to_send asked.now running) (disk_of pool.old.io).faults (disk_of pool.new.io).faults (K.state out.old) (K.state out.new) result }
     ensures planned { (running : Plain) → AreNamed pool.old.kept.dir running → IfUnplanned (to_send asked.now running) (K.state out.old) (K.state out.new) result }
     ensures because { (running : Plain) (fault : PlanFault) → AreNamed pool.old.kept.dir running → result ≡ Err (Refusal.Plan fault) → to_send asked.now running ≡ Err fault }
-    ensures damaged { (D.state pool.new.io.disk.now).honest → TellsOf (OfAsked asked.now pool.old.kept.dir (send_damage (D.state pool.old.io.disk.now))) result }
-    ensures refused { IfErr result (IsSendRefusal OfGiving (D.state pool.old.io.disk.now) (D.state pool.new.io.disk.now) (K.state out.old) (K.state out.new)) }
-    ensures reads { OnlyReads (D.state pool.old.io.disk.now) (D.state pool.new.io.disk.now) }
-    ensures later { (D.state pool.old.io.disk.now).faults ≤ (D.state pool.new.io.disk.now).faults }
+    ensures damaged { IsHonest pool.new.io → TellsOf (OfAsked asked.now pool.old.kept.dir (send_damage (disk_of pool.old.io))) result }
+    ensures refused { IfErr result (IsSendRefusal OfGiving (disk_of pool.old.io) (disk_of pool.new.io) (K.state out.old) (K.state out.new)) }
+    ensures reads { OnlyReads (disk_of pool.old.io) (disk_of pool.new.io) }
+    ensures later { (disk_of pool.old.io).faults ≤ (disk_of pool.new.io).faults }
     ensures same { pool.new.io.disk.ghost_name ≡ pool.old.io.disk.ghost_name }
 {
     let send = open(alloc, pool, asked)?;

@@ -1,5 +1,5 @@
 ghost use Rattle.std.specs.Prelude.{◌≡◌, ◌*◌, ◌+◌, ◌<◌, ◌≤◌, true, Contains, IfOk, IfSome, List, None, Ok, ℕ};
-ghost use Rattle.zst_block.specs.Blocks.{FitsDisk, Has};
+ghost use Rattle.zst_block.specs.IoStates.{IsHonest, blocks_of, disk_of, io_of};
 ghost use Rattle.zst_block.specs.IoCalls.{Looks, stop_of};
 ghost use Rattle.zst_model.specs.declared.sends.header.Header.{Header};
 ghost use Rattle.zst_model.specs.sends.View.{view_of};
@@ -137,28 +137,25 @@ impl Place {
         source: Option<u64>,
     ) -> Result<Option<DueItems>, BlockFault>
         requires place { PlaceFits self.old }
-        requires fits { FitsDisk (D.state io.old.disk.now).size io.old.space }
 
         // Of a set that holds a state, what is found comes first, and no damage is told.
-        ensures found { (header : Header) (snap : DatedState) → (D.state io.new.disk.now).honest → SetHolds (Has (D.state io.old.disk.now).seen io.old.space) set.now snap → IsPlaceOf snap self.old
-            → Delivers (GoesTo (Has (D.state io.new.disk.now).seen io.new.space) snap (view_of header snap (choice_after source)) self.old self.new) result }
+        ensures found { (header : Header) (snap : DatedState) → IsHonest io.new → SetHolds (blocks_of io.old) set.now snap → IsPlaceOf snap self.old
+            → Delivers (GoesTo (blocks_of io.new) snap (view_of header snap (choice_after source)) self.old self.new) result }
 
         // What is found may stand in the set.
-        ensures stands { (images : List (List ℕ)) → Contains images (D.state io.old.disk.now).seen → (D.state io.new.disk.now).honest → IfOk result (λ found. IfSome found (DueStands (IsAmong images) set.now)) }
+        ensures stands { (images : List (List ℕ)) → Contains images (disk_of io.old).seen → IsHonest io.new → IfOk result (λ found. IfSome found (DueStands (IsAmong images) set.now)) }
 
         // Whatever the image, what is found is in its range, and damage is told of a block of the walk.
         ensures place { PlaceFits self.new }
         ensures ranges { IfOk result (λ found. IfSome found DueFits) }
-        ensures damaged { (D.state io.new.disk.now).honest → IfDamaged result (IsDamagedCell (IsSeen (D.state io.old.disk.now).seen) (D.state io.old.disk.now).size set.now) }
-        ensures looks { Looks (D.state io.old.disk.now) io.old.space io.old.failed (D.state io.new.disk.now) io.new.space io.new.failed (stop_of result) }
+        ensures damaged { IsHonest io.new → IfDamaged result (IsDamagedCell (IsSeen (disk_of io.old).seen) (disk_of io.old).size set.now) }
+        ensures looks { Looks (io_of io.old) (io_of io.new) (stop_of result) }
         // Of a set whose slots are tight it reads at most 64 blocks, and behind all numbers none. Where nothing is found it goes behind them, and else what is found has an included number or pair.
-        ensures few { (snap : DatedState) → (D.state io.new.disk.now).honest → SetIsTight (Has (D.state io.old.disk.now).seen io.old.space) set.now snap
-            → (D.state io.new.disk.now).calls + 64 * ended self.old ≤ (D.state io.old.disk.now).calls + 64 }
+        ensures few { (snap : DatedState) → IsHonest io.new → SetIsTight (blocks_of io.old) set.now snap
+            → (disk_of io.new).calls + 64 * ended self.old ≤ (disk_of io.old).calls + 64 }
         ensures ends { result ≡ Ok None → ended self.new ≡ 1 }
-        ensures counted { (snap : DatedState) → (D.state io.new.disk.now).honest → SetHolds (Has (D.state io.old.disk.now).seen io.old.space) set.now snap → IsPlaceOf snap self.old
+        ensures counted { (snap : DatedState) → IsHonest io.new → SetHolds (blocks_of io.old) set.now snap → IsPlaceOf snap self.old
             → IfOk result (λ found. IfSome found (λ due. 0 < cells_due snap due)) }
-        ensures kept_fit { FitsDisk (D.state io.new.disk.now).size io.new.space }
-        ensures same { io.new.disk.ghost_name ≡ io.old.disk.ghost_name }
     {
         walk_ends();
         object_is_next();
@@ -185,17 +182,14 @@ fn next_found<D: Disk>(
     source: Option<u64>,
     place: &Place,
 ) -> Result<Option<WalkEntry>, BlockFault>
-    requires fits { FitsDisk (D.state io.old.disk.now).size io.old.space }
-    ensures found { (snap : DatedState) → (D.state io.new.disk.now).honest → SetHolds (Has (D.state io.old.disk.now).seen io.old.space) set.now snap
-        → Delivers (IsNextCell (Has (D.state io.new.disk.now).seen io.new.space) snap (choice_after source) place.now.point place.now.slot) result }
+    ensures found { (snap : DatedState) → IsHonest io.new → SetHolds (blocks_of io.old) set.now snap
+        → Delivers (IsNextCell (blocks_of io.new) snap (choice_after source) place.now.point place.now.slot) result }
     ensures ranges { IfOk result (λ found. IfSome found (FoundFits place.now.point)) }
-    ensures stands { (D.state io.new.disk.now).honest → IfOk result (λ found. IfSome found (FoundStands (IsSeen (D.state io.old.disk.now).seen) set.now)) }
-    ensures damaged { (D.state io.new.disk.now).honest → IfDamaged result (IsDamagedCell (IsSeen (D.state io.old.disk.now).seen) (D.state io.old.disk.now).size set.now) }
-    ensures looks { Looks (D.state io.old.disk.now) io.old.space io.old.failed (D.state io.new.disk.now) io.new.space io.new.failed (stop_of result) }
-    ensures few { (snap : DatedState) → (D.state io.new.disk.now).honest → SetIsTight (Has (D.state io.old.disk.now).seen io.old.space) set.now snap
-        → (D.state io.new.disk.now).calls + 64 * ended place.now ≤ (D.state io.old.disk.now).calls + 64 }
-    ensures kept_fit { FitsDisk (D.state io.new.disk.now).size io.new.space }
-    ensures same { io.new.disk.ghost_name ≡ io.old.disk.ghost_name }
+    ensures stands { IsHonest io.new → IfOk result (λ found. IfSome found (FoundStands (IsSeen (disk_of io.old).seen) set.now)) }
+    ensures damaged { IsHonest io.new → IfDamaged result (IsDamagedCell (IsSeen (disk_of io.old).seen) (disk_of io.old).size set.now) }
+    ensures looks { Looks (io_of io.old) (io_of io.new) (stop_of result) }
+    ensures few { (snap : DatedState) → IsHonest io.new → SetIsTight (blocks_of io.old) set.now snap
+        → (disk_of io.new).calls + 64 * ended place.now ≤ (disk_of io.old).calls + 64 }
 {
     if place.is_ended() {
         return Ok(None);
@@ -215,16 +209,13 @@ fn counted<D: Disk, L: Ledger>(
     requires name { blank.name ≡ L.name }
     requires parts { blank.parts ≡ L.parts }
     requires some { 0 < blank.parts }
-    requires fits { FitsDisk (D.state io.old.disk.now).size io.old.space }
-    ensures found { (snap : DatedState) → (D.state io.new.disk.now).honest → SetHolds (Has (D.state io.old.disk.now).seen io.old.space) set.now snap
-        → Delivers (IsNextCell (Has (D.state io.new.disk.now).seen io.new.space) snap (choice_after source) place.now.point place.now.slot) result }
+    ensures found { (snap : DatedState) → IsHonest io.new → SetHolds (blocks_of io.old) set.now snap
+        → Delivers (IsNextCell (blocks_of io.new) snap (choice_after source) place.now.point place.now.slot) result }
     ensures ranges { IfOk result (λ found. IfSome found (FoundFits place.now.point)) }
-    ensures stands { (D.state io.new.disk.now).honest → IfOk result (λ found. IfSome found (FoundStands (IsSeen (D.state io.old.disk.now).seen) set.now)) }
-    ensures damaged { (D.state io.new.disk.now).honest → IfDamaged result (IsDamagedCell (IsSeen (D.state io.old.disk.now).seen) (D.state io.old.disk.now).size set.now) }
-    ensures looks { Looks (D.state io.old.disk.now) io.old.space io.old.failed (D.state io.new.disk.now) io.new.space io.new.failed (stop_of result) }
-    ensures few { (snap : DatedState) → (D.state io.new.disk.now).honest → SetIsTight (Has (D.state io.old.disk.now).seen io.old.space) set.now snap → (D.state io.new.disk.now).calls ≤ (D.state io.old.disk.now).calls + 64 }
-    ensures kept_fit { FitsDisk (D.state io.new.disk.now).size io.new.space }
-    ensures same { io.new.disk.ghost_name ≡ io.old.disk.ghost_name }
+    ensures stands { IsHonest io.new → IfOk result (λ found. IfSome found (FoundStands (IsSeen (disk_of io.old).seen) set.now)) }
+    ensures damaged { IsHonest io.new → IfDamaged result (IsDamagedCell (IsSeen (disk_of io.old).seen) (disk_of io.old).size set.now) }
+    ensures looks { Looks (io_of io.old) (io_of io.new) (stop_of result) }
+    ensures few { (snap : DatedState) → IsHonest io.new → SetIsTight (blocks_of io.old) set.now snap → (disk_of io.new).calls ≤ (disk_of io.old).calls + 64 }
 {
     let mut steps = Steps::<L>::new(blank);
     let none = zst_model::List::empty(alloc);

@@ -25,7 +25,8 @@ impl Send {
     ghost use Rattle.std.specs.Prelude.{Bool, Option, ◌≡◌, ◌==◌, ◌≢◌, ◌+◌, ◌≤◌, false, true, Contains, List, [], ℕ, IfErr, IfOk, None, Some, Err, length, Ok};
     ghost use Rattle.std.specs.List.{position};
     ghost use Rattle.zst_space.specs.FreeSectors.{FreeSectors};
-    ghost use Rattle.zst_block.specs.Blocks.{FitsDisk, Has};
+    ghost use Rattle.zst_block.specs.Blocks.{Has};
+    ghost use Rattle.zst_block.specs.IoStates.{IsHonest, blocks_of, disk_of, io_of};
     ghost use Rattle.zst_block.specs.IoCalls.{Looks};
     ghost use Rattle.zst_dir.specs.RowNames.{AreNamed};
     ghost use Rattle.zst_dir.specs.declared.rows.Snapshot.{Snapshot as SnapshotRow};
@@ -132,23 +133,22 @@ impl Send {
         into: &mut [u8],
     ) -> Result<usize, PoolFault>
         requires send { SendFits self.old }
-        requires fits { FitsDisk (D.state pool.old.io.disk.now).size pool.old.io.space }
 
         // The next bytes of the text are given, and those behind them are left.
-        ensures takes { (sent : Sent) (given left : List ℕ) → (D.state pool.new.io.disk.now).honest → Sends (Has (D.state pool.old.io.disk.now).seen pool.old.io.space) self.old sent given left
-            → Takes (Has (D.state pool.new.io.disk.now).seen pool.new.io.space) self.new sent given left into.new result }
+        ensures takes { (sent : Sent) (given left : List ℕ) → IsHonest pool.new.io → Sends (blocks_of pool.old.io) self.old sent given left
+            → Takes (blocks_of pool.new.io) self.new sent given left into.new result }
         // So they are of a send from a point.
-        ensures takes_from { (sent : Sent) (start : Option Point) (given left : List ℕ) → (D.state pool.new.io.disk.now).honest → SendsFrom (Has (D.state pool.old.io.disk.now).seen pool.old.io.space) self.old sent start given left
-            → TakesFrom (Has (D.state pool.new.io.disk.now).seen pool.new.io.space) self.new sent start given left into.new result }
+        ensures takes_from { (sent : Sent) (start : Option Point) (given left : List ℕ) → IsHonest pool.new.io → SendsFrom (blocks_of pool.old.io) self.old sent start given left
+            → TakesFrom (blocks_of pool.new.io) self.new sent start given left into.new result }
         // Whatever the image, only as many as were asked are given.
         ensures count { IfOk result (λ count. count ≤ length into.old) }
         // Its subject stays, and the plan isn't asked again.
         ensures subject { self.new.subject ≡ self.old.subject }
         ensures unplanned { (fault : PlanFault) → result ≢ Err (PoolFault.Plan fault) }
         // Among the images that the disk had so far, it keeps what may stand in the set, and E25 names a block of it.
-        ensures knows { (images : List (List ℕ)) → Contains images (D.state pool.old.io.disk.now).seen → (D.state pool.new.io.disk.now).honest → Knows (IsAmong images) self.old → Knows (IsAmong images) self.new }
-        ensures damaged { (images : List (List ℕ)) → Contains images (D.state pool.old.io.disk.now).seen → (D.state pool.new.io.disk.now).honest → Knows (IsAmong images) self.old
-            → IfErr result (IsOf (IsDamagedSend (IsAmong images) (D.state pool.old.io.disk.now).size self.old.subject.set)) }
+        ensures knows { (images : List (List ℕ)) → Contains images (disk_of pool.old.io).seen → IsHonest pool.new.io → Knows (IsAmong images) self.old → Knows (IsAmong images) self.new }
+        ensures damaged { (images : List (List ℕ)) → Contains images (disk_of pool.old.io).seen → IsHonest pool.new.io → Knows (IsAmong images) self.old
+            → IfErr result (IsOf (IsDamagedSend (IsAmong images) (disk_of pool.old.io).size self.old.subject.set)) }
         ensures into { length into.new ≡ length into.old }
         ensures send { SendFits self.new }
 
@@ -156,19 +156,17 @@ impl Send {
         ensures failed_pool { pool.old.io.failed ≡ true → result ≡ Err PoolFault.Failed }
         ensures open_still { pool.old.io.failed ≡ false → ¬ (result ≡ Err PoolFault.Failed) }
         // The pool is only read. E28 comes only where its disk failed in this call.
-        ensures looks { Looks (D.state pool.old.io.disk.now) pool.old.io.space pool.old.io.failed (D.state pool.new.io.disk.now) pool.new.io.space pool.new.io.failed (stop_of result) }
+        ensures looks { Looks (io_of pool.old.io) (io_of pool.new.io) (stop_of result) }
         // Of a set whose slots are tight it calls the disk at most 64 times for each number and pair of the items that have a byte of what it gave, and for two more, and once for each WRITE and SPILL of theirs.
-        ensures pays { (sent : Sent) (start : Option Point) (given left : List ℕ) → (D.state pool.new.io.disk.now).honest → SendsFrom (Has (D.state pool.old.io.disk.now).seen pool.old.io.space) self.old sent start given left
-            → SetIsTight (Has (D.state pool.old.io.disk.now).seen pool.old.io.space) self.old.subject.set sent.snapshot.objects
-            → IfOk result (λ count. (D.state pool.new.io.disk.now).calls ≤ (D.state pool.old.io.disk.now).calls + most_calls sent (items_in sent start (length given) count)) }
+        ensures pays { (sent : Sent) (start : Option Point) (given left : List ℕ) → IsHonest pool.new.io → SendsFrom (blocks_of pool.old.io) self.old sent start given left
+            → SetIsTight (blocks_of pool.old.io) self.old.subject.set sent.snapshot.objects
+            → IfOk result (λ count. (disk_of pool.new.io).calls ≤ (disk_of pool.old.io).calls + most_calls sent (items_in sent start (length given) count)) }
         // Over several takes the items that are put pay once, and a look that was made ahead isn't made again.
-        ensures ahead { (sent : Sent) (start : Option Point) (given left : List ℕ) → (D.state pool.new.io.disk.now).honest → SendsFrom (Has (D.state pool.old.io.disk.now).seen pool.old.io.space) self.old sent start given left
-            → SetIsTight (Has (D.state pool.old.io.disk.now).seen pool.old.io.space) self.old.subject.set sent.snapshot.objects
-            → (items : List Item) × AreToCome (Has (D.state pool.old.io.disk.now).seen pool.old.io.space) sent start self.old items
-            × IfOk result (λ count. PaysFor (Has (D.state pool.new.io.disk.now).seen pool.new.io.space) sent start items self.old self.new ((D.state pool.old.io.disk.now).calls + 1) (D.state pool.new.io.disk.now).calls) }
+        ensures ahead { (sent : Sent) (start : Option Point) (given left : List ℕ) → IsHonest pool.new.io → SendsFrom (blocks_of pool.old.io) self.old sent start given left
+            → SetIsTight (blocks_of pool.old.io) self.old.subject.set sent.snapshot.objects
+            → (items : List Item) × AreToCome (blocks_of pool.old.io) sent start self.old items
+            × IfOk result (λ count. PaysFor (blocks_of pool.new.io) sent start items self.old self.new ((disk_of pool.old.io).calls + 1) (disk_of pool.new.io).calls) }
         ensures kept { pool.new.kept ≡ pool.old.kept }
-        ensures kept_fit { FitsDisk (D.state pool.new.io.disk.now).size pool.new.io.space }
-        ensures same { pool.new.io.disk.ghost_name ≡ pool.old.io.disk.ghost_name }
     {
         if pool.io.failed {
             return Err(PoolFault::Failed);

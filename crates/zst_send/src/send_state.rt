@@ -1,6 +1,7 @@
 ghost use Rattle.std.specs.Prelude.{◌≡◌, ◌+◌, ◌<◌, ◌≤◌, true, false, Contains, List, [], ℕ, IfOk, Ok, OnOk, length};
 ghost use Rattle.zst_space.specs.FreeSectors.{FreeSectors};
-ghost use Rattle.zst_block.specs.Blocks.{FitsDisk, Has};
+ghost use Rattle.zst_block.specs.Blocks.{Has};
+ghost use Rattle.zst_block.specs.IoStates.{IsHonest, blocks_of, disk_of, io_of};
 ghost use Rattle.zst_block.specs.IoCalls.{Looks, stop_of};
 ghost use Rattle.zst_model.specs.declared.sends.header.Header.{Header};
 ghost use Rattle.zst_model.specs.declared.sends.header.Point.{Point};
@@ -81,29 +82,26 @@ impl SendState {
         requires stand { StandFits self.old }
         requires room { RoomFits room.old }
         requires given { record_len + payload_size self.old.work.payload ≡ self.old.work.given }
-        requires fits { FitsDisk (D.state io.old.disk.now).size io.old.space }
-        ensures advances { (header : Header) (snap : DatedState) (left : List ℕ) → (D.state io.new.disk.now).honest → SetHolds (Has (D.state io.old.disk.now).seen io.old.space) subject.now.set snap
-            → IsLoaded (Has (D.state io.old.disk.now).seen io.old.space) room.old → StandsAt (Has (D.state io.old.disk.now).seen io.old.space) snap (view_of header snap (choice_after subject.now.source)) subject.now.to self.old left
-            → Delivers (Advances (Has (D.state io.new.disk.now).seen io.new.space) snap (view_of header snap (choice_after subject.now.source)) subject.now.to left self.new) result }
-        ensures loaded { (header : Header) (snap : DatedState) (left : List ℕ) → (D.state io.new.disk.now).honest → SetHolds (Has (D.state io.old.disk.now).seen io.old.space) subject.now.set snap
-            → IsLoaded (Has (D.state io.old.disk.now).seen io.old.space) room.old → StandsAt (Has (D.state io.old.disk.now).seen io.old.space) snap (view_of header snap (choice_after subject.now.source)) subject.now.to self.old left
-            → IsLoaded (Has (D.state io.new.disk.now).seen io.new.space) room.new }
+        ensures advances { (header : Header) (snap : DatedState) (left : List ℕ) → IsHonest io.new → SetHolds (blocks_of io.old) subject.now.set snap
+            → IsLoaded (blocks_of io.old) room.old → StandsAt (blocks_of io.old) snap (view_of header snap (choice_after subject.now.source)) subject.now.to self.old left
+            → Delivers (Advances (blocks_of io.new) snap (view_of header snap (choice_after subject.now.source)) subject.now.to left self.new) result }
+        ensures loaded { (header : Header) (snap : DatedState) (left : List ℕ) → IsHonest io.new → SetHolds (blocks_of io.old) subject.now.set snap
+            → IsLoaded (blocks_of io.old) room.old → StandsAt (blocks_of io.old) snap (view_of header snap (choice_after subject.now.source)) subject.now.to self.old left
+            → IsLoaded (blocks_of io.new) room.new }
         ensures fresh { result ≡ Ok true → self.new.work.given ≡ 0 }
-        ensures stands { (images : List (List ℕ)) → Contains images (D.state io.old.disk.now).seen → (D.state io.new.disk.now).honest → IsOfSet (IsAmong images) subject.now.set self.old → OnOk result (IsOfSet (IsAmong images) subject.now.set self.new) }
-        ensures damaged { (images : List (List ℕ)) → Contains images (D.state io.old.disk.now).seen → (D.state io.new.disk.now).honest → IsOfSet (IsAmong images) subject.now.set self.old
-            → IfDamaged result (IsDamagedSend (IsAmong images) (D.state io.old.disk.now).size subject.now.set) }
+        ensures stands { (images : List (List ℕ)) → Contains images (disk_of io.old).seen → IsHonest io.new → IsOfSet (IsAmong images) subject.now.set self.old → OnOk result (IsOfSet (IsAmong images) subject.now.set self.new) }
+        ensures damaged { (images : List (List ℕ)) → Contains images (disk_of io.old).seen → IsHonest io.new → IsOfSet (IsAmong images) subject.now.set self.old
+            → IfDamaged result (IsDamagedSend (IsAmong images) (disk_of io.old).size subject.now.set) }
         ensures stand { StandFits self.new }
         ensures room { RoomFits room.new }
-        ensures looks { Looks (D.state io.old.disk.now) io.old.space io.old.failed (D.state io.new.disk.now) io.new.space io.new.failed (stop_of result) }
+        ensures looks { Looks (io_of io.old) (io_of io.new) (stop_of result) }
         // Of a set whose slots are tight it reads no more than the items take that it puts.
-        ensures puts { (header : Header) (snap : DatedState) (point : Point) (front : ℕ) (put : List Item) (place : ℕ) → (D.state io.new.disk.now).honest → SetHolds (Has (D.state io.old.disk.now).seen io.old.space) subject.now.set snap
-            → HasPut (Has (D.state io.old.disk.now).seen io.old.space) snap (view_of header snap (choice_after subject.now.source)) point front put place self.old
-            → IfOk result (λ more. Puts (Has (D.state io.new.disk.now).seen io.new.space) snap (view_of header snap (choice_after subject.now.source)) (SetIsTight (Has (D.state io.old.disk.now).seen io.old.space) subject.now.set snap) point front put place
-            self.old self.new room.old.holds room.new.holds (D.state io.old.disk.now).calls (D.state io.new.disk.now).calls) }
-        ensures rests { result ≡ Ok false → (self.new ≡ self.old) × ((D.state io.new.disk.now).calls ≡ (D.state io.old.disk.now).calls) }
+        ensures puts { (header : Header) (snap : DatedState) (point : Point) (front : ℕ) (put : List Item) (place : ℕ) → IsHonest io.new → SetHolds (blocks_of io.old) subject.now.set snap
+            → HasPut (blocks_of io.old) snap (view_of header snap (choice_after subject.now.source)) point front put place self.old
+            → IfOk result (λ more. Puts (blocks_of io.new) snap (view_of header snap (choice_after subject.now.source)) (SetIsTight (blocks_of io.old) subject.now.set snap) point front put place
+            self.old self.new room.old.holds room.new.holds (disk_of io.old).calls (disk_of io.new).calls) }
+        ensures rests { result ≡ Ok false → (self.new ≡ self.old) × ((disk_of io.new).calls ≡ (disk_of io.old).calls) }
         ensures kept { IsHeld room.old.holds self.old.work.payload → OnOk result (IsHeld room.new.holds self.new.work.payload) }
-        ensures kept_fit { FitsDisk (D.state io.new.disk.now).size io.new.space }
-        ensures same { io.new.disk.ghost_name ≡ io.old.disk.ghost_name }
     {
         if self.ended {
             return Ok(false);
@@ -137,29 +135,26 @@ impl SendState {
     ) -> Result<bool, BlockFault>
         requires stand { StandFits self.old }
         requires room { RoomFits room.old }
-        requires fits { FitsDisk (D.state io.old.disk.now).size io.old.space }
-        ensures advances { (header : Header) (snap : DatedState) (left : List ℕ) → (D.state io.new.disk.now).honest → SetHolds (Has (D.state io.old.disk.now).seen io.old.space) subject.now.set snap
-            → IsLoaded (Has (D.state io.old.disk.now).seen io.old.space) room.old → StandsAt (Has (D.state io.old.disk.now).seen io.old.space) snap (view_of header snap (choice_after subject.now.source)) subject.now.to self.old left
-            → Delivers (Advances (Has (D.state io.new.disk.now).seen io.new.space) snap (view_of header snap (choice_after subject.now.source)) subject.now.to left self.new) result }
-        ensures loaded { (header : Header) (snap : DatedState) (left : List ℕ) → (D.state io.new.disk.now).honest → SetHolds (Has (D.state io.old.disk.now).seen io.old.space) subject.now.set snap
-            → IsLoaded (Has (D.state io.old.disk.now).seen io.old.space) room.old → StandsAt (Has (D.state io.old.disk.now).seen io.old.space) snap (view_of header snap (choice_after subject.now.source)) subject.now.to self.old left
-            → IsLoaded (Has (D.state io.new.disk.now).seen io.new.space) room.new }
+        ensures advances { (header : Header) (snap : DatedState) (left : List ℕ) → IsHonest io.new → SetHolds (blocks_of io.old) subject.now.set snap
+            → IsLoaded (blocks_of io.old) room.old → StandsAt (blocks_of io.old) snap (view_of header snap (choice_after subject.now.source)) subject.now.to self.old left
+            → Delivers (Advances (blocks_of io.new) snap (view_of header snap (choice_after subject.now.source)) subject.now.to left self.new) result }
+        ensures loaded { (header : Header) (snap : DatedState) (left : List ℕ) → IsHonest io.new → SetHolds (blocks_of io.old) subject.now.set snap
+            → IsLoaded (blocks_of io.old) room.old → StandsAt (blocks_of io.old) snap (view_of header snap (choice_after subject.now.source)) subject.now.to self.old left
+            → IsLoaded (blocks_of io.new) room.new }
         ensures more { result ≡ Ok true → self.new.work.given < record_len + payload_size self.new.work.payload }
-        ensures stands { (images : List (List ℕ)) → Contains images (D.state io.old.disk.now).seen → (D.state io.new.disk.now).honest → IsOfSet (IsAmong images) subject.now.set self.old → OnOk result (IsOfSet (IsAmong images) subject.now.set self.new) }
-        ensures damaged { (images : List (List ℕ)) → Contains images (D.state io.old.disk.now).seen → (D.state io.new.disk.now).honest → IsOfSet (IsAmong images) subject.now.set self.old
-            → IfDamaged result (IsDamagedSend (IsAmong images) (D.state io.old.disk.now).size subject.now.set) }
+        ensures stands { (images : List (List ℕ)) → Contains images (disk_of io.old).seen → IsHonest io.new → IsOfSet (IsAmong images) subject.now.set self.old → OnOk result (IsOfSet (IsAmong images) subject.now.set self.new) }
+        ensures damaged { (images : List (List ℕ)) → Contains images (disk_of io.old).seen → IsHonest io.new → IsOfSet (IsAmong images) subject.now.set self.old
+            → IfDamaged result (IsDamagedSend (IsAmong images) (disk_of io.old).size subject.now.set) }
         ensures stand { StandFits self.new }
         ensures room { RoomFits room.new }
-        ensures looks { Looks (D.state io.old.disk.now) io.old.space io.old.failed (D.state io.new.disk.now) io.new.space io.new.failed (stop_of result) }
+        ensures looks { Looks (io_of io.old) (io_of io.new) (stop_of result) }
         // Of a set whose slots are tight it reads no more than the items take that it puts.
-        ensures puts { (header : Header) (snap : DatedState) (point : Point) (front : ℕ) (put : List Item) (place : ℕ) → (D.state io.new.disk.now).honest → SetHolds (Has (D.state io.old.disk.now).seen io.old.space) subject.now.set snap
-            → HasPut (Has (D.state io.old.disk.now).seen io.old.space) snap (view_of header snap (choice_after subject.now.source)) point front put place self.old
-            → IfOk result (λ more. Puts (Has (D.state io.new.disk.now).seen io.new.space) snap (view_of header snap (choice_after subject.now.source)) (SetIsTight (Has (D.state io.old.disk.now).seen io.old.space) subject.now.set snap) point front put place
-            self.old self.new room.old.holds room.new.holds (D.state io.old.disk.now).calls (D.state io.new.disk.now).calls) }
-        ensures rests { result ≡ Ok false → (self.new ≡ self.old) × ((D.state io.new.disk.now).calls ≡ (D.state io.old.disk.now).calls) }
+        ensures puts { (header : Header) (snap : DatedState) (point : Point) (front : ℕ) (put : List Item) (place : ℕ) → IsHonest io.new → SetHolds (blocks_of io.old) subject.now.set snap
+            → HasPut (blocks_of io.old) snap (view_of header snap (choice_after subject.now.source)) point front put place self.old
+            → IfOk result (λ more. Puts (blocks_of io.new) snap (view_of header snap (choice_after subject.now.source)) (SetIsTight (blocks_of io.old) subject.now.set snap) point front put place
+            self.old self.new room.old.holds room.new.holds (disk_of io.old).calls (disk_of io.new).calls) }
+        ensures rests { result ≡ Ok false → (self.new ≡ self.old) × ((disk_of io.new).calls ≡ (disk_of io.old).calls) }
         ensures kept { IsHeld room.old.holds self.old.work.payload → OnOk result (IsHeld room.new.holds self.new.work.payload) }
-        ensures kept_fit { FitsDisk (D.state io.new.disk.now).size io.new.space }
-        ensures same { io.new.disk.ghost_name ≡ io.old.disk.ghost_name }
     {
         if !self.work.is_given() {
             return Ok(true);
@@ -177,28 +172,25 @@ impl SendState {
     ) -> Result<usize, BlockFault>
         requires stand { StandFits self.old }
         requires room { RoomFits room.old }
-        requires fits { FitsDisk (D.state io.old.disk.now).size io.old.space }
-        ensures fills { (header : Header) (snap : DatedState) (left : List ℕ) → (D.state io.new.disk.now).honest → SetHolds (Has (D.state io.old.disk.now).seen io.old.space) subject.now.set snap
-            → IsLoaded (Has (D.state io.old.disk.now).seen io.old.space) room.old → StandsAt (Has (D.state io.old.disk.now).seen io.old.space) snap (view_of header snap (choice_after subject.now.source)) subject.now.to self.old left
-            → Delivers (Fills (Has (D.state io.new.disk.now).seen io.new.space) snap (view_of header snap (choice_after subject.now.source)) subject.now.to left into.new self.new) result }
-        ensures loaded { (header : Header) (snap : DatedState) (left : List ℕ) → (D.state io.new.disk.now).honest → SetHolds (Has (D.state io.old.disk.now).seen io.old.space) subject.now.set snap
-            → IsLoaded (Has (D.state io.old.disk.now).seen io.old.space) room.old → StandsAt (Has (D.state io.old.disk.now).seen io.old.space) snap (view_of header snap (choice_after subject.now.source)) subject.now.to self.old left
-            → IsLoaded (Has (D.state io.new.disk.now).seen io.new.space) room.new }
+        ensures fills { (header : Header) (snap : DatedState) (left : List ℕ) → IsHonest io.new → SetHolds (blocks_of io.old) subject.now.set snap
+            → IsLoaded (blocks_of io.old) room.old → StandsAt (blocks_of io.old) snap (view_of header snap (choice_after subject.now.source)) subject.now.to self.old left
+            → Delivers (Fills (blocks_of io.new) snap (view_of header snap (choice_after subject.now.source)) subject.now.to left into.new self.new) result }
+        ensures loaded { (header : Header) (snap : DatedState) (left : List ℕ) → IsHonest io.new → SetHolds (blocks_of io.old) subject.now.set snap
+            → IsLoaded (blocks_of io.old) room.old → StandsAt (blocks_of io.old) snap (view_of header snap (choice_after subject.now.source)) subject.now.to self.old left
+            → IsLoaded (blocks_of io.new) room.new }
         ensures into { length into.new ≡ length into.old }
         ensures count { IfOk result (λ count. count ≤ length into.old) }
-        ensures stands { (images : List (List ℕ)) → Contains images (D.state io.old.disk.now).seen → (D.state io.new.disk.now).honest → IsOfSet (IsAmong images) subject.now.set self.old → OnOk result (IsOfSet (IsAmong images) subject.now.set self.new) }
-        ensures damaged { (images : List (List ℕ)) → Contains images (D.state io.old.disk.now).seen → (D.state io.new.disk.now).honest → IsOfSet (IsAmong images) subject.now.set self.old
-            → IfDamaged result (IsDamagedSend (IsAmong images) (D.state io.old.disk.now).size subject.now.set) }
+        ensures stands { (images : List (List ℕ)) → Contains images (disk_of io.old).seen → IsHonest io.new → IsOfSet (IsAmong images) subject.now.set self.old → OnOk result (IsOfSet (IsAmong images) subject.now.set self.new) }
+        ensures damaged { (images : List (List ℕ)) → Contains images (disk_of io.old).seen → IsHonest io.new → IsOfSet (IsAmong images) subject.now.set self.old
+            → IfDamaged result (IsDamagedSend (IsAmong images) (disk_of io.old).size subject.now.set) }
         ensures stand { StandFits self.new }
         ensures room { RoomFits room.new }
-        ensures looks { Looks (D.state io.old.disk.now) io.old.space io.old.failed (D.state io.new.disk.now) io.new.space io.new.failed (stop_of result) }
+        ensures looks { Looks (io_of io.old) (io_of io.new) (stop_of result) }
         // Of a set whose slots are tight it reads no more than the items take that have a byte of what it gives.
-        ensures puts { (header : Header) (snap : DatedState) (point : Point) (front : ℕ) (put : List Item) (place : ℕ) → (D.state io.new.disk.now).honest → SetHolds (Has (D.state io.old.disk.now).seen io.old.space) subject.now.set snap
-            → HasPut (Has (D.state io.old.disk.now).seen io.old.space) snap (view_of header snap (choice_after subject.now.source)) point front put place self.old
-            → IfOk result (λ count. PutsIn (Has (D.state io.new.disk.now).seen io.new.space) snap (view_of header snap (choice_after subject.now.source)) (SetIsTight (Has (D.state io.old.disk.now).seen io.old.space) subject.now.set snap) point front put place count
-            self.old self.new (D.state io.old.disk.now).calls (D.state io.new.disk.now).calls) }
-        ensures kept_fit { FitsDisk (D.state io.new.disk.now).size io.new.space }
-        ensures same { io.new.disk.ghost_name ≡ io.old.disk.ghost_name }
+        ensures puts { (header : Header) (snap : DatedState) (point : Point) (front : ℕ) (put : List Item) (place : ℕ) → IsHonest io.new → SetHolds (blocks_of io.old) subject.now.set snap
+            → HasPut (blocks_of io.old) snap (view_of header snap (choice_after subject.now.source)) point front put place self.old
+            → IfOk result (λ count. PutsIn (blocks_of io.new) snap (view_of header snap (choice_after subject.now.source)) (SetIsTight (blocks_of io.old) subject.now.set snap) point front put place count
+            self.old self.new (disk_of io.old).calls (disk_of io.new).calls) }
     {
         let mut count = 0;
         while count < into.len() {

@@ -1,5 +1,5 @@
 ghost use Rattle.std.specs.Prelude.{◌≡◌, ◌*◌, ◌+◌, ◌≤◌, true, Contains, List, None, Some, IfOk, IfSome, OnOk, min, ℕ};
-ghost use Rattle.zst_block.specs.Blocks.{FitsDisk, Has};
+ghost use Rattle.zst_block.specs.IoStates.{IsHonest, blocks_of, disk_of, io_of};
 ghost use Rattle.zst_block.specs.IoCalls.{Looks, stop_of};
 ghost use Rattle.zst_model.specs.declared.sends.header.Header.{Header};
 ghost use Rattle.zst_model.specs.declared.states.item.Item.{Item};
@@ -56,28 +56,25 @@ impl Walk {
         source: Option<u64>,
     ) -> Result<Option<DueItems>, BlockFault>
         requires walk { WalkFits self.old }
-        requires fits { FitsDisk (D.state io.old.disk.now).size io.old.space }
 
         // Of a set that holds a state, the first item that is left comes next, and no damage is told.
-        ensures gives { (header : Header) (snap : DatedState) (held : List Item) → (D.state io.new.disk.now).honest → SetHolds (Has (D.state io.old.disk.now).seen io.old.space) set.now snap
-            → IsWalk (Has (D.state io.old.disk.now).seen io.old.space) snap self.old held
-            → Delivers (Gives (Has (D.state io.new.disk.now).seen io.new.space) snap (view_of header snap (choice_after source)) (items_left (view_of header snap (choice_after source)) self.old held) self.new) result }
+        ensures gives { (header : Header) (snap : DatedState) (held : List Item) → IsHonest io.new → SetHolds (blocks_of io.old) set.now snap
+            → IsWalk (blocks_of io.old) snap self.old held
+            → Delivers (Gives (blocks_of io.new) snap (view_of header snap (choice_after source)) (items_left (view_of header snap (choice_after source)) self.old held) self.new) result }
 
         // What comes next may stand in the set, where what the walk holds may.
-        ensures stands { (images : List (List ℕ)) → Contains images (D.state io.old.disk.now).seen → (D.state io.new.disk.now).honest → WalkStands (IsAmong images) set.now self.old
+        ensures stands { (images : List (List ℕ)) → Contains images (disk_of io.old).seen → IsHonest io.new → WalkStands (IsAmong images) set.now self.old
             → OnOk result (WalkStands (IsAmong images) set.now self.new) × IfOk result (λ next. IfSome next (DueStands (IsAmong images) set.now)) }
 
         // Whatever the image, what comes next is in its range, and damage is told of a block of the walk.
         ensures walk { WalkFits self.new }
         ensures ranges { IfOk result (λ next. IfSome next DueFits) }
-        ensures damaged { (D.state io.new.disk.now).honest → IfDamaged result (IsDamagedCell (IsSeen (D.state io.old.disk.now).seen) (D.state io.old.disk.now).size set.now) }
-        ensures looks { Looks (D.state io.old.disk.now) io.old.space io.old.failed (D.state io.new.disk.now) io.new.space io.new.failed (stop_of result) }
+        ensures damaged { IsHonest io.new → IfDamaged result (IsDamagedCell (IsSeen (disk_of io.old).seen) (disk_of io.old).size set.now) }
+        ensures looks { Looks (io_of io.old) (io_of io.new) (stop_of result) }
         // Of a set whose slots are tight it reads at most 64 blocks for each included number or pair that comes, and for each look that it is further ahead.
-        ensures few { (header : Header) (snap : DatedState) (held : List Item) → (D.state io.new.disk.now).honest → SetIsTight (Has (D.state io.old.disk.now).seen io.old.space) set.now snap
-            → IsWalk (Has (D.state io.old.disk.now).seen io.old.space) snap self.old held
-            → IfOk result (λ next. (D.state io.new.disk.now).calls + 64 * looks_ahead snap self.old ≤ (D.state io.old.disk.now).calls + 64 * (cells_next snap next + looks_ahead snap self.new)) }
-        ensures kept_fit { FitsDisk (D.state io.new.disk.now).size io.new.space }
-        ensures same { io.new.disk.ghost_name ≡ io.old.disk.ghost_name }
+        ensures few { (header : Header) (snap : DatedState) (held : List Item) → IsHonest io.new → SetIsTight (blocks_of io.old) set.now snap
+            → IsWalk (blocks_of io.old) snap self.old held
+            → IfOk result (λ next. (disk_of io.new).calls + 64 * looks_ahead snap self.old ≤ (disk_of io.old).calls + 64 * (cells_next snap next + looks_ahead snap self.new)) }
     {
         let Some(due) = self.first(io, alloc, set, source)? else {
             return Ok(None);
@@ -98,22 +95,19 @@ impl Walk {
         source: Option<u64>,
     ) -> Result<Option<DueItems>, BlockFault>
         requires walk { WalkFits self.old }
-        requires fits { FitsDisk (D.state io.old.disk.now).size io.old.space }
-        ensures goes { (header : Header) (snap : DatedState) (held : List Item) → (D.state io.new.disk.now).honest → SetHolds (Has (D.state io.old.disk.now).seen io.old.space) set.now snap
-            → IsWalk (Has (D.state io.old.disk.now).seen io.old.space) snap self.old held
-            → Delivers (ComesFirst (Has (D.state io.new.disk.now).seen io.new.space) snap (view_of header snap (choice_after source)) (items_left (view_of header snap (choice_after source)) self.old held) self.new.place) result }
+        ensures goes { (header : Header) (snap : DatedState) (held : List Item) → IsHonest io.new → SetHolds (blocks_of io.old) set.now snap
+            → IsWalk (blocks_of io.old) snap self.old held
+            → Delivers (ComesFirst (blocks_of io.new) snap (view_of header snap (choice_after source)) (items_left (view_of header snap (choice_after source)) self.old held) self.new.place) result }
         ensures held { self.new.held ≡ None }
-        ensures stands { (images : List (List ℕ)) → Contains images (D.state io.old.disk.now).seen → (D.state io.new.disk.now).honest → WalkStands (IsAmong images) set.now self.old
+        ensures stands { (images : List (List ℕ)) → Contains images (disk_of io.old).seen → IsHonest io.new → WalkStands (IsAmong images) set.now self.old
             → OnOk result (WalkStands (IsAmong images) set.now self.new) × IfOk result (λ next. IfSome next (DueStands (IsAmong images) set.now)) }
         ensures walk { WalkFits self.new }
         ensures ranges { IfOk result (λ next. IfSome next DueFits) }
-        ensures damaged { (D.state io.new.disk.now).honest → IfDamaged result (IsDamagedCell (IsSeen (D.state io.old.disk.now).seen) (D.state io.old.disk.now).size set.now) }
-        ensures looks { Looks (D.state io.old.disk.now) io.old.space io.old.failed (D.state io.new.disk.now) io.new.space io.new.failed (stop_of result) }
-        ensures few { (snap : DatedState) → (D.state io.new.disk.now).honest → SetIsTight (Has (D.state io.old.disk.now).seen io.old.space) set.now snap → (D.state io.new.disk.now).calls ≤ (D.state io.old.disk.now).calls + 64 }
-        ensures ahead { (snap : DatedState) → (D.state io.new.disk.now).honest → SetIsTight (Has (D.state io.old.disk.now).seen io.old.space) set.now snap → IsPlaceOf snap self.old.place
-            → IfOk result (λ next. (D.state io.new.disk.now).calls + 64 * looks_ahead snap self.old ≤ (D.state io.old.disk.now).calls + 64 * (min 1 (cells_next snap next) + ended self.new.place)) }
-        ensures kept_fit { FitsDisk (D.state io.new.disk.now).size io.new.space }
-        ensures same { io.new.disk.ghost_name ≡ io.old.disk.ghost_name }
+        ensures damaged { IsHonest io.new → IfDamaged result (IsDamagedCell (IsSeen (disk_of io.old).seen) (disk_of io.old).size set.now) }
+        ensures looks { Looks (io_of io.old) (io_of io.new) (stop_of result) }
+        ensures few { (snap : DatedState) → IsHonest io.new → SetIsTight (blocks_of io.old) set.now snap → (disk_of io.new).calls ≤ (disk_of io.old).calls + 64 }
+        ensures ahead { (snap : DatedState) → IsHonest io.new → SetIsTight (blocks_of io.old) set.now snap → IsPlaceOf snap self.old.place
+            → IfOk result (λ next. (disk_of io.new).calls + 64 * looks_ahead snap self.old ≤ (disk_of io.old).calls + 64 * (min 1 (cells_next snap next) + ended self.new.place)) }
     {
         match self.held {
             Some(due) => {
@@ -135,21 +129,18 @@ impl Walk {
     ) -> Result<DueItems, BlockFault>
         requires walk { WalkFits self.old }
         requires run { (is_run run ≡ true) × DueFits run }
-        requires fits { FitsDisk (D.state io.old.disk.now).size io.old.space }
-        ensures gives { (header : Header) (snap : DatedState) (left : List Item) → (D.state io.new.disk.now).honest → SetHolds (Has (D.state io.old.disk.now).seen io.old.space) set.now snap
-            → ComesFirst (Has (D.state io.old.disk.now).seen io.old.space) snap (view_of header snap (choice_after source)) left self.old.place (Some run)
-            → Delivers (λ due. Gives (Has (D.state io.new.disk.now).seen io.new.space) snap (view_of header snap (choice_after source)) left self.new (Some due)) result }
-        ensures stands { (images : List (List ℕ)) → Contains images (D.state io.old.disk.now).seen → (D.state io.new.disk.now).honest
+        ensures gives { (header : Header) (snap : DatedState) (left : List Item) → IsHonest io.new → SetHolds (blocks_of io.old) set.now snap
+            → ComesFirst (blocks_of io.old) snap (view_of header snap (choice_after source)) left self.old.place (Some run)
+            → Delivers (λ due. Gives (blocks_of io.new) snap (view_of header snap (choice_after source)) left self.new (Some due)) result }
+        ensures stands { (images : List (List ℕ)) → Contains images (disk_of io.old).seen → IsHonest io.new
             → OnOk result (WalkStands (IsAmong images) set.now self.new) × IfOk result (DueStands (IsAmong images) set.now) }
         ensures walk { WalkFits self.new }
         ensures ranges { IfOk result DueFits }
-        ensures damaged { (D.state io.new.disk.now).honest → IfDamaged result (IsDamagedCell (IsSeen (D.state io.old.disk.now).seen) (D.state io.old.disk.now).size set.now) }
-        ensures looks { Looks (D.state io.old.disk.now) io.old.space io.old.failed (D.state io.new.disk.now) io.new.space io.new.failed (stop_of result) }
-        ensures few { (header : Header) (snap : DatedState) (left : List Item) → (D.state io.new.disk.now).honest → SetIsTight (Has (D.state io.old.disk.now).seen io.old.space) set.now snap
-            → ComesFirst (Has (D.state io.old.disk.now).seen io.old.space) snap (view_of header snap (choice_after source)) left self.old.place (Some run)
-            → IfOk result (λ due. (D.state io.new.disk.now).calls + 64 * (cells_due snap run + ended self.old.place) ≤ (D.state io.old.disk.now).calls + 64 * (cells_due snap due + looks_ahead snap self.new)) }
-        ensures kept_fit { FitsDisk (D.state io.new.disk.now).size io.new.space }
-        ensures same { io.new.disk.ghost_name ≡ io.old.disk.ghost_name }
+        ensures damaged { IsHonest io.new → IfDamaged result (IsDamagedCell (IsSeen (disk_of io.old).seen) (disk_of io.old).size set.now) }
+        ensures looks { Looks (io_of io.old) (io_of io.new) (stop_of result) }
+        ensures few { (header : Header) (snap : DatedState) (left : List Item) → IsHonest io.new → SetIsTight (blocks_of io.old) set.now snap
+            → ComesFirst (blocks_of io.old) snap (view_of header snap (choice_after source)) left self.old.place (Some run)
+            → IfOk result (λ due. (disk_of io.new).calls + 64 * (cells_due snap run + ended self.old.place) ≤ (disk_of io.old).calls + 64 * (cells_due snap due + looks_ahead snap self.new)) }
     {
         held_goes_on();
         let mut run = run;

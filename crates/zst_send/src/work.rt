@@ -1,5 +1,5 @@
 ghost use Rattle.std.specs.Prelude.{◌≡◌, ◌⊎◌, ◌==◌, ◌+◌, ◌-◌, ◌%◌, ◌<◌, ◌≤◌, ◌++◌, false, List, [], ℕ, IfOk, OnErr, OnOk, drop, length, min, pred, take};
-ghost use Rattle.zst_block.specs.Blocks.{FitsDisk, Has};
+ghost use Rattle.zst_block.specs.IoStates.{IsHonest, blocks_of, disk_of, io_of};
 ghost use Rattle.zst_block.specs.IoCalls.{Looks, stop_of};
 ghost use Rattle.zst_dnode.specs.Dnode.{DnodeFits};
 ghost use Rattle.zst_model.specs.declared.states.item.Change.TheVariants.{Put};
@@ -121,28 +121,25 @@ impl Work {
     ) -> Result<Work, BlockFault>
         requires due { DueFits due.now }
         requires room { RoomFits room.old }
-        requires fits { FitsDisk (D.state io.old.disk.now).size io.old.space }
 
-        ensures put { (text : List ℕ) (item : Item) → (D.state io.new.disk.now).honest → IsLoaded (Has (D.state io.old.disk.now).seen io.old.space) room.old
-            → HasWritten writer.old text → IsFirst (Has (D.state io.old.disk.now).seen io.old.space) due.now item
-            → Delivers (IsPut (Has (D.state io.new.disk.now).seen io.new.space) to text item writer.new) result }
-        ensures loaded { (item : Item) → (D.state io.new.disk.now).honest → IsLoaded (Has (D.state io.old.disk.now).seen io.old.space) room.old
-            → IsFirst (Has (D.state io.old.disk.now).seen io.old.space) due.now item → IsLoaded (Has (D.state io.new.disk.now).seen io.new.space) room.new }
+        ensures put { (text : List ℕ) (item : Item) → IsHonest io.new → IsLoaded (blocks_of io.old) room.old
+            → HasWritten writer.old text → IsFirst (blocks_of io.old) due.now item
+            → Delivers (IsPut (blocks_of io.new) to text item writer.new) result }
+        ensures loaded { (item : Item) → IsHonest io.new → IsLoaded (blocks_of io.old) room.old
+            → IsFirst (blocks_of io.old) due.now item → IsLoaded (blocks_of io.new) room.new }
 
         // Whatever the image, damage is told of the block that is due, and that block follows the record.
-        ensures damaged { (D.state io.new.disk.now).honest → IfDamaged result (IsDamagedDue (IsSeen (D.state io.old.disk.now).seen) (D.state io.old.disk.now).size due.now) }
+        ensures damaged { IsHonest io.new → IfDamaged result (IsDamagedDue (IsSeen (disk_of io.old).seen) (disk_of io.old).size due.now) }
         ensures follows { IfOk result (λ work. HasBlockOf due.now work.payload) }
         ensures work { IfOk result WorkFits }
         ensures fresh { IfOk result (λ work. work.given ≡ 0) }
         // What follows the record is what is due.
-        ensures size { (item : Item) → IsFirst (Has (D.state io.old.disk.now).seen io.old.space) due.now item → IfOk result (λ work. IsOfItem item work.payload) }
+        ensures size { (item : Item) → IsFirst (blocks_of io.old) due.now item → IfOk result (λ work. IsOfItem item work.payload) }
         ensures room { RoomFits room.new }
-        ensures looks { Looks (D.state io.old.disk.now) io.old.space io.old.failed (D.state io.new.disk.now) io.new.space io.new.failed (stop_of result) }
+        ensures looks { Looks (io_of io.old) (io_of io.new) (stop_of result) }
         // It reads the block that is due at most once, and the room has it then.
-        ensures calls { (D.state io.new.disk.now).calls ≤ (D.state io.old.disk.now).calls + reads_due due.now }
+        ensures calls { (disk_of io.new).calls ≤ (disk_of io.old).calls + reads_due due.now }
         ensures held { IfOk result (λ work. IsHeld room.new.holds work.payload) }
-        ensures kept_fit { FitsDisk (D.state io.new.disk.now).size io.new.space }
-        ensures same { io.new.disk.ghost_name ≡ io.old.disk.ghost_name }
     {
         match *due {
             DueItems::Absent { first, count } => Ok(Work::of(
@@ -225,17 +222,16 @@ impl Work {
         requires room { RoomFits room.old }
         requires some { 0 < length into.old }
         requires left { self.old.given < record_len + payload_size self.old.payload }
-        requires fits { FitsDisk (D.state io.old.disk.now).size io.old.space }
 
         // The next bytes are given, and those behind them are left.
-        ensures gives { (left : List ℕ) → (D.state io.new.disk.now).honest → IsLoaded (Has (D.state io.old.disk.now).seen io.old.space) room.old
-            → IsWork (Has (D.state io.old.disk.now).seen io.old.space) self.old left
-            → Delivers (λ count. (take count into.new ≡ take count left) × (count ≤ length left) × IsWork (Has (D.state io.new.disk.now).seen io.new.space) self.new (drop count left)) result }
-        ensures loaded { (left : List ℕ) → (D.state io.new.disk.now).honest → IsLoaded (Has (D.state io.old.disk.now).seen io.old.space) room.old
-            → IsWork (Has (D.state io.old.disk.now).seen io.old.space) self.old left → IsLoaded (Has (D.state io.new.disk.now).seen io.new.space) room.new }
+        ensures gives { (left : List ℕ) → IsHonest io.new → IsLoaded (blocks_of io.old) room.old
+            → IsWork (blocks_of io.old) self.old left
+            → Delivers (λ count. (take count into.new ≡ take count left) × (count ≤ length left) × IsWork (blocks_of io.new) self.new (drop count left)) result }
+        ensures loaded { (left : List ℕ) → IsHonest io.new → IsLoaded (blocks_of io.old) room.old
+            → IsWork (blocks_of io.old) self.old left → IsLoaded (blocks_of io.new) room.new }
 
         // Whatever the image, damage is told of the block that follows the record.
-        ensures damaged { (D.state io.new.disk.now).honest → IfDamaged result (IsDamagedPayload (IsSeen (D.state io.old.disk.now).seen) (D.state io.old.disk.now).size self.old.payload) }
+        ensures damaged { IsHonest io.new → IfDamaged result (IsDamagedPayload (IsSeen (disk_of io.old).seen) (disk_of io.old).size self.old.payload) }
         ensures count { IfOk result (λ count. (0 < count) × (count ≤ length into.old)) }
         ensures moved { IfOk result (λ count. self.new.given ≡ self.old.given + count) }
         ensures payload { self.new.payload ≡ self.old.payload }
@@ -243,13 +239,11 @@ impl Work {
         ensures work { WorkFits self.new }
         ensures room { RoomFits room.new }
         ensures stays { OnErr result (self.new ≡ self.old) }
-        ensures looks { Looks (D.state io.old.disk.now) io.old.space io.old.failed (D.state io.new.disk.now) io.new.space io.new.failed (stop_of result) }
+        ensures looks { Looks (io_of io.old) (io_of io.new) (stop_of result) }
         // It reads the block that follows the record, where one does, at most once, and not where the room has it already.
-        ensures calls { (D.state io.new.disk.now).calls ≤ (D.state io.old.disk.now).calls + blocks_behind self.old.payload }
-        ensures once { OnOk result (((D.state io.new.disk.now).calls ≤ (D.state io.old.disk.now).calls) ⊎ IsHeld room.new.holds self.old.payload) }
-        ensures kept { IsHeld room.old.holds self.old.payload → ((D.state io.new.disk.now).calls ≤ (D.state io.old.disk.now).calls) × OnOk result (IsHeld room.new.holds self.old.payload) }
-        ensures kept_fit { FitsDisk (D.state io.new.disk.now).size io.new.space }
-        ensures same { io.new.disk.ghost_name ≡ io.old.disk.ghost_name }
+        ensures calls { (disk_of io.new).calls ≤ (disk_of io.old).calls + blocks_behind self.old.payload }
+        ensures once { OnOk result (((disk_of io.new).calls ≤ (disk_of io.old).calls) ⊎ IsHeld room.new.holds self.old.payload) }
+        ensures kept { IsHeld room.old.holds self.old.payload → ((disk_of io.new).calls ≤ (disk_of io.old).calls) × OnOk result (IsHeld room.new.holds self.old.payload) }
     {
         let count = self.copy_next(room, io, into)?;
         self.given += count;
@@ -267,22 +261,19 @@ impl Work {
         requires room { RoomFits room.old }
         requires some { 0 < length into.old }
         requires left { self.now.given < record_len + payload_size self.now.payload }
-        requires fits { FitsDisk (D.state io.old.disk.now).size io.old.space }
-        ensures gives { (left : List ℕ) → (D.state io.new.disk.now).honest → IsLoaded (Has (D.state io.old.disk.now).seen io.old.space) room.old
-            → IsWork (Has (D.state io.old.disk.now).seen io.old.space) self.now left
+        ensures gives { (left : List ℕ) → IsHonest io.new → IsLoaded (blocks_of io.old) room.old
+            → IsWork (blocks_of io.old) self.now left
             → Delivers (λ count. (take count into.new ≡ take count left) × (count ≤ length left)) result }
-        ensures loaded { (left : List ℕ) → (D.state io.new.disk.now).honest → IsLoaded (Has (D.state io.old.disk.now).seen io.old.space) room.old
-            → IsWork (Has (D.state io.old.disk.now).seen io.old.space) self.now left → IsLoaded (Has (D.state io.new.disk.now).seen io.new.space) room.new }
-        ensures damaged { (D.state io.new.disk.now).honest → IfDamaged result (IsDamagedPayload (IsSeen (D.state io.old.disk.now).seen) (D.state io.old.disk.now).size self.now.payload) }
+        ensures loaded { (left : List ℕ) → IsHonest io.new → IsLoaded (blocks_of io.old) room.old
+            → IsWork (blocks_of io.old) self.now left → IsLoaded (blocks_of io.new) room.new }
+        ensures damaged { IsHonest io.new → IfDamaged result (IsDamagedPayload (IsSeen (disk_of io.old).seen) (disk_of io.old).size self.now.payload) }
         ensures count { IfOk result (λ count. (0 < count) × (count ≤ length into.old) × (self.now.given + count ≤ record_len + payload_size self.now.payload)) }
         ensures into { length into.new ≡ length into.old }
         ensures room { RoomFits room.new }
-        ensures looks { Looks (D.state io.old.disk.now) io.old.space io.old.failed (D.state io.new.disk.now) io.new.space io.new.failed (stop_of result) }
-        ensures calls { (D.state io.new.disk.now).calls ≤ (D.state io.old.disk.now).calls + blocks_behind self.now.payload }
-        ensures once { OnOk result (((D.state io.new.disk.now).calls ≤ (D.state io.old.disk.now).calls) ⊎ IsHeld room.new.holds self.now.payload) }
-        ensures kept { IsHeld room.old.holds self.now.payload → ((D.state io.new.disk.now).calls ≤ (D.state io.old.disk.now).calls) × OnOk result (IsHeld room.new.holds self.now.payload) }
-        ensures kept_fit { FitsDisk (D.state io.new.disk.now).size io.new.space }
-        ensures same { io.new.disk.ghost_name ≡ io.old.disk.ghost_name }
+        ensures looks { Looks (io_of io.old) (io_of io.new) (stop_of result) }
+        ensures calls { (disk_of io.new).calls ≤ (disk_of io.old).calls + blocks_behind self.now.payload }
+        ensures once { OnOk result (((disk_of io.new).calls ≤ (disk_of io.old).calls) ⊎ IsHeld room.new.holds self.now.payload) }
+        ensures kept { IsHeld room.old.holds self.now.payload → ((disk_of io.new).calls ≤ (disk_of io.old).calls) × OnOk result (IsHeld room.new.holds self.now.payload) }
     {
         if self.given < RECORD_LEN {
             return Ok(copy_from(&self.head, self.given, into));

@@ -1,6 +1,5 @@
 //! Nodes that are kept, told by the calls of the disk.
 ghost use Rattle.std.specs.Prelude.{◌≡◌};
-ghost use Rattle.zst_block.specs.Blocks.{FitsDisk};
 
 use crate::{all_free, unread, zeros};
 use std::alloc::AllocError;
@@ -9,8 +8,6 @@ use zst_outside::Disk;
 
 // Saves a node that begins with this byte.
 fn save_with<D: Disk>(io: &mut Io<'_, D>, byte: u8) -> Result<Ptr, BlockFault>
-    requires fits { FitsDisk (D.state io.old.disk.now).size io.old.space }
-    ensures fits { FitsDisk (D.state io.new.disk.now).size io.new.space }
     ensures same { io.new.disk.ghost_name ≡ io.old.disk.ghost_name }
 {
     io.node.put_bytes(0, &[byte]);
@@ -19,8 +16,6 @@ fn save_with<D: Disk>(io: &mut Io<'_, D>, byte: u8) -> Result<Ptr, BlockFault>
 
 // Saves so many nodes more.
 fn save_more<D: Disk>(io: &mut Io<'_, D>, count: u8) -> bool
-    requires fits { FitsDisk (D.state io.old.disk.now).size io.old.space }
-    ensures fits { FitsDisk (D.state io.new.disk.now).size io.new.space }
     ensures same { io.new.disk.ghost_name ≡ io.old.disk.ghost_name }
 {
     for byte in 0..count {
@@ -33,8 +28,6 @@ fn save_more<D: Disk>(io: &mut Io<'_, D>, count: u8) -> bool
 
 // Loads a node: the byte that it begins with, and how many calls of the disk that made.
 fn begin_of<D: Disk>(io: &mut Io<'_, D>, ptr: Ptr) -> Result<(u8, u64), BlockFault>
-    requires fits { FitsDisk (D.state io.old.disk.now).size io.old.space }
-    ensures fits { FitsDisk (D.state io.new.disk.now).size io.new.space }
     ensures same { io.new.disk.ghost_name ≡ io.old.disk.ghost_name }
 {
     let calls = io.disk.calls();

@@ -1,6 +1,5 @@
 //! How many calls of the disk a change of an object makes, and how many sectors it takes.
 ghost use Rattle.std.specs.Prelude.{◌≡◌, ◌<◌};
-ghost use Rattle.zst_block.specs.Blocks.{FitsDisk};
 ghost use Rattle.zst_model.specs.states.State.{IsHead};
 
 use crate::{all_free, unread, zeros};
@@ -49,8 +48,6 @@ struct Costs {
 // A set of one object with a block at an index.
 fn with_block<D: Disk>(io: &mut Io<'_, D>, object: u64, index: u64) -> Result<ObjSet, ObjFault>
     requires object { 0 < object }
-    requires fits { FitsDisk (D.state io.old.disk.now).size io.old.space }
-    ensures fits { FitsDisk (D.state io.new.disk.now).size io.new.space }
     ensures same { io.new.disk.ghost_name ≡ io.old.disk.ghost_name }
 {
     let mut set = ObjSet::empty();
@@ -67,7 +64,6 @@ fn costs_in<D: Disk>(
     index: u64,
 ) -> Result<Costs, ObjFault>
     requires object { 0 < object }
-    requires fits { FitsDisk (D.state io.old.disk.now).size io.old.space }
 {
     let none = Cost {
         calls: 0,

@@ -1,6 +1,5 @@
 //! Disks in memory.
 ghost use Rattle.std.specs.Prelude.{◌≡◌, IfOk};
-ghost use Rattle.zst_block.specs.Blocks.{FitsDisk};
 
 use std::alloc::{AllocError, Global};
 use zst_block::Io;
@@ -18,16 +17,13 @@ pub fn zeros(alloc: Global) -> Result<SureDisk, AllocError>
 pub fn all_free<'d>(alloc: Global, disk: &'d mut SureDisk) -> Io<'d, SureDisk>
     requires { (⟦<SureDisk as Disk>⟧.state disk.old).size ≡ 16777216 }
     ensures same { result.disk.ghost_name ≡ disk.entry.ghost_name }
-    ensures fits { FitsDisk (⟦<SureDisk as Disk>⟧.state result.disk.now).size result.space }
 {
     Io::new(alloc, disk, Space::new(8, 32_768, Vec::new(alloc)))
 }
 
 /// The same disk and what is free of it, where no block is kept.
 pub fn unread<'d, D: Disk>(alloc: Global, io: Io<'d, D>) -> Result<Io<'d, D>, AllocError>
-    requires { FitsDisk (D.state io.disk.now).size io.space }
     ensures same { IfOk result (λ new. new.disk.ghost_name ≡ io.entry.disk.ghost_name) }
-    ensures fits { IfOk result (λ new. FitsDisk (D.state new.disk.now).size new.space) }
 {
     let space = io.space.copy(alloc)?;
     Ok(Io::new(alloc, io.into_disk(), space))

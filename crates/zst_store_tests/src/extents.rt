@@ -1,6 +1,5 @@
 //! The free extents that a commit writes.
 ghost use Rattle.std.specs.Prelude.{◌≡◌, IfOk, length};
-ghost use Rattle.zst_block.specs.Blocks.{FitsDisk};
 
 use crate::zeros;
 use std::alloc::{AllocError, Global};
@@ -14,7 +13,6 @@ use zst_space::{Extent, Space};
 fn in_pieces<'d>(alloc: Global, disk: &'d mut SureDisk) -> Result<Io<'d, SureDisk>, AllocError>
     requires { (⟦<SureDisk as Disk>⟧.state disk.old).size ≡ 16777216 }
     ensures same { IfOk result (λ io. io.disk.ghost_name ≡ disk.entry.ghost_name) }
-    ensures fits { IfOk result (λ io. FitsDisk (⟦<SureDisk as Disk>⟧.state io.disk.now).size io.space) }
     ensures few { IfOk result (λ io. length io.space.free ≡ 2) }
 {
     let free = vec![in alloc;

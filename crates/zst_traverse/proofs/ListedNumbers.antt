@@ -1,6 +1,6 @@
 -- What the numbers that a list's pairs include are.
 use Rattle.std.proofs.Common.{◌≡◌, inl, inr, ⊎_elim, ℕ, zero, suc, ◌+◌, ◌^◌, ◌<◌, ◌≤◌, ◌||◌, nat_lt, min, Bool, true, false, sym, ◌∙◌, ap, subst, arith}
-use Rattle.std.specs.Prelude.{IfSome, Option, Some, None}
+use Rattle.std.specs.Prelude.{IfSome, Option, Some, None, is_some}
 use Rattle.std.proofs.lemmas.Bool.{and_from, and_parts, cases_lt, false_from_ne_true, false≢true, lt-ltb, ltb-true, or_cases, or_from, or_left, or_right}
 use Rattle.zst_dnode.specs.declared.dnode.Dnode.{Dnode}
 use Rattle.zst_model.specs.fields.Lists.{Runs, has_pair, HasNoneFrom, IsAtOrAfter, IsLeastFrom}
@@ -13,6 +13,7 @@ use Rattle.zst_objset.proofs.LeafLaws.{is_number_at}
 use Rattle.zst_traverse.specs.Cells.{choice_after, choice_with, IsNextObjectIn, NoNumber}
 use Rattle.zst_traverse.specs.Leaves.{FindsNumber, NumberFits}
 use Rattle.zst_traverse.specs.ListedNumbers.{AreIncluded, FindsListed, FindsObject, FindsOf, first_found, IsFirstListed, IsFirstOf, IsListedBelow, IsUnlisted, or_below}
+use Rattle.zst_traverse.specs.Runs.{FindsIn}
 use Rattle.zst_traverse.specs.declared.walk_entry.WalkEntry.{WalkEntry}
 use Rattle.zst_traverse.specs.declared.walk_entry.WalkEntry.TheVariants as found
 use Rattle.zst_traverse.proofs.Inclusion.{any_some}
@@ -239,6 +240,19 @@ found_bound from None fits = omega arith
 found_bound from (Some (found.Object number dnode)) (a, b, c) = omega arith
 found_bound from (Some (found.Gone first count)) (a, b, c) = omega arith
 found_bound from (Some (found.Pairs object first count what ptr)) fits = absurd fits
+
+-- ---- whether one of two lists has a pair
+
+module _ (listed withheld : Runs) (object end : ℕ) where
+  -- the pair that is found in the one
+  pub in_listed : (found : Option ℕ) → is_some found ≡ true → FindsIn (has_pair listed object) 0 end found → IsListedBelow listed withheld object end
+  in_listed None is finds = absurd (cc)
+  in_listed (Some index) is first = record { index = index; under = first.under; has = or_left (has_pair listed object index) (has_pair withheld object index) first.passes }
+
+  -- and in the other
+  pub in_withheld : (found : Option ℕ) → is_some found ≡ true → FindsIn (has_pair withheld object) 0 end found → IsListedBelow listed withheld object end
+  in_withheld None is finds = absurd (cc)
+  in_withheld (Some index) is first = record { index = index; under = first.under; has = or_right (has_pair listed object index) (has_pair withheld object index) first.passes }
 
 -- ---- an object, in the leaf of its number
 

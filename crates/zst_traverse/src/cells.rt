@@ -1,6 +1,6 @@
 //! The first included number or index at or after a point.
 ghost use Rattle.std.specs.Prelude.{◌≡◌, ◌⊎◌, ◌+◌, ◌*◌, ◌/◌, ◌^◌, ◌<◌, ◌≤◌, false, true, ℕ, IfNone, IfOk, IfSome, Some};
-ghost use Rattle.zst_block.specs.Blocks.{FitsDisk, Has};
+ghost use Rattle.zst_block.specs.IoStates.{IsHonest, blocks_of, disk_of, io_of};
 ghost use Rattle.zst_block.specs.IoCalls.{Looks, stop_of};
 ghost use Rattle.zst_dnode.specs.Dnode.{DnodeFits};
 ghost use Rattle.zst_model.specs.states.DatedState.{DatedState};
@@ -41,17 +41,14 @@ pub(crate) fn dnode_in<D: Disk, L: Ledger>(
     steps: &mut Steps<L>,
 ) -> Result<Option<Dnode>, BlockFault>
     requires number { (0 < number) × (number < 2 ^ 48) × (leaf.now.index ≡ number / 16) }
-    requires fits { FitsDisk (D.state io.old.disk.now).size io.old.space }
-    ensures found { (snap : DatedState) (pairs : Pairs) → (D.state io.new.disk.now).honest → LeafIn (Has (D.state io.old.disk.now).seen io.old.space) (outside pairs (Has (D.state io.old.disk.now).seen io.old.space)) snap leaf.now.index leaf.now.ptr
-        → Delivers (DnodeIn (Has (D.state io.old.disk.now).seen io.old.space) (outside pairs (Has (D.state io.old.disk.now).seen io.old.space)) snap number) result }
+    ensures found { (snap : DatedState) (pairs : Pairs) → IsHonest io.new → LeafIn (blocks_of io.old) (outside pairs (blocks_of io.old)) snap leaf.now.index leaf.now.ptr
+        → Delivers (DnodeIn (blocks_of io.old) (outside pairs (blocks_of io.old)) snap number) result }
     ensures ranges { IfOk result (λ found. IfSome found DnodeFits) }
-    ensures stands { (set : ObjSet) → (D.state io.new.disk.now).honest → HangsIn (MayHave (IsSeen (D.state io.old.disk.now).seen)) set.tree leaf.now.ptr → IfOk result (λ found. IfSome found (StandsIn (IsSeen (D.state io.old.disk.now).seen) set)) }
-    ensures damaged { (set : ObjSet) → (D.state io.new.disk.now).honest → HangsIn (MayHave (IsSeen (D.state io.old.disk.now).seen)) set.tree leaf.now.ptr → IfDamaged result (IsDamagedCell (IsSeen (D.state io.old.disk.now).seen) (D.state io.old.disk.now).size set) }
-    ensures looks { Looks (D.state io.old.disk.now) io.old.space io.old.failed (D.state io.new.disk.now) io.new.space io.new.failed (stop_of result) }
+    ensures stands { (set : ObjSet) → IsHonest io.new → HangsIn (MayHave (IsSeen (disk_of io.old).seen)) set.tree leaf.now.ptr → IfOk result (λ found. IfSome found (StandsIn (IsSeen (disk_of io.old).seen) set)) }
+    ensures damaged { (set : ObjSet) → IsHonest io.new → HangsIn (MayHave (IsSeen (disk_of io.old).seen)) set.tree leaf.now.ptr → IfDamaged result (IsDamagedCell (IsSeen (disk_of io.old).seen) (disk_of io.old).size set) }
+    ensures looks { Looks (io_of io.old) (io_of io.new) (stop_of result) }
     ensures steps { (steps.old ≤ steps.new) × (steps.new ≤ steps.old + 1) }
-    ensures calls { (D.state io.new.disk.now).calls + steps.old ≤ (D.state io.old.disk.now).calls + steps.new }
-    ensures kept_fit { FitsDisk (D.state io.new.disk.now).size io.new.space }
-    ensures same { io.new.disk.ghost_name ≡ io.old.disk.ghost_name }
+    ensures calls { (disk_of io.new).calls + steps.old ≤ (disk_of io.old).calls + steps.new }
 {
     if leaf.ptr.kind == 0 {
         return Ok(None);
@@ -76,18 +73,15 @@ fn own_pairs<D: Disk, L: Ledger>(
     steps: &mut Steps<L>,
 ) -> Result<Option<Run>, BlockFault>
     requires object { (0 < point.object) × (point.object < 2 ^ 48) × (leaf.now.index ≡ point.object / 16) }
-    requires fits { FitsDisk (D.state io.old.disk.now).size io.old.space }
-    ensures found { (snap : DatedState) → (D.state io.new.disk.now).honest → IsState snap.state → LeafIn (Has (D.state io.old.disk.now).seen io.old.space) (outside (has_pair withheld.now) (Has (D.state io.old.disk.now).seen io.old.space)) snap leaf.now.index leaf.now.ptr
-        → Delivers (FindsPairs (Has (D.state io.old.disk.now).seen io.old.space) snap (choice_with source listed.now withheld.now) point) result }
+    ensures found { (snap : DatedState) → IsHonest io.new → IsState snap.state → LeafIn (blocks_of io.old) (outside (has_pair withheld.now) (blocks_of io.old)) snap leaf.now.index leaf.now.ptr
+        → Delivers (FindsPairs (blocks_of io.old) snap (choice_with source listed.now withheld.now) point) result }
     ensures ranges { IfOk result (λ found. IfSome found (RunFits 0 (2 ^ 43))) }
-    ensures stands { (set : ObjSet) → (D.state io.new.disk.now).honest → HangsIn (MayHave (IsSeen (D.state io.old.disk.now).seen)) set.tree leaf.now.ptr → IfOk result (λ found. IfSome found (RunStands (IsSeen (D.state io.old.disk.now).seen) set)) }
-    ensures damaged { (set : ObjSet) → (D.state io.new.disk.now).honest → HangsIn (MayHave (IsSeen (D.state io.old.disk.now).seen)) set.tree leaf.now.ptr → IfDamaged result (IsDamagedCell (IsSeen (D.state io.old.disk.now).seen) (D.state io.old.disk.now).size set) }
-    ensures looks { Looks (D.state io.old.disk.now) io.old.space io.old.failed (D.state io.new.disk.now) io.new.space io.new.failed (stop_of result) }
+    ensures stands { (set : ObjSet) → IsHonest io.new → HangsIn (MayHave (IsSeen (disk_of io.old).seen)) set.tree leaf.now.ptr → IfOk result (λ found. IfSome found (RunStands (IsSeen (disk_of io.old).seen) set)) }
+    ensures damaged { (set : ObjSet) → IsHonest io.new → HangsIn (MayHave (IsSeen (disk_of io.old).seen)) set.tree leaf.now.ptr → IfDamaged result (IsDamagedCell (IsSeen (disk_of io.old).seen) (disk_of io.old).size set) }
+    ensures looks { Looks (io_of io.old) (io_of io.new) (stop_of result) }
     ensures steps { (steps.old ≤ steps.new) × (steps.new ≤ steps.old + 21) }
     ensures none { IfOk result (λ found. IfNone found (steps.new ≤ steps.old + 14)) }
-    ensures calls { (D.state io.new.disk.now).calls + steps.old ≤ (D.state io.old.disk.now).calls + steps.new }
-    ensures kept_fit { FitsDisk (D.state io.new.disk.now).size io.new.space }
-    ensures same { io.new.disk.ghost_name ≡ io.old.disk.ghost_name }
+    ensures calls { (disk_of io.new).calls + steps.old ≤ (disk_of io.old).calls + steps.new }
 {
     match dnode_in(io, leaf, point.object, steps)? {
         None => Ok(None),
@@ -122,20 +116,17 @@ fn behind_slot<D: Disk, L: Ledger>(
     requires levels { set.now.tree.levels ≤ 7 }
     requires object { (0 < point.object) × (point.object < 2 ^ 48) × (leaf.now.index ≡ point.object / 16) }
     requires count { (0 < leaf.now.count) × (leaf.now.index + leaf.now.count ≤ 2 ^ 49) }
-    requires fits { FitsDisk (D.state io.old.disk.now).size io.old.space }
-    ensures found { (snap : DatedState) → (D.state io.new.disk.now).honest → SetHoldsBut (Has (D.state io.old.disk.now).seen io.old.space) (has_pair withheld.now) set.now snap
-        → StandsFor (Has (D.state io.old.disk.now).seen io.old.space) (outside (has_pair withheld.now) (Has (D.state io.old.disk.now).seen io.old.space)) snap leaf.now → Delivers (IsNextCellIn (Has (D.state io.old.disk.now).seen io.old.space) (outside (has_pair withheld.now) (Has (D.state io.old.disk.now).seen io.old.space)) snap (choice_with source listed.now withheld.now) point false) result }
+    ensures found { (snap : DatedState) → IsHonest io.new → SetHoldsBut (blocks_of io.old) (has_pair withheld.now) set.now snap
+        → StandsFor (blocks_of io.old) (outside (has_pair withheld.now) (blocks_of io.old)) snap leaf.now → Delivers (IsNextCellIn (blocks_of io.old) (outside (has_pair withheld.now) (blocks_of io.old)) snap (choice_with source listed.now withheld.now) point false) result }
     ensures ranges { IfOk result (λ found. IfSome found (FoundFits point)) }
-    ensures stands { (D.state io.new.disk.now).honest → HangsIn (MayHave (IsSeen (D.state io.old.disk.now).seen)) set.now.tree leaf.now.ptr → IfOk result (λ found. IfSome found (FoundStands (IsSeen (D.state io.old.disk.now).seen) set.now)) }
-    ensures damaged { (D.state io.new.disk.now).honest → HangsIn (MayHave (IsSeen (D.state io.old.disk.now).seen)) set.now.tree leaf.now.ptr → IfDamaged result (IsDamagedCell (IsSeen (D.state io.old.disk.now).seen) (D.state io.old.disk.now).size set.now) }
-    ensures looks { Looks (D.state io.old.disk.now) io.old.space io.old.failed (D.state io.new.disk.now) io.new.space io.new.failed (stop_of result) }
+    ensures stands { IsHonest io.new → HangsIn (MayHave (IsSeen (disk_of io.old).seen)) set.now.tree leaf.now.ptr → IfOk result (λ found. IfSome found (FoundStands (IsSeen (disk_of io.old).seen) set.now)) }
+    ensures damaged { IsHonest io.new → HangsIn (MayHave (IsSeen (disk_of io.old).seen)) set.now.tree leaf.now.ptr → IfDamaged result (IsDamagedCell (IsSeen (disk_of io.old).seen) (disk_of io.old).size set.now) }
+    ensures looks { Looks (io_of io.old) (io_of io.new) (stop_of result) }
     ensures steps { steps.old ≤ steps.new }
-    ensures few { (snap : DatedState) → (D.state io.new.disk.now).honest → SetIsTightIn (Has (D.state io.old.disk.now).seen io.old.space) (outside (has_pair withheld.now) (Has (D.state io.old.disk.now).seen io.old.space)) set.now snap
-        → StandsFor (Has (D.state io.old.disk.now).seen io.old.space) (outside (has_pair withheld.now) (Has (D.state io.old.disk.now).seen io.old.space)) snap leaf.now → IsTightLeaf (Has (D.state io.old.disk.now).seen io.old.space) snap leaf.now.index leaf.now.ptr
+    ensures few { (snap : DatedState) → IsHonest io.new → SetIsTightIn (blocks_of io.old) (outside (has_pair withheld.now) (blocks_of io.old)) set.now snap
+        → StandsFor (blocks_of io.old) (outside (has_pair withheld.now) (blocks_of io.old)) snap leaf.now → IsTightLeaf (blocks_of io.old) snap leaf.now.index leaf.now.ptr
         → AreIncluded snap (choice_with source listed.now withheld.now) listed.now withheld.now → steps.new ≤ steps.old + 57 }
-    ensures calls { (D.state io.new.disk.now).calls + steps.old ≤ (D.state io.old.disk.now).calls + steps.new }
-    ensures kept_fit { FitsDisk (D.state io.new.disk.now).size io.new.space }
-    ensures same { io.new.disk.ghost_name ≡ io.old.disk.ghost_name }
+    ensures calls { (disk_of io.new).calls + steps.old ≤ (disk_of io.old).calls + steps.new }
 {
     match own_pairs(io, leaf, source, listed, withheld, point, steps)? {
         Some(run) => Ok(Some(told(point.object, run))),
@@ -175,25 +166,21 @@ pub fn next_cell<D: Disk, L: Ledger>(
     slot: bool,
     steps: &mut Steps<L>,
 ) -> Result<Option<WalkEntry>, BlockFault>
-    requires fits { FitsDisk (D.state io.old.disk.now).size io.old.space }
-
     // Of a set that holds a state, but for the blocks of the withheld pairs, what is found is next there, and no damage is told.
-    ensures found { (snap : DatedState) → (D.state io.new.disk.now).honest → SetHoldsBut (Has (D.state io.old.disk.now).seen io.old.space) (has_pair withheld.now) set.now snap
-        → Delivers (IsNextCellIn (Has (D.state io.new.disk.now).seen io.new.space) (outside (has_pair withheld.now) (Has (D.state io.new.disk.now).seen io.new.space)) snap (choice_with from listed.now withheld.now) point slot) result }
+    ensures found { (snap : DatedState) → IsHonest io.new → SetHoldsBut (blocks_of io.old) (has_pair withheld.now) set.now snap
+        → Delivers (IsNextCellIn (blocks_of io.new) (outside (has_pair withheld.now) (blocks_of io.new)) snap (choice_with from listed.now withheld.now) point slot) result }
 
     // Whatever the image, what is found is in its range and stands in the set, and damage is told of a block of the walk.
     ensures ranges { IfOk result (λ found. IfSome found (FoundFits point)) }
-    ensures stands { (D.state io.new.disk.now).honest → IfOk result (λ found. IfSome found (FoundStands (IsSeen (D.state io.old.disk.now).seen) set.now)) }
-    ensures damaged { (D.state io.new.disk.now).honest → IfDamaged result (IsDamagedCell (IsSeen (D.state io.old.disk.now).seen) (D.state io.old.disk.now).size set.now) }
+    ensures stands { IsHonest io.new → IfOk result (λ found. IfSome found (FoundStands (IsSeen (disk_of io.old).seen) set.now)) }
+    ensures damaged { IsHonest io.new → IfDamaged result (IsDamagedCell (IsSeen (disk_of io.old).seen) (disk_of io.old).size set.now) }
 
     // It only reads, a block each step, and of a set whose slots are tight at most 64, where each number that a list has a pair of is included.
-    ensures looks { Looks (D.state io.old.disk.now) io.old.space io.old.failed (D.state io.new.disk.now) io.new.space io.new.failed (stop_of result) }
+    ensures looks { Looks (io_of io.old) (io_of io.new) (stop_of result) }
     ensures steps { steps.old ≤ steps.new }
-    ensures few { (snap : DatedState) → (D.state io.new.disk.now).honest → SetIsTightIn (Has (D.state io.old.disk.now).seen io.old.space) (outside (has_pair withheld.now) (Has (D.state io.old.disk.now).seen io.old.space)) set.now snap
+    ensures few { (snap : DatedState) → IsHonest io.new → SetIsTightIn (blocks_of io.old) (outside (has_pair withheld.now) (blocks_of io.old)) set.now snap
         → AreIncluded snap (choice_with from listed.now withheld.now) listed.now withheld.now → steps.new ≤ steps.old + 64 }
-    ensures calls { (D.state io.new.disk.now).calls + steps.old ≤ (D.state io.old.disk.now).calls + steps.new }
-    ensures kept_fit { FitsDisk (D.state io.new.disk.now).size io.new.space }
-    ensures same { io.new.disk.ghost_name ≡ io.old.disk.ghost_name }
+    ensures calls { (disk_of io.new).calls + steps.old ≤ (disk_of io.old).calls + steps.new }
 {
     if set.tree.levels > 7 {
         return Err(BlockFault::of_layout(&set.tree.root));

@@ -1,6 +1,6 @@
 //! What is dated after a source.
 ghost use Rattle.std.specs.Prelude.{◌≡◌, ◌+◌, ◌^◌, ◌<◌, ◌≤◌, IfOk, IfSome};
-ghost use Rattle.zst_block.specs.Blocks.{FitsDisk, Has};
+ghost use Rattle.zst_block.specs.IoStates.{IsHonest, blocks_of, disk_of, io_of};
 ghost use Rattle.zst_block.specs.IoCalls.{Looks, stop_of};
 ghost use Rattle.zst_model.specs.sends.Inclusion.{is_after};
 ghost use Rattle.zst_tree.specs.Damage.{IsSeen, NamesDamage, SumsUp};
@@ -33,15 +33,12 @@ pub(crate) fn next_late<D: Disk, L: Ledger>(
 ) -> Result<Option<u64>, BlockFault>
     requires levels { tree.now.levels ≤ 7 }
     requires below { below ≤ 2 ^ 44 }
-    requires fits { FitsDisk (D.state io.old.disk.now).size io.old.space }
-    ensures late { (map : Map) → (D.state io.new.disk.now).honest → TreeIs (Has (D.state io.old.disk.now).seen io.old.space) tree.now map → Delivers (FindsLate map source from below) result }
+    ensures late { (map : Map) → IsHonest io.new → TreeIs (blocks_of io.old) tree.now map → Delivers (FindsLate map source from below) result }
     ensures range { IfOk result (λ found. IfSome found (λ first. (from ≤ first) × (first < below))) }
-    ensures damaged { (D.state io.new.disk.now).honest → NamesDamage (IsSeen (D.state io.old.disk.now).seen) (D.state io.old.disk.now).size (SumsUp (IsSeen (D.state io.old.disk.now).seen)) tree.now.levels tree.now.root result }
-    ensures looks { Looks (D.state io.old.disk.now) io.old.space io.old.failed (D.state io.new.disk.now) io.new.space io.new.failed (stop_of result) }
+    ensures damaged { IsHonest io.new → NamesDamage (IsSeen (disk_of io.old).seen) (disk_of io.old).size (SumsUp (IsSeen (disk_of io.old).seen)) tree.now.levels tree.now.root result }
+    ensures looks { Looks (io_of io.old) (io_of io.new) (stop_of result) }
     ensures steps { (steps.old ≤ steps.new) × (steps.new ≤ steps.old + 13) }
-    ensures calls { (D.state io.new.disk.now).calls + steps.old ≤ (D.state io.old.disk.now).calls + steps.new }
-    ensures kept_fit { FitsDisk (D.state io.new.disk.now).size io.new.space }
-    ensures same { io.new.disk.ghost_name ≡ io.old.disk.ghost_name }
+    ensures calls { (disk_of io.new).calls + steps.old ≤ (disk_of io.old).calls + steps.new }
 {
     match source {
         None if from < below => Ok(Some(from)),

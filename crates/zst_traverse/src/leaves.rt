@@ -1,7 +1,8 @@
 //! The leaves of a set, as a walk looks at them.
 ghost use Rattle.std.specs.Prelude.{◌≡◌, ◌+◌, ◌*◌, ◌^◌, ◌<◌, ◌≤◌, true, ℕ, List, IfOk, OnOk};
 ghost use Rattle.zst_space.specs.FreeSectors.{FreeSectors};
-ghost use Rattle.zst_block.specs.Blocks.{FitsDisk, Has};
+ghost use Rattle.zst_block.specs.Blocks.{Has};
+ghost use Rattle.zst_block.specs.IoStates.{IsHonest, blocks_of, disk_of, io_of};
 ghost use Rattle.zst_block.specs.IoCalls.{Looks, stop_of};
 ghost use Rattle.zst_model.specs.sends.Inclusion.{is_after, Pairs};
 ghost use Rattle.zst_model.specs.states.DatedState.{DatedState};
@@ -55,17 +56,14 @@ pub(crate) fn leaf_at<D: Disk, L: Ledger>(
 ) -> Result<Leaf, BlockFault>
     requires levels { tree.now.levels ≤ 7 }
     requires index { index < 2 ^ 44 }
-    requires fits { FitsDisk (D.state io.old.disk.now).size io.old.space }
-    ensures shows { (map : Map) → (D.state io.new.disk.now).honest → TreeIs (Has (D.state io.old.disk.now).seen io.old.space) tree.now map → Delivers (λ leaf. Shows map index (leaf.ptr, leaf.count)) result }
+    ensures shows { (map : Map) → IsHonest io.new → TreeIs (blocks_of io.old) tree.now map → Delivers (λ leaf. Shows map index (leaf.ptr, leaf.count)) result }
     ensures index { IfOk result (λ leaf. leaf.index ≡ index) }
     ensures range { IfOk result (λ leaf. (0 < leaf.count) × (index + leaf.count ≤ 2 ^ 49)) }
-    ensures hangs { (D.state io.new.disk.now).honest → IfOk result (λ leaf. HangsIn (MayHave (IsSeen (D.state io.old.disk.now).seen)) tree.now leaf.ptr) }
-    ensures damaged { (D.state io.new.disk.now).honest → NamesDamage (IsSeen (D.state io.old.disk.now).seen) (D.state io.old.disk.now).size NamesNode tree.now.levels tree.now.root result }
-    ensures looks { Looks (D.state io.old.disk.now) io.old.space io.old.failed (D.state io.new.disk.now) io.new.space io.new.failed (stop_of result) }
+    ensures hangs { IsHonest io.new → IfOk result (λ leaf. HangsIn (MayHave (IsSeen (disk_of io.old).seen)) tree.now leaf.ptr) }
+    ensures damaged { IsHonest io.new → NamesDamage (IsSeen (disk_of io.old).seen) (disk_of io.old).size NamesNode tree.now.levels tree.now.root result }
+    ensures looks { Looks (io_of io.old) (io_of io.new) (stop_of result) }
     ensures steps { (steps.old ≤ steps.new) × (steps.new ≤ steps.old + 7) }
-    ensures calls { (D.state io.new.disk.now).calls + steps.old ≤ (D.state io.old.disk.now).calls + steps.new }
-    ensures kept_fit { FitsDisk (D.state io.new.disk.now).size io.new.space }
-    ensures same { io.new.disk.ghost_name ≡ io.old.disk.ghost_name }
+    ensures calls { (disk_of io.new).calls + steps.old ≤ (disk_of io.old).calls + steps.new }
 {
     let (ptr, count) = tree.get(io, index, steps)?;
     Ok(Leaf { index, ptr, count })
@@ -78,16 +76,13 @@ pub(crate) fn load_leaf<D: Disk, L: Ledger>(
     steps: &mut Steps<L>,
 ) -> Result<(), BlockFault>
     requires index { leaf.now.index < 2 ^ 44 }
-    requires fits { FitsDisk (D.state io.old.disk.now).size io.old.space }
-    ensures slots { (snap : DatedState) (pairs : Pairs) → (D.state io.new.disk.now).honest → LeafIn (Has (D.state io.old.disk.now).seen io.old.space) (outside pairs (Has (D.state io.old.disk.now).seen io.old.space)) snap leaf.now.index leaf.now.ptr
-        → Delivers (λ done. HasSlotsIn (Has (D.state io.old.disk.now).seen io.old.space) (outside pairs (Has (D.state io.old.disk.now).seen io.old.space)) snap leaf.now.index io.new.node) result }
-    ensures loaded { (D.state io.new.disk.now).honest → OnOk result (IsLoaded (IsSeen (D.state io.old.disk.now).seen) leaf.now.ptr io.new.node) }
-    ensures damaged { (D.state io.new.disk.now).honest → IfDamaged result (IsDamagedLeaf (IsSeen (D.state io.old.disk.now).seen) (D.state io.old.disk.now).size leaf.now.ptr) }
-    ensures looks { Looks (D.state io.old.disk.now) io.old.space io.old.failed (D.state io.new.disk.now) io.new.space io.new.failed (stop_of result) }
+    ensures slots { (snap : DatedState) (pairs : Pairs) → IsHonest io.new → LeafIn (blocks_of io.old) (outside pairs (blocks_of io.old)) snap leaf.now.index leaf.now.ptr
+        → Delivers (λ done. HasSlotsIn (blocks_of io.old) (outside pairs (blocks_of io.old)) snap leaf.now.index io.new.node) result }
+    ensures loaded { IsHonest io.new → OnOk result (IsLoaded (IsSeen (disk_of io.old).seen) leaf.now.ptr io.new.node) }
+    ensures damaged { IsHonest io.new → IfDamaged result (IsDamagedLeaf (IsSeen (disk_of io.old).seen) (disk_of io.old).size leaf.now.ptr) }
+    ensures looks { Looks (io_of io.old) (io_of io.new) (stop_of result) }
     ensures steps { steps.new ≡ steps.old + 1 }
-    ensures calls { (D.state io.new.disk.now).calls + steps.old ≤ (D.state io.old.disk.now).calls + steps.new }
-    ensures kept_fit { FitsDisk (D.state io.new.disk.now).size io.new.space }
-    ensures same { io.new.disk.ghost_name ≡ io.old.disk.ghost_name }
+    ensures calls { (disk_of io.new).calls + steps.old ≤ (disk_of io.old).calls + steps.new }
 {
     tick(steps);
     load_slots(io, leaf.ptr, leaf.index)
@@ -125,26 +120,23 @@ pub(crate) fn look<D: Disk, L: Ledger>(
     requires index { leaf.now.index < 2 ^ 44 }
     requires count { (0 < leaf.now.count) × (leaf.now.index + leaf.now.count ≤ 2 ^ 49) }
     requires from { (0 < from) × (16 * leaf.now.index ≤ from) × (from ≤ 16 * leaf.now.index + 16) }
-    requires fits { FitsDisk (D.state io.old.disk.now).size io.old.space }
-    ensures shows { (snap : DatedState) (pairs : Pairs) → (D.state io.new.disk.now).honest → StandsFor (Has (D.state io.old.disk.now).seen io.old.space) (outside pairs (Has (D.state io.old.disk.now).seen io.old.space)) snap leaf.now
-        → Delivers (ShowsAhead (Has (D.state io.old.disk.now).seen io.old.space) (outside pairs (Has (D.state io.old.disk.now).seen io.old.space)) snap (choice_after source) from) result }
+    ensures shows { (snap : DatedState) (pairs : Pairs) → IsHonest io.new → StandsFor (blocks_of io.old) (outside pairs (blocks_of io.old)) snap leaf.now
+        → Delivers (ShowsAhead (blocks_of io.old) (outside pairs (blocks_of io.old)) snap (choice_after source) from) result }
     ensures ranges { IfOk result (AheadFits from) }
     ensures goes_on { from < 16 * leaf.now.index + 16 → IfOk result (GoesOn from) }
-    ensures stands { (set : ObjSet) → (D.state io.new.disk.now).honest → HangsIn (MayHave (IsSeen (D.state io.old.disk.now).seen)) set.tree leaf.now.ptr → IfOk result (AheadStands (IsSeen (D.state io.old.disk.now).seen) set) }
-    ensures damaged { (set : ObjSet) → (D.state io.new.disk.now).honest → HangsIn (MayHave (IsSeen (D.state io.old.disk.now).seen)) set.tree leaf.now.ptr → IfDamaged result (IsDamagedCell (IsSeen (D.state io.old.disk.now).seen) (D.state io.old.disk.now).size set) }
+    ensures stands { (set : ObjSet) → IsHonest io.new → HangsIn (MayHave (IsSeen (disk_of io.old).seen)) set.tree leaf.now.ptr → IfOk result (AheadStands (IsSeen (disk_of io.old).seen) set) }
+    ensures damaged { (set : ObjSet) → IsHonest io.new → HangsIn (MayHave (IsSeen (disk_of io.old).seen)) set.tree leaf.now.ptr → IfDamaged result (IsDamagedCell (IsSeen (disk_of io.old).seen) (disk_of io.old).size set) }
 
     // In a tight leaf an object that may be included is.
-    ensures ends { (snap : DatedState) (pairs : Pairs) → (D.state io.new.disk.now).honest → StandsFor (Has (D.state io.old.disk.now).seen io.old.space) (outside pairs (Has (D.state io.old.disk.now).seen io.old.space)) snap leaf.now
-        → IsTightLeaf (Has (D.state io.old.disk.now).seen io.old.space) snap leaf.now.index leaf.now.ptr → IfOk result EndsLeaf }
-    ensures few { (snap : DatedState) (pairs : Pairs) → (D.state io.new.disk.now).honest → StandsFor (Has (D.state io.old.disk.now).seen io.old.space) (outside pairs (Has (D.state io.old.disk.now).seen io.old.space)) snap leaf.now
-        → IsTightLeaf (Has (D.state io.old.disk.now).seen io.old.space) snap leaf.now.index leaf.now.ptr → IfOk result (IfNothing (steps.new ≤ steps.old + 1)) }
-    ensures late { (snap : DatedState) (pairs : Pairs) → (D.state io.new.disk.now).honest → StandsFor (Has (D.state io.old.disk.now).seen io.old.space) (outside pairs (Has (D.state io.old.disk.now).seen io.old.space)) snap leaf.now
-        → IsTightLeaf (Has (D.state io.old.disk.now).seen io.old.space) snap leaf.now.index leaf.now.ptr → is_after source leaf.now.ptr.number ≡ true → from ≡ 16 * leaf.now.index → IfOk result IsNext }
-    ensures looks { Looks (D.state io.old.disk.now) io.old.space io.old.failed (D.state io.new.disk.now) io.new.space io.new.failed (stop_of result) }
+    ensures ends { (snap : DatedState) (pairs : Pairs) → IsHonest io.new → StandsFor (blocks_of io.old) (outside pairs (blocks_of io.old)) snap leaf.now
+        → IsTightLeaf (blocks_of io.old) snap leaf.now.index leaf.now.ptr → IfOk result EndsLeaf }
+    ensures few { (snap : DatedState) (pairs : Pairs) → IsHonest io.new → StandsFor (blocks_of io.old) (outside pairs (blocks_of io.old)) snap leaf.now
+        → IsTightLeaf (blocks_of io.old) snap leaf.now.index leaf.now.ptr → IfOk result (IfNothing (steps.new ≤ steps.old + 1)) }
+    ensures late { (snap : DatedState) (pairs : Pairs) → IsHonest io.new → StandsFor (blocks_of io.old) (outside pairs (blocks_of io.old)) snap leaf.now
+        → IsTightLeaf (blocks_of io.old) snap leaf.now.index leaf.now.ptr → is_after source leaf.now.ptr.number ≡ true → from ≡ 16 * leaf.now.index → IfOk result IsNext }
+    ensures looks { Looks (io_of io.old) (io_of io.new) (stop_of result) }
     ensures steps { (steps.old ≤ steps.new) × (steps.new ≤ steps.old + 14) }
-    ensures calls { (D.state io.new.disk.now).calls + steps.old ≤ (D.state io.old.disk.now).calls + steps.new }
-    ensures kept_fit { FitsDisk (D.state io.new.disk.now).size io.new.space }
-    ensures same { io.new.disk.ghost_name ≡ io.old.disk.ghost_name }
+    ensures calls { (disk_of io.new).calls + steps.old ≤ (disk_of io.old).calls + steps.new }
 {
     if leaf.ptr.kind == 0 {
         return Ok(in_hole(leaf, source, from));

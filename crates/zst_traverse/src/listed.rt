@@ -1,6 +1,6 @@
 //! The first included number, where a list's pairs include numbers too.
 ghost use Rattle.std.specs.Prelude.{◌≡◌, ◌+◌, ◌*◌, ◌^◌, ◌<◌, ◌≤◌, ◌||◌, true, false, ℕ, IfOk, IfSome};
-ghost use Rattle.zst_block.specs.Blocks.{FitsDisk, Has};
+ghost use Rattle.zst_block.specs.IoStates.{IsHonest, blocks_of, disk_of, io_of};
 ghost use Rattle.zst_block.specs.IoCalls.{Looks, stop_of};
 ghost use Rattle.zst_dnode.specs.Dnode.{DnodeFits};
 ghost use Rattle.zst_model.specs.fields.Lists.{has_pair};
@@ -34,10 +34,7 @@ use zst_tree::{ObjSet, Steps};
 fn first_of(list: &List, from: u64) -> Option<u64>
     ensures first { FindsOf list.now from result }
 {
-    match list.next_from(from, 0) {
-        Some((number, _)) => Some(number),
-        None => None,
-    }
+    list.next_from(from, 0).map(|(number, _)| number)
 }
 
 fn or_below(found: Option<u64>, below: u64) -> u64
@@ -64,13 +61,7 @@ fn is_listed(listed: &List, withheld: &List, object: u64, end: u64) -> bool
     ensures some { result ≡ true → IsListedBelow listed.now withheld.now object end }
     ensures none { result ≡ false → (i : ℕ) → i < end → (has_pair listed.now object i || has_pair withheld.now object i) ≡ false }
 {
-    match next_in(listed, object, 0, end) {
-        Some(_) => true,
-        None => match next_in(withheld, object, 0, end) {
-            Some(_) => true,
-            None => false,
-        },
-    }
+    next_in(listed, object, 0, end).is_some() || next_in(withheld, object, 0, end).is_some()
 }
 
 // The object of a number, where a list has a pair of it below its end.
@@ -84,17 +75,14 @@ fn listed_object<D: Disk, L: Ledger>(
 ) -> Result<Option<Dnode>, BlockFault>
     requires levels { set.now.tree.levels ≤ 7 }
     requires number { (0 < number) × (number < 2 ^ 48) }
-    requires fits { FitsDisk (D.state io.old.disk.now).size io.old.space }
-    ensures found { (snap : DatedState) → (D.state io.new.disk.now).honest → SetHoldsBut (Has (D.state io.old.disk.now).seen io.old.space) (has_pair withheld.now) set.now snap
-        → Delivers (FindsObject (Has (D.state io.old.disk.now).seen io.old.space) (outside (has_pair withheld.now) (Has (D.state io.old.disk.now).seen io.old.space)) snap listed.now withheld.now number) result }
+    ensures found { (snap : DatedState) → IsHonest io.new → SetHoldsBut (blocks_of io.old) (has_pair withheld.now) set.now snap
+        → Delivers (FindsObject (blocks_of io.old) (outside (has_pair withheld.now) (blocks_of io.old)) snap listed.now withheld.now number) result }
     ensures ranges { IfOk result (λ found. IfSome found DnodeFits) }
-    ensures stands { (D.state io.new.disk.now).honest → IfOk result (λ found. IfSome found (StandsIn (IsSeen (D.state io.old.disk.now).seen) set.now)) }
-    ensures damaged { (D.state io.new.disk.now).honest → IfDamaged result (IsDamagedCell (IsSeen (D.state io.old.disk.now).seen) (D.state io.old.disk.now).size set.now) }
-    ensures looks { Looks (D.state io.old.disk.now) io.old.space io.old.failed (D.state io.new.disk.now) io.new.space io.new.failed (stop_of result) }
+    ensures stands { IsHonest io.new → IfOk result (λ found. IfSome found (StandsIn (IsSeen (disk_of io.old).seen) set.now)) }
+    ensures damaged { IsHonest io.new → IfDamaged result (IsDamagedCell (IsSeen (disk_of io.old).seen) (disk_of io.old).size set.now) }
+    ensures looks { Looks (io_of io.old) (io_of io.new) (stop_of result) }
     ensures steps { (steps.old ≤ steps.new) × (steps.new ≤ steps.old + 8) }
-    ensures calls { (D.state io.new.disk.now).calls + steps.old ≤ (D.state io.old.disk.now).calls + steps.new }
-    ensures kept_fit { FitsDisk (D.state io.new.disk.now).size io.new.space }
-    ensures same { io.new.disk.ghost_name ≡ io.old.disk.ghost_name }
+    ensures calls { (disk_of io.new).calls + steps.old ≤ (disk_of io.old).calls + steps.new }
 {
     let leaf = leaf_at(io, &set.tree, number / 16, steps)?;
     match dnode_in(io, &leaf, number, steps)? {
@@ -121,8 +109,8 @@ fn first_found(found: &Option<WalkEntry>) -> u64
     }
 }
 
-/// The first included number from one on, by a date or by a list's pair, at which a leaf ends or
-/// which stands in it.
+/// The first included number from one on, which stands in the leaf or at which it ends: a number is
+/// included by a date or by a list's pair.
 pub(crate) fn next_listed<D: Disk, L: Ledger>(
     io: &mut Io<'_, D>,
     set: &ObjSet,
@@ -137,21 +125,18 @@ pub(crate) fn next_listed<D: Disk, L: Ledger>(
     requires index { leaf.now.index < 2 ^ 44 }
     requires count { (0 < leaf.now.count) × (leaf.now.index + leaf.now.count ≤ 2 ^ 49) }
     requires from { (0 < from) × (16 * leaf.now.index ≤ from) × (from ≤ 16 * leaf.now.index + 16) }
-    requires fits { FitsDisk (D.state io.old.disk.now).size io.old.space }
-    ensures found { (snap : DatedState) → (D.state io.new.disk.now).honest → SetHoldsBut (Has (D.state io.old.disk.now).seen io.old.space) (has_pair withheld.now) set.now snap
-        → StandsFor (Has (D.state io.old.disk.now).seen io.old.space) (outside (has_pair withheld.now) (Has (D.state io.old.disk.now).seen io.old.space)) snap leaf.now
-        → Delivers (FindsNumber (Has (D.state io.old.disk.now).seen io.old.space) (outside (has_pair withheld.now) (Has (D.state io.old.disk.now).seen io.old.space)) snap (choice_with source listed.now withheld.now) from) result }
+    ensures found { (snap : DatedState) → IsHonest io.new → SetHoldsBut (blocks_of io.old) (has_pair withheld.now) set.now snap
+        → StandsFor (blocks_of io.old) (outside (has_pair withheld.now) (blocks_of io.old)) snap leaf.now
+        → Delivers (FindsNumber (blocks_of io.old) (outside (has_pair withheld.now) (blocks_of io.old)) snap (choice_with source listed.now withheld.now) from) result }
     ensures ranges { IfOk result (λ found. IfSome found (NumberFits from)) }
-    ensures stands { (D.state io.new.disk.now).honest → HangsIn (MayHave (IsSeen (D.state io.old.disk.now).seen)) set.now.tree leaf.now.ptr → IfOk result (λ found. IfSome found (NumberStands (IsSeen (D.state io.old.disk.now).seen) set.now)) }
-    ensures damaged { (D.state io.new.disk.now).honest → HangsIn (MayHave (IsSeen (D.state io.old.disk.now).seen)) set.now.tree leaf.now.ptr → IfDamaged result (IsDamagedCell (IsSeen (D.state io.old.disk.now).seen) (D.state io.old.disk.now).size set.now) }
-    ensures looks { Looks (D.state io.old.disk.now) io.old.space io.old.failed (D.state io.new.disk.now) io.new.space io.new.failed (stop_of result) }
+    ensures stands { IsHonest io.new → HangsIn (MayHave (IsSeen (disk_of io.old).seen)) set.now.tree leaf.now.ptr → IfOk result (λ found. IfSome found (NumberStands (IsSeen (disk_of io.old).seen) set.now)) }
+    ensures damaged { IsHonest io.new → HangsIn (MayHave (IsSeen (disk_of io.old).seen)) set.now.tree leaf.now.ptr → IfDamaged result (IsDamagedCell (IsSeen (disk_of io.old).seen) (disk_of io.old).size set.now) }
+    ensures looks { Looks (io_of io.old) (io_of io.new) (stop_of result) }
     ensures steps { steps.old ≤ steps.new }
-    ensures few { (snap : DatedState) → (D.state io.new.disk.now).honest → SetIsTightIn (Has (D.state io.old.disk.now).seen io.old.space) (outside (has_pair withheld.now) (Has (D.state io.old.disk.now).seen io.old.space)) set.now snap
-        → StandsFor (Has (D.state io.old.disk.now).seen io.old.space) (outside (has_pair withheld.now) (Has (D.state io.old.disk.now).seen io.old.space)) snap leaf.now → IsTightLeaf (Has (D.state io.old.disk.now).seen io.old.space) snap leaf.now.index leaf.now.ptr
+    ensures few { (snap : DatedState) → IsHonest io.new → SetIsTightIn (blocks_of io.old) (outside (has_pair withheld.now) (blocks_of io.old)) set.now snap
+        → StandsFor (blocks_of io.old) (outside (has_pair withheld.now) (blocks_of io.old)) snap leaf.now → IsTightLeaf (blocks_of io.old) snap leaf.now.index leaf.now.ptr
         → AreIncluded snap (choice_with source listed.now withheld.now) listed.now withheld.now → steps.new ≤ steps.old + 43 }
-    ensures calls { (D.state io.new.disk.now).calls + steps.old ≤ (D.state io.old.disk.now).calls + steps.new }
-    ensures kept_fit { FitsDisk (D.state io.new.disk.now).size io.new.space }
-    ensures same { io.new.disk.ghost_name ≡ io.old.disk.ghost_name }
+    ensures calls { (disk_of io.new).calls + steps.old ≤ (disk_of io.old).calls + steps.new }
 {
     let by_date = next_number(io, set, source, leaf, from, steps)?;
     let below = first_found(&by_date);

@@ -1,6 +1,6 @@
 //! The search for the first included number, which passes over leaves where nothing is late.
 ghost use Rattle.std.specs.Prelude.{◌≡◌, ◌+◌, ◌*◌, ◌%◌, ◌^◌, ◌<◌, ◌≤◌, ℕ, IfOk, IfSome};
-ghost use Rattle.zst_block.specs.Blocks.{FitsDisk, Has};
+ghost use Rattle.zst_block.specs.IoStates.{IsHonest, blocks_of, disk_of, io_of};
 ghost use Rattle.zst_block.specs.IoCalls.{Looks, stop_of};
 ghost use Rattle.zst_model.specs.states.DatedState.{DatedState};
 ghost use Rattle.zst_tree.specs.Damage.{HangsIn, IsSeen, MayHave};
@@ -37,19 +37,16 @@ fn look_on<D: Disk, L: Ledger>(
 ) -> Result<WalkStep, BlockFault>
     requires levels { set.now.tree.levels ≤ 7 }
     requires from { (0 < from) × (from < 2 ^ 48) }
-    requires fits { FitsDisk (D.state io.old.disk.now).size io.old.space }
-    ensures shows { (snap : DatedState) (pairs : Pairs) → (D.state io.new.disk.now).honest → SetHoldsBut (Has (D.state io.old.disk.now).seen io.old.space) pairs set.now snap
-        → Delivers (ShowsAhead (Has (D.state io.old.disk.now).seen io.old.space) (outside pairs (Has (D.state io.old.disk.now).seen io.old.space)) snap (choice_after source) from) result }
+    ensures shows { (snap : DatedState) (pairs : Pairs) → IsHonest io.new → SetHoldsBut (blocks_of io.old) pairs set.now snap
+        → Delivers (ShowsAhead (blocks_of io.old) (outside pairs (blocks_of io.old)) snap (choice_after source) from) result }
     ensures ranges { IfOk result (AheadFits from) }
     ensures goes_on { IfOk result (GoesOn from) }
-    ensures stands { (D.state io.new.disk.now).honest → IfOk result (AheadStands (IsSeen (D.state io.old.disk.now).seen) set.now) }
-    ensures damaged { (D.state io.new.disk.now).honest → IfDamaged result (IsDamagedCell (IsSeen (D.state io.old.disk.now).seen) (D.state io.old.disk.now).size set.now) }
-    ensures ends { (snap : DatedState) (pairs : Pairs) → (D.state io.new.disk.now).honest → SetIsTightIn (Has (D.state io.old.disk.now).seen io.old.space) (outside pairs (Has (D.state io.old.disk.now).seen io.old.space)) set.now snap → from % 16 ≡ 0 → IfOk result EndsAll }
-    ensures looks { Looks (D.state io.old.disk.now) io.old.space io.old.failed (D.state io.new.disk.now) io.new.space io.new.failed (stop_of result) }
+    ensures stands { IsHonest io.new → IfOk result (AheadStands (IsSeen (disk_of io.old).seen) set.now) }
+    ensures damaged { IsHonest io.new → IfDamaged result (IsDamagedCell (IsSeen (disk_of io.old).seen) (disk_of io.old).size set.now) }
+    ensures ends { (snap : DatedState) (pairs : Pairs) → IsHonest io.new → SetIsTightIn (blocks_of io.old) (outside pairs (blocks_of io.old)) set.now snap → from % 16 ≡ 0 → IfOk result EndsAll }
+    ensures looks { Looks (io_of io.old) (io_of io.new) (stop_of result) }
     ensures steps { (steps.old ≤ steps.new) × (steps.new ≤ steps.old + 34) }
-    ensures calls { (D.state io.new.disk.now).calls + steps.old ≤ (D.state io.old.disk.now).calls + steps.new }
-    ensures kept_fit { FitsDisk (D.state io.new.disk.now).size io.new.space }
-    ensures same { io.new.disk.ghost_name ≡ io.old.disk.ghost_name }
+    ensures calls { (disk_of io.new).calls + steps.old ≤ (disk_of io.old).calls + steps.new }
 {
     match next_late(io, &set.tree, source, from / 16, LEAF_BOUND, steps)? {
         None => Ok(WalkStep::Nothing {
@@ -75,19 +72,16 @@ pub(crate) fn next_number<D: Disk, L: Ledger>(
     requires index { leaf.now.index < 2 ^ 44 }
     requires count { (0 < leaf.now.count) × (leaf.now.index + leaf.now.count ≤ 2 ^ 49) }
     requires from { (0 < from) × (16 * leaf.now.index ≤ from) × (from ≤ 16 * leaf.now.index + 16) }
-    requires fits { FitsDisk (D.state io.old.disk.now).size io.old.space }
-    ensures found { (snap : DatedState) (pairs : Pairs) → (D.state io.new.disk.now).honest → SetHoldsBut (Has (D.state io.old.disk.now).seen io.old.space) pairs set.now snap
-        → StandsFor (Has (D.state io.old.disk.now).seen io.old.space) (outside pairs (Has (D.state io.old.disk.now).seen io.old.space)) snap leaf.now → Delivers (FindsNumber (Has (D.state io.old.disk.now).seen io.old.space) (outside pairs (Has (D.state io.old.disk.now).seen io.old.space)) snap (choice_after source) from) result }
+    ensures found { (snap : DatedState) (pairs : Pairs) → IsHonest io.new → SetHoldsBut (blocks_of io.old) pairs set.now snap
+        → StandsFor (blocks_of io.old) (outside pairs (blocks_of io.old)) snap leaf.now → Delivers (FindsNumber (blocks_of io.old) (outside pairs (blocks_of io.old)) snap (choice_after source) from) result }
     ensures ranges { IfOk result (λ found. IfSome found (NumberFits from)) }
-    ensures stands { (D.state io.new.disk.now).honest → HangsIn (MayHave (IsSeen (D.state io.old.disk.now).seen)) set.now.tree leaf.now.ptr → IfOk result (λ found. IfSome found (NumberStands (IsSeen (D.state io.old.disk.now).seen) set.now)) }
-    ensures damaged { (D.state io.new.disk.now).honest → HangsIn (MayHave (IsSeen (D.state io.old.disk.now).seen)) set.now.tree leaf.now.ptr → IfDamaged result (IsDamagedCell (IsSeen (D.state io.old.disk.now).seen) (D.state io.old.disk.now).size set.now) }
-    ensures looks { Looks (D.state io.old.disk.now) io.old.space io.old.failed (D.state io.new.disk.now) io.new.space io.new.failed (stop_of result) }
+    ensures stands { IsHonest io.new → HangsIn (MayHave (IsSeen (disk_of io.old).seen)) set.now.tree leaf.now.ptr → IfOk result (λ found. IfSome found (NumberStands (IsSeen (disk_of io.old).seen) set.now)) }
+    ensures damaged { IsHonest io.new → HangsIn (MayHave (IsSeen (disk_of io.old).seen)) set.now.tree leaf.now.ptr → IfDamaged result (IsDamagedCell (IsSeen (disk_of io.old).seen) (disk_of io.old).size set.now) }
+    ensures looks { Looks (io_of io.old) (io_of io.new) (stop_of result) }
     ensures steps { steps.old ≤ steps.new }
-    ensures few { (snap : DatedState) (pairs : Pairs) → (D.state io.new.disk.now).honest → SetIsTightIn (Has (D.state io.old.disk.now).seen io.old.space) (outside pairs (Has (D.state io.old.disk.now).seen io.old.space)) set.now snap
-        → StandsFor (Has (D.state io.old.disk.now).seen io.old.space) (outside pairs (Has (D.state io.old.disk.now).seen io.old.space)) snap leaf.now → IsTightLeaf (Has (D.state io.old.disk.now).seen io.old.space) snap leaf.now.index leaf.now.ptr → steps.new ≤ steps.old + 35 }
-    ensures calls { (D.state io.new.disk.now).calls + steps.old ≤ (D.state io.old.disk.now).calls + steps.new }
-    ensures kept_fit { FitsDisk (D.state io.new.disk.now).size io.new.space }
-    ensures same { io.new.disk.ghost_name ≡ io.old.disk.ghost_name }
+    ensures few { (snap : DatedState) (pairs : Pairs) → IsHonest io.new → SetIsTightIn (blocks_of io.old) (outside pairs (blocks_of io.old)) set.now snap
+        → StandsFor (blocks_of io.old) (outside pairs (blocks_of io.old)) snap leaf.now → IsTightLeaf (blocks_of io.old) snap leaf.now.index leaf.now.ptr → steps.new ≤ steps.old + 35 }
+    ensures calls { (disk_of io.new).calls + steps.old ≤ (disk_of io.old).calls + steps.new }
 {
     let mut at = match look(io, leaf, source, from, steps)? {
         WalkStep::Next(found) => return Ok(Some(found)),

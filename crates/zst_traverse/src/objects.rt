@@ -1,6 +1,6 @@
 //! Whether an object that tells a late date is included.
 ghost use Rattle.std.specs.Prelude.{◌≡◌, ◌+◌, ◌*◌, ◌^◌, ◌<◌, ◌≤◌, true, ℕ, IfOk};
-ghost use Rattle.zst_block.specs.Blocks.{FitsDisk, Has};
+ghost use Rattle.zst_block.specs.IoStates.{IsHonest, blocks_of, disk_of, io_of};
 ghost use Rattle.zst_block.specs.IoCalls.{Looks, stop_of};
 ghost use Rattle.zst_dnode.specs.Dnode.{DnodeFits};
 ghost use Rattle.zst_dnode.specs.declared.slot.Slot.TheVariants as slots;
@@ -41,20 +41,17 @@ pub(crate) fn judged<D: Disk, L: Ledger>(
 ) -> Result<WalkStep, BlockFault>
     requires number { (0 < number) × (number < 2 ^ 48) }
     requires dnode { DnodeFits dnode }
-    requires fits { FitsDisk (D.state io.old.disk.now).size io.old.space }
-    ensures shows { (snap : DatedState) (pairs : Pairs) → (D.state io.new.disk.now).honest → IsThereIn (Has (D.state io.old.disk.now).seen io.old.space) (outside pairs (Has (D.state io.old.disk.now).seen io.old.space)) snap number dnode
-        → Delivers (ShowsAhead (Has (D.state io.old.disk.now).seen io.old.space) (outside pairs (Has (D.state io.old.disk.now).seen io.old.space)) snap (choice_after source) number) result }
+    ensures shows { (snap : DatedState) (pairs : Pairs) → IsHonest io.new → IsThereIn (blocks_of io.old) (outside pairs (blocks_of io.old)) snap number dnode
+        → Delivers (ShowsAhead (blocks_of io.old) (outside pairs (blocks_of io.old)) snap (choice_after source) number) result }
     ensures ranges { IfOk result (AheadFits number) }
     ensures goes_on { IfOk result (GoesOn number) }
-    ensures stands { (set : ObjSet) → (D.state io.new.disk.now).honest → StandsIn (IsSeen (D.state io.old.disk.now).seen) set dnode → IfOk result (AheadStands (IsSeen (D.state io.old.disk.now).seen) set) }
-    ensures damaged { (set : ObjSet) → (D.state io.new.disk.now).honest → StandsIn (IsSeen (D.state io.old.disk.now).seen) set dnode → IfDamaged result (IsDamagedCell (IsSeen (D.state io.old.disk.now).seen) (D.state io.old.disk.now).size set) }
-    ensures next { (snap : DatedState) (pairs : Pairs) → (D.state io.new.disk.now).honest → IsThereIn (Has (D.state io.old.disk.now).seen io.old.space) (outside pairs (Has (D.state io.old.disk.now).seen io.old.space)) snap number dnode
+    ensures stands { (set : ObjSet) → IsHonest io.new → StandsIn (IsSeen (disk_of io.old).seen) set dnode → IfOk result (AheadStands (IsSeen (disk_of io.old).seen) set) }
+    ensures damaged { (set : ObjSet) → IsHonest io.new → StandsIn (IsSeen (disk_of io.old).seen) set dnode → IfDamaged result (IsDamagedCell (IsSeen (disk_of io.old).seen) (disk_of io.old).size set) }
+    ensures next { (snap : DatedState) (pairs : Pairs) → IsHonest io.new → IsThereIn (blocks_of io.old) (outside pairs (blocks_of io.old)) snap number dnode
         → IsTightSlot snap number (slots.There dnode) → is_after source (date_in (slots.There dnode)) ≡ true → IfOk result IsNext }
-    ensures looks { Looks (D.state io.old.disk.now) io.old.space io.old.failed (D.state io.new.disk.now) io.new.space io.new.failed (stop_of result) }
+    ensures looks { Looks (io_of io.old) (io_of io.new) (stop_of result) }
     ensures steps { (steps.old ≤ steps.new) × (steps.new ≤ steps.old + 13) }
-    ensures calls { (D.state io.new.disk.now).calls + steps.old ≤ (D.state io.old.disk.now).calls + steps.new }
-    ensures kept_fit { FitsDisk (D.state io.new.disk.now).size io.new.space }
-    ensures same { io.new.disk.ghost_name ≡ io.old.disk.ghost_name }
+    ensures calls { (disk_of io.new).calls + steps.old ≤ (disk_of io.old).calls + steps.new }
 {
     let object = WalkEntry::Object { number, dnode };
     if is_after(source, dnode.date) {

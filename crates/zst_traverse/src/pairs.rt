@@ -1,6 +1,6 @@
 //! The search for the first included indices of an object.
 ghost use Rattle.std.specs.Prelude.{◌≡◌, ◌↔◌, ◌+◌, ◌*◌, ◌^◌, ◌<◌, ◌≤◌, true, ℕ, Bool, false, IfErr, IfNone, IfOk, IfSome};
-ghost use Rattle.zst_block.specs.Blocks.{FitsDisk, Has};
+ghost use Rattle.zst_block.specs.IoStates.{IsHonest, blocks_of, disk_of, io_of};
 ghost use Rattle.zst_block.specs.IoCalls.{Looks, stop_of};
 ghost use Rattle.zst_dnode.specs.Dnode.{DnodeFits};
 ghost use Rattle.zst_model.specs.declared.states.cell.Cell.TheVariants as cells;
@@ -80,18 +80,15 @@ fn run_at<D: Disk, L: Ledger>(
 ) -> Result<Run, BlockFault>
     requires dnode { DnodeFits dnode.now }
     requires index { index < dnode.now.end }
-    requires fits { FitsDisk (D.state io.old.disk.now).size io.old.space }
-    ensures run { (object : Object) (date : ℕ) (dates : ℕ → ℕ) (map : Map) (withheld : ℕ → Bool) → (D.state io.new.disk.now).honest → IsObject object → withheld index ≡ false
-        → ObjectIn (Has (D.state io.old.disk.now).seen io.old.space) (outside_indices withheld (Has (D.state io.old.disk.now).seen io.old.space)) dnode.now object date dates map
-        → Delivers (IsRun (Has (D.state io.old.disk.now).seen io.old.space) withheld object dates index) result }
+    ensures run { (object : Object) (date : ℕ) (dates : ℕ → ℕ) (map : Map) (withheld : ℕ → Bool) → IsHonest io.new → IsObject object → withheld index ≡ false
+        → ObjectIn (blocks_of io.old) (outside_indices withheld (blocks_of io.old)) dnode.now object date dates map
+        → Delivers (IsRun (blocks_of io.old) withheld object dates index) result }
     ensures ranges { IfOk result (RunFits index dnode.now.end) }
-    ensures stands { (set : ObjSet) → (D.state io.new.disk.now).honest → StandsIn (IsSeen (D.state io.old.disk.now).seen) set dnode.now → IfOk result (RunStands (IsSeen (D.state io.old.disk.now).seen) set) }
-    ensures damaged { (set : ObjSet) → (D.state io.new.disk.now).honest → StandsIn (IsSeen (D.state io.old.disk.now).seen) set dnode.now → IfDamaged result (IsDamagedCell (IsSeen (D.state io.old.disk.now).seen) (D.state io.old.disk.now).size set) }
-    ensures looks { Looks (D.state io.old.disk.now) io.old.space io.old.failed (D.state io.new.disk.now) io.new.space io.new.failed (stop_of result) }
+    ensures stands { (set : ObjSet) → IsHonest io.new → StandsIn (IsSeen (disk_of io.old).seen) set dnode.now → IfOk result (RunStands (IsSeen (disk_of io.old).seen) set) }
+    ensures damaged { (set : ObjSet) → IsHonest io.new → StandsIn (IsSeen (disk_of io.old).seen) set dnode.now → IfDamaged result (IsDamagedCell (IsSeen (disk_of io.old).seen) (disk_of io.old).size set) }
+    ensures looks { Looks (io_of io.old) (io_of io.new) (stop_of result) }
     ensures steps { (steps.old ≤ steps.new) × (steps.new ≤ steps.old + 7) }
-    ensures calls { (D.state io.new.disk.now).calls + steps.old ≤ (D.state io.old.disk.now).calls + steps.new }
-    ensures kept_fit { FitsDisk (D.state io.new.disk.now).size io.new.space }
-    ensures same { io.new.disk.ghost_name ≡ io.old.disk.ghost_name }
+    ensures calls { (disk_of io.new).calls + steps.old ≤ (disk_of io.old).calls + steps.new }
 {
     let (ptr, alike) = tree_of(dnode).get(io, index, steps)?;
     let Some(what) = cell_of(&ptr, dnode.block_size) else {
@@ -173,19 +170,16 @@ pub(crate) fn next_pairs<D: Disk, L: Ledger>(
     steps: &mut Steps<L>,
 ) -> Result<Option<Run>, BlockFault>
     requires dnode { DnodeFits dnode.now }
-    requires fits { FitsDisk (D.state io.old.disk.now).size io.old.space }
-    ensures found { (snap : DatedState) → (D.state io.new.disk.now).honest → IsState snap.state
-        → IsThereIn (Has (D.state io.old.disk.now).seen io.old.space) (outside (has_pair withheld.now) (Has (D.state io.old.disk.now).seen io.old.space)) snap point.object dnode.now
-        → Delivers (FindsPairs (Has (D.state io.old.disk.now).seen io.old.space) snap (choice_with source listed.now withheld.now) point) result }
+    ensures found { (snap : DatedState) → IsHonest io.new → IsState snap.state
+        → IsThereIn (blocks_of io.old) (outside (has_pair withheld.now) (blocks_of io.old)) snap point.object dnode.now
+        → Delivers (FindsPairs (blocks_of io.old) snap (choice_with source listed.now withheld.now) point) result }
     ensures ranges { IfOk result (λ found. IfSome found (RunFits 0 dnode.now.end)) }
-    ensures stands { (set : ObjSet) → (D.state io.new.disk.now).honest → StandsIn (IsSeen (D.state io.old.disk.now).seen) set dnode.now → IfOk result (λ found. IfSome found (RunStands (IsSeen (D.state io.old.disk.now).seen) set)) }
-    ensures damaged { (set : ObjSet) → (D.state io.new.disk.now).honest → StandsIn (IsSeen (D.state io.old.disk.now).seen) set dnode.now → IfDamaged result (IsDamagedCell (IsSeen (D.state io.old.disk.now).seen) (D.state io.old.disk.now).size set) }
-    ensures looks { Looks (D.state io.old.disk.now) io.old.space io.old.failed (D.state io.new.disk.now) io.new.space io.new.failed (stop_of result) }
+    ensures stands { (set : ObjSet) → IsHonest io.new → StandsIn (IsSeen (disk_of io.old).seen) set dnode.now → IfOk result (λ found. IfSome found (RunStands (IsSeen (disk_of io.old).seen) set)) }
+    ensures damaged { (set : ObjSet) → IsHonest io.new → StandsIn (IsSeen (disk_of io.old).seen) set dnode.now → IfDamaged result (IsDamagedCell (IsSeen (disk_of io.old).seen) (disk_of io.old).size set) }
+    ensures looks { Looks (io_of io.old) (io_of io.new) (stop_of result) }
     ensures steps { (steps.old ≤ steps.new) × (steps.new ≤ steps.old + 20) }
     ensures none { IfOk result (λ found. IfNone found (steps.new ≤ steps.old + 13)) }
-    ensures calls { (D.state io.new.disk.now).calls + steps.old ≤ (D.state io.old.disk.now).calls + steps.new }
-    ensures kept_fit { FitsDisk (D.state io.new.disk.now).size io.new.space }
-    ensures same { io.new.disk.ghost_name ≡ io.old.disk.ghost_name }
+    ensures calls { (disk_of io.new).calls + steps.old ≤ (disk_of io.old).calls + steps.new }
 {
     let from = first_index(point.offset, dnode.block_size);
     let late = next_late(io, &tree_of(dnode), source, from, dnode.end, steps)?;
@@ -210,20 +204,17 @@ fn run_of<D: Disk, L: Ledger>(
 ) -> Result<Run, BlockFault>
     requires dnode { DnodeFits dnode.now }
     requires turn { (0 < turn.most) × (turn.index + turn.most ≤ dnode.now.end) }
-    requires fits { FitsDisk (D.state io.old.disk.now).size io.old.space }
-    ensures withheld { turn.is_withheld ≡ true → IfOk result (λ run. (run.first ≡ turn.index) × (run.count ≡ 1) × (run.what ≡ cells.Redacted)) × ((D.state io.new.disk.now).calls ≤ (D.state io.old.disk.now).calls) }
-    ensures run { (object : Object) (date : ℕ) (dates : ℕ → ℕ) (map : Map) (withheld : ℕ → Bool) → (D.state io.new.disk.now).honest → IsObject object → turn.is_withheld ≡ false → withheld turn.index ≡ false
-        → ObjectIn (Has (D.state io.old.disk.now).seen io.old.space) (outside_indices withheld (Has (D.state io.old.disk.now).seen io.old.space)) dnode.now object date dates map
-        → Delivers (λ run. IsRun (Has (D.state io.old.disk.now).seen io.old.space) withheld object dates turn.index run × (run.count ≤ turn.most)) result }
+    ensures withheld { turn.is_withheld ≡ true → IfOk result (λ run. (run.first ≡ turn.index) × (run.count ≡ 1) × (run.what ≡ cells.Redacted)) × ((disk_of io.new).calls ≤ (disk_of io.old).calls) }
+    ensures run { (object : Object) (date : ℕ) (dates : ℕ → ℕ) (map : Map) (withheld : ℕ → Bool) → IsHonest io.new → IsObject object → turn.is_withheld ≡ false → withheld turn.index ≡ false
+        → ObjectIn (blocks_of io.old) (outside_indices withheld (blocks_of io.old)) dnode.now object date dates map
+        → Delivers (λ run. IsRun (blocks_of io.old) withheld object dates turn.index run × (run.count ≤ turn.most)) result }
     ensures ok { (turn.is_withheld ≡ true) → IfErr result (λ fault. ⊥) }
     ensures ranges { IfOk result (RunFits turn.index dnode.now.end) }
-    ensures stands { (set : ObjSet) → (D.state io.new.disk.now).honest → StandsIn (IsSeen (D.state io.old.disk.now).seen) set dnode.now → IfOk result (RunStands (IsSeen (D.state io.old.disk.now).seen) set) }
-    ensures damaged { (set : ObjSet) → (D.state io.new.disk.now).honest → StandsIn (IsSeen (D.state io.old.disk.now).seen) set dnode.now → IfDamaged result (IsDamagedCell (IsSeen (D.state io.old.disk.now).seen) (D.state io.old.disk.now).size set) }
-    ensures looks { Looks (D.state io.old.disk.now) io.old.space io.old.failed (D.state io.new.disk.now) io.new.space io.new.failed (stop_of result) }
+    ensures stands { (set : ObjSet) → IsHonest io.new → StandsIn (IsSeen (disk_of io.old).seen) set dnode.now → IfOk result (RunStands (IsSeen (disk_of io.old).seen) set) }
+    ensures damaged { (set : ObjSet) → IsHonest io.new → StandsIn (IsSeen (disk_of io.old).seen) set dnode.now → IfDamaged result (IsDamagedCell (IsSeen (disk_of io.old).seen) (disk_of io.old).size set) }
+    ensures looks { Looks (io_of io.old) (io_of io.new) (stop_of result) }
     ensures steps { (steps.old ≤ steps.new) × (steps.new ≤ steps.old + 7) }
-    ensures calls { (D.state io.new.disk.now).calls + steps.old ≤ (D.state io.old.disk.now).calls + steps.new }
-    ensures kept_fit { FitsDisk (D.state io.new.disk.now).size io.new.space }
-    ensures same { io.new.disk.ghost_name ≡ io.old.disk.ghost_name }
+    ensures calls { (disk_of io.new).calls + steps.old ≤ (disk_of io.old).calls + steps.new }
 {
     if turn.is_withheld {
         return Ok(Run {

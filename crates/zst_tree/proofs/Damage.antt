@@ -1,13 +1,12 @@
 -- What may be told as damaged below a pointer, one step at a time.
-use Rattle.std.proofs.Common.{◌≡◌, inl, inr, ⊎_elim, ℕ, zero, suc, ◌-◌, ◌<◌, Bool, true, false, List, refl, sym, ◌∙◌, subst, arith}
+use Rattle.std.proofs.Common.{◌≡◌, inl, inr, ⊎_elim, ℕ, zero, suc, ◌-◌, ◌<◌, true, false, List, refl, sym, ◌∙◌, subst, arith}
 use Rattle.std.specs.Prelude.{Option, None, Some, IfSome, Result, Ok, Err}
 use Rattle.std.proofs.lemmas.Bool.{false≢true}
 use Rattle.zst_fletcher.specs.WeightSum.{parts_of}
-use Rattle.zst_outside.specs.Images.{DiskState}
-use Rattle.zst_space.specs.FreeSectors.{FreeSectors}
 use Rattle.zst_block.specs.Blocks.{IsBlock}
 use Rattle.zst_block.specs.Ptr.{is_flat}
 use Rattle.zst_block.specs.ReadAnswers.{ReadAnswers}
+use Rattle.zst_block.specs.IoStates.{IoState}
 use Rattle.zst_block.specs.IoCalls.{Looks}
 use Rattle.zst_block.specs.declared.ptr.Ptr.{Ptr}
 use Rattle.zst_block.specs.declared.fault.BlockFault.{BlockFault}
@@ -140,40 +139,40 @@ module _ (images : List ℕ → Type 0) (size : ℕ) (right : ℕ → Ptr → Ty
   TellsNode-below level root fewer lower under below (Full need largest) told = tt
   TellsNode-below level root fewer lower under below DiskFault told = tt
 
-module _ (old : DiskState) (space : FreeSectors) (old_failed : Bool) (new : DiskState) (less : FreeSectors) (new_failed : Bool) (stop : Option BlockFault) (looks : Looks old space old_failed new less new_failed stop) where
+module _ {old new : IoState} {stop : Option BlockFault} (looks : Looks old new stop) where
   -- what holds of what a read gave after it held before it
-  pub seen_before : (P : List ℕ → ℕ → Type 0) → P new.seen new.size → P old.seen old.size
-  seen_before P is = subst (λ (size : ℕ). P old.seen size) looks.reads.size (subst (λ (seen : List ℕ). P seen new.size) looks.reads.seen is)
+  pub seen_before : (P : List ℕ → ℕ → Type 0) → P new.disk.seen new.disk.size → P old.disk.seen old.disk.size
+  seen_before P is = subst (λ (size : ℕ). P old.disk.seen size) looks.reads.size (subst (λ (seen : List ℕ). P seen new.disk.size) looks.reads.seen is)
 
-  module _ (right : List ℕ → ℕ → Ptr → Type 0) (level : ℕ) (ptr : Ptr) (bytes : List ℕ) (k : ℕ) (some : 0 < level) (inner : is_flat ptr ≡ false) (block : IsBlock old.seen ptr bytes) (under : k < 128) where
-    read_there : MayHave (IsSeen old.seen) ptr bytes
-    read_there = record { image = old.seen; among = refl; block = block }
+  module _ (right : List ℕ → ℕ → Ptr → Type 0) (level : ℕ) (ptr : Ptr) (bytes : List ℕ) (k : ℕ) (some : 0 < level) (inner : is_flat ptr ≡ false) (block : IsBlock old.disk.seen ptr bytes) (under : k < 128) where
+    read_there : MayHave (IsSeen old.disk.seen) ptr bytes
+    read_there = record { image = old.disk.seen; among = refl; block = block }
 
     -- what hangs below a child of a node that was read hangs below the node
-    pub hangs_below : (found : Ptr) → HangsBelow (MayHave (IsSeen new.seen)) (level - 1) (child bytes k) found → HangsBelow (MayHave (IsSeen old.seen)) level ptr found
-    hangs_below found hangs = hangs_child (MayHave (IsSeen old.seen)) level ptr bytes k found some inner read_there under
+    pub hangs_below : (found : Ptr) → HangsBelow (MayHave (IsSeen new.disk.seen)) (level - 1) (child bytes k) found → HangsBelow (MayHave (IsSeen old.disk.seen)) level ptr found
+    hangs_below found hangs = hangs_child (MayHave (IsSeen old.disk.seen)) level ptr bytes k found some inner read_there under
         (seen_before (λ (seen : List ℕ) (size : ℕ). HangsBelow (MayHave (IsSeen seen)) (level - 1) (child bytes k) found) hangs)
 
-    child_below : IsBelow (IsSeen old.seen) old.size (right old.seen) level ptr (IsSeen old.seen) (level - 1) (child bytes k)
-    child_below = IsBelow-child (IsSeen old.seen) old.size (right old.seen) level ptr bytes k some inner read_there under
+    child_below : IsBelow (IsSeen old.disk.seen) old.disk.size (right old.disk.seen) level ptr (IsSeen old.disk.seen) (level - 1) (child bytes k)
+    child_below = IsBelow-child (IsSeen old.disk.seen) old.disk.size (right old.disk.seen) level ptr bytes k some inner read_there under
 
     -- what is told below a child of a node that was read is told below the node
-    pub fault_below : (fault : BlockFault) → TellsNode (IsSeen new.seen) new.size (right new.seen) (level - 1) (child bytes k) fault → TellsNode (IsSeen old.seen) old.size (right old.seen) level ptr fault
+    pub fault_below : (fault : BlockFault) → TellsNode (IsSeen new.disk.seen) new.disk.size (right new.disk.seen) (level - 1) (child bytes k) fault → TellsNode (IsSeen old.disk.seen) old.disk.size (right old.disk.seen) level ptr fault
     fault_below fault told =
-        TellsNode-below (IsSeen old.seen) old.size (right old.seen) level ptr (IsSeen old.seen) (level - 1) (child bytes k) child_below fault
+        TellsNode-below (IsSeen old.disk.seen) old.disk.size (right old.disk.seen) level ptr (IsSeen old.disk.seen) (level - 1) (child bytes k) child_below fault
         (seen_before (λ (seen : List ℕ) (size : ℕ). TellsNode (IsSeen seen) size (right seen) (level - 1) (child bytes k) fault) told)
 
-    pub told_below : {T : Type 0} → (result : Result T BlockFault) → NamesDamage (IsSeen new.seen) new.size (right new.seen) (level - 1) (child bytes k) result → NamesDamage (IsSeen old.seen) old.size (right old.seen) level ptr result
+    pub told_below : {T : Type 0} → (result : Result T BlockFault) → NamesDamage (IsSeen new.disk.seen) new.disk.size (right new.disk.seen) (level - 1) (child bytes k) result → NamesDamage (IsSeen old.disk.seen) old.disk.size (right old.disk.seen) level ptr result
     told_below (Ok value) told = tt
     told_below (Err fault) told = fault_below fault told
 
     -- what stands beside the path is below the node
     pub beside_below : (reach : PathAnswer) (other : Option Branch)
-        → IfThere (λ (beside : Branch). IsBelow (IsSeen new.seen) new.size (right new.seen) (level - 1) (child bytes k) (IsSeen new.seen) beside.level beside.ptr) reach
+        → IfThere (λ (beside : Branch). IsBelow (IsSeen new.disk.seen) new.disk.size (right new.disk.seen) (level - 1) (child bytes k) (IsSeen new.disk.seen) beside.level beside.ptr) reach
         → IfSome other (HangsOn bytes (level - 1))
-        → IfThere (λ (beside : Branch). IsBelow (IsSeen old.seen) old.size (right old.seen) level ptr (IsSeen old.seen) beside.level beside.ptr) (nearer_of reach other)
+        → IfThere (λ (beside : Branch). IsBelow (IsSeen old.disk.seen) old.disk.size (right old.disk.seen) level ptr (IsSeen old.disk.seen) beside.level beside.ptr) (nearer_of reach other)
     beside_below Nothing None shown hangs = tt
-    beside_below Nothing (Some beside) shown hangs = IsBelow-hangs (IsSeen old.seen) old.size (right old.seen) level ptr bytes beside some inner read_there hangs
+    beside_below Nothing (Some beside) shown hangs = IsBelow-hangs (IsSeen old.disk.seen) old.disk.size (right old.disk.seen) level ptr bytes beside some inner read_there hangs
     beside_below (Here index) other shown hangs = tt
     beside_below (There beside) other shown hangs = λ sector stated found damage.
         child_below sector stated found

@@ -1,10 +1,11 @@
 -- What a call may tell as damaged after others.
-use Rattle.std.proofs.Common.{◌≡◌, inl, inr, ⊎_elim, ℕ, ◌-◌, ◌<◌, Bool, false, List, refl, sym, subst}
+use Rattle.std.proofs.Common.{◌≡◌, inl, inr, ⊎_elim, ℕ, ◌-◌, ◌<◌, false, List, refl, sym, subst}
 use Rattle.std.specs.Prelude.{Option, OnOk, Result, Ok, Err}
 use Rattle.zst_outside.specs.Images.{DiskState}
 use Rattle.zst_space.specs.FreeSectors.{FreeSectors}
 use Rattle.zst_block.specs.Blocks.{IsBlock, SparesTaken, FillsFree}
 use Rattle.zst_block.specs.Ptr.{is_flat}
+use Rattle.zst_block.specs.IoStates.{IoState}
 use Rattle.zst_block.specs.IoCalls.{Looks}
 use Rattle.zst_block.specs.declared.ptr.Ptr.{Ptr}
 use Rattle.zst_block.specs.declared.fault.BlockFault.{BlockFault}
@@ -50,8 +51,8 @@ module _ (space : FreeSectors) (seen : List ℕ) (size level : ℕ) (ptr : Ptr) 
       IsBelow-child (SparesTaken space seen) size NamesNode level ptr bytes k some inner (record { image = seen; among = SparesTaken-same space seen; block = block }) under
 
 -- a call that reads fills nothing
-pub fills_looks : (old : DiskState) (space : FreeSectors) (old_failed : Bool) (new : DiskState) (less : FreeSectors) (new_failed : Bool) (stop : Option BlockFault) → Looks old space old_failed new less new_failed stop → FillsFree old space new less
-fills_looks old space old_failed new less new_failed stop looks = subst (λ (s : FreeSectors). FillsFree old space new s) (sym looks.space) (FillsFree-reads old new space looks.reads)
+pub fills_looks : {old new : IoState} {stop : Option BlockFault} → Looks old new stop → FillsFree old.disk old.space new.disk new.space
+fills_looks {old} {new} looks = subst (λ (s : FreeSectors). FillsFree old.disk old.space new.disk s) (sym looks.space) (FillsFree-reads old.disk new.disk old.space looks.reads)
 
 module _ (old new : DiskState) (space less : FreeSectors) (fills : FillsFree old space new less) where
   -- an image that spares what is taken now spares what was taken before

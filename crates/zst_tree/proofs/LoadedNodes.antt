@@ -1,11 +1,11 @@
 -- What a node that was read says of the subtrees below it.
-use Rattle.std.proofs.Common.{◌≡◌, ℕ, zero, suc, ◌-◌, ◌<◌, ◌==◌, Bool, false, List, Option, Result, Ok, Err, sym, subst, arith}
+use Rattle.std.proofs.Common.{◌≡◌, ℕ, zero, suc, ◌-◌, ◌<◌, ◌==◌, false, List, Option, Result, Ok, Err, sym, subst, arith}
 use Rattle.std.proofs.lemmas.Bool.{ne_eqb}
-use Rattle.zst_outside.specs.Images.{DiskState}
 use Rattle.zst_space.specs.FreeSectors.{FreeSectors}
 use Rattle.zst_block.specs.Blocks.{Has}
 use Rattle.zst_block.specs.Ptr.{is_flat}
 use Rattle.zst_block.specs.ReadAnswers.{GivesBlock}
+use Rattle.zst_block.specs.IoStates.{IoState}
 use Rattle.zst_block.specs.IoCalls.{Looks}
 use Rattle.zst_block.specs.declared.ptr.Ptr.{Ptr}
 use Rattle.zst_block.specs.declared.fault.BlockFault.{BlockFault}
@@ -31,13 +31,13 @@ loaded_is has level ptr base map loaded some inner gives stands =
       parts = node_parts has level ptr base map loaded below same;
     }
 
-module _ (old : DiskState) (space : FreeSectors) (old_failed : Bool) (new : DiskState) (less : FreeSectors) (new_failed : Bool) (stop : Option BlockFault) (looks : Looks old space old_failed new less new_failed stop) where
+module _ {old new : IoState} {stop : Option BlockFault} (looks : Looks old new stop) where
   -- what holds of the blocks before a read holds of those after it, and the other way round
-  pub there_after : (P : List ℕ → FreeSectors → Type 0) → P old.seen space → P new.seen less
-  there_after P is = subst (λ (s : FreeSectors). P new.seen s) (sym looks.space) (subst (λ (seen : List ℕ). P seen space) (sym looks.reads.seen) is)
+  pub there_after : (P : List ℕ → FreeSectors → Type 0) → P old.disk.seen old.space → P new.disk.seen new.space
+  there_after P is = subst (λ (s : FreeSectors). P new.disk.seen s) (sym looks.space) (subst (λ (seen : List ℕ). P seen old.space) (sym looks.reads.seen) is)
 
-  pub there_before : (P : List ℕ → FreeSectors → Type 0) → P new.seen less → P old.seen space
-  there_before P is = subst (λ (seen : List ℕ). P seen space) looks.reads.seen (subst (λ (s : FreeSectors). P new.seen s) looks.space is)
+  pub there_before : (P : List ℕ → FreeSectors → Type 0) → P new.disk.seen new.space → P old.disk.seen old.space
+  there_before P is = subst (λ (seen : List ℕ). P seen old.space) looks.reads.seen (subst (λ (s : FreeSectors). P new.disk.seen s) looks.space is)
 
 -- a block that is there isn't damaged
 gives_no_damage : (bytes read : List ℕ) (fault : BlockFault) → GivesBlock bytes read (Err fault) → IsNoDamage fault
@@ -52,15 +52,15 @@ node_fault has level ptr base map read fault some inner gives stands =
     let below = node_below has level ptr base map some inner stands in gives_no_damage below.bytes read fault (gives below.bytes below.node)
 
 -- so the parts of a node that was read stand below it
-pub loaded_parts : (old : DiskState) (space : FreeSectors) (old_failed : Bool) (new : DiskState) (less : FreeSectors) (new_failed : Bool) (stop : Option BlockFault) → Looks old space old_failed new less new_failed stop
+pub loaded_parts : {old new : IoState} {stop : Option BlockFault} → Looks old new stop
     → (level : ℕ) (ptr : Ptr) (base : ℕ) (map : Map) (loaded : List ℕ) (result : Result (Unit {0}) BlockFault) → 0 < level → is_flat ptr ≡ false
-    → ((bytes : List ℕ) → IsNode (Has old.seen space) level ptr bytes → GivesBlock bytes loaded result) → Subtree (Has old.seen space) level ptr base map
-    → Delivers (λ done. Parts (Has new.seen less) (level - 1) loaded base map) result
-loaded_parts old space old_failed new less new_failed stop looks level ptr base map loaded (Ok done) some inner gives stands =
-    there_after old space old_failed new less new_failed stop looks (λ (seen : List ℕ) (s : FreeSectors). Parts (Has seen s) (level - 1) loaded base map)
-    (loaded_is (Has old.seen space) level ptr base map loaded some inner gives stands).parts
-loaded_parts old space old_failed new less new_failed stop looks level ptr base map loaded (Err fault) some inner gives stands =
-    node_fault (Has old.seen space) level ptr base map loaded fault some inner gives stands
+    → ((bytes : List ℕ) → IsNode (Has old.disk.seen old.space) level ptr bytes → GivesBlock bytes loaded result) → Subtree (Has old.disk.seen old.space) level ptr base map
+    → Delivers (λ done. Parts (Has new.disk.seen new.space) (level - 1) loaded base map) result
+loaded_parts {old} {new} looks level ptr base map loaded (Ok done) some inner gives stands =
+    there_after looks (λ (seen : List ℕ) (s : FreeSectors). Parts (Has seen s) (level - 1) loaded base map)
+    (loaded_is (Has old.disk.seen old.space) level ptr base map loaded some inner gives stands).parts
+loaded_parts {old} looks level ptr base map loaded (Err fault) some inner gives stands =
+    node_fault (Has old.disk.seen old.space) level ptr base map loaded fault some inner gives stands
 
 -- a pointer that doesn't stand throughout names a node
 pub inner_level : (level : ℕ) (ptr : Ptr) → stands_throughout level ptr ≡ false → (0 < level) × (is_flat ptr ≡ false)

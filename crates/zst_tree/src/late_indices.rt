@@ -1,7 +1,8 @@
 //! The least index from one on that is dated after a number.
-ghost use Rattle.std.specs.Prelude.{◌≡◌, ◌+◌, ◌-◌, ◌*◌, ◌^◌, ◌<◌, ◌≤◌, ℕ, List, IfOk, IfSome, MatchOption};
+ghost use Rattle.std.specs.Prelude.{◌+◌, ◌-◌, ◌*◌, ◌^◌, ◌<◌, ◌≤◌, ℕ, List, IfOk, IfSome, MatchOption};
 ghost use Rattle.zst_space.specs.FreeSectors.{FreeSectors};
-ghost use Rattle.zst_block.specs.Blocks.{FitsDisk, Has};
+ghost use Rattle.zst_block.specs.Blocks.{Has};
+ghost use Rattle.zst_block.specs.IoStates.{IsHonest, blocks_of, disk_of, io_of};
 ghost use Rattle.zst_block.specs.IoCalls.{Looks, stop_of};
 ghost use Rattle.zst_tree.specs.Changes.{Parts};
 ghost use Rattle.zst_tree.specs.Damage.{IsBelow, IsSeen, NamesDamage, SumsUp};
@@ -65,18 +66,15 @@ pub(crate) fn along<D: Disk, L: Ledger>(
     requires level { level ≤ 7 }
     requires base { base + span level < 2 ^ 64 }
     requires offset { offset < span level }
-    requires fits { FitsDisk (D.state io.old.disk.now).size io.old.space }
-    ensures reaches { (map : Map) → (D.state io.new.disk.now).honest → Subtree (Has (D.state io.old.disk.now).seen io.old.space) level ptr base map →
-        Delivers (ReachesLater (Has (D.state io.new.disk.now).seen io.new.space) map (level - 1) (base + offset) (base + span level) number) result }
+    ensures reaches { (map : Map) → IsHonest io.new → Subtree (blocks_of io.old) level ptr base map →
+        Delivers (ReachesLater (blocks_of io.new) map (level - 1) (base + offset) (base + span level) number) result }
     ensures inside { IfOk result (IsInside (level - 1) (base + offset) (base + span level)) }
     ensures late { IfOk result (IfThere (λ beside. number < beside.ptr.number)) }
-    ensures below { (D.state io.new.disk.now).honest → IfOk result (IfThere (λ beside. IsBelow (IsSeen (D.state io.old.disk.now).seen) (D.state io.old.disk.now).size (SumsUp (IsSeen (D.state io.old.disk.now).seen)) level ptr (IsSeen (D.state io.old.disk.now).seen) beside.level beside.ptr)) }
-    ensures damaged { (D.state io.new.disk.now).honest → NamesDamage (IsSeen (D.state io.old.disk.now).seen) (D.state io.old.disk.now).size (SumsUp (IsSeen (D.state io.old.disk.now).seen)) level ptr result }
-    ensures looks { Looks (D.state io.old.disk.now) io.old.space io.old.failed (D.state io.new.disk.now) io.new.space io.new.failed (stop_of result) }
+    ensures below { IsHonest io.new → IfOk result (IfThere (λ beside. IsBelow (IsSeen (disk_of io.old).seen) (disk_of io.old).size (SumsUp (IsSeen (disk_of io.old).seen)) level ptr (IsSeen (disk_of io.old).seen) beside.level beside.ptr)) }
+    ensures damaged { IsHonest io.new → NamesDamage (IsSeen (disk_of io.old).seen) (disk_of io.old).size (SumsUp (IsSeen (disk_of io.old).seen)) level ptr result }
+    ensures looks { Looks (io_of io.old) (io_of io.new) (stop_of result) }
     ensures steps { (steps.old ≤ steps.new) × (steps.new ≤ steps.old + level) }
-    ensures calls { (D.state io.new.disk.now).calls + steps.old ≤ (D.state io.old.disk.now).calls + steps.new }
-    ensures kept_fit { FitsDisk (D.state io.new.disk.now).size io.new.space }
-    ensures same { io.new.disk.ghost_name ≡ io.old.disk.ghost_name }
+    ensures calls { (disk_of io.new).calls + steps.old ≤ (disk_of io.old).calls + steps.new }
 {
     if ptr.number <= number {
         return Ok(PathAnswer::Nothing);
@@ -104,16 +102,13 @@ pub(crate) fn first_in<D: Disk, L: Ledger>(
 ) -> Result<u64, BlockFault>
     requires level { level ≤ 7 }
     requires base { base + span level < 2 ^ 64 }
-    requires fits { FitsDisk (D.state io.old.disk.now).size io.old.space }
-    ensures first { (map : Map) → (D.state io.new.disk.now).honest → number < ptr.number → Subtree (Has (D.state io.old.disk.now).seen io.old.space) level ptr base map →
+    ensures first { (map : Map) → IsHonest io.new → number < ptr.number → Subtree (blocks_of io.old) level ptr base map →
         Delivers (IsFirst map base (base + span level) number) result }
     ensures range { IfOk result (λ found. (base ≤ found) × (found < base + span level)) }
-    ensures damaged { number < ptr.number → (D.state io.new.disk.now).honest → NamesDamage (IsSeen (D.state io.old.disk.now).seen) (D.state io.old.disk.now).size (SumsUp (IsSeen (D.state io.old.disk.now).seen)) level ptr result }
-    ensures looks { Looks (D.state io.old.disk.now) io.old.space io.old.failed (D.state io.new.disk.now) io.new.space io.new.failed (stop_of result) }
+    ensures damaged { number < ptr.number → IsHonest io.new → NamesDamage (IsSeen (disk_of io.old).seen) (disk_of io.old).size (SumsUp (IsSeen (disk_of io.old).seen)) level ptr result }
+    ensures looks { Looks (io_of io.old) (io_of io.new) (stop_of result) }
     ensures steps { (steps.old ≤ steps.new) × (steps.new ≤ steps.old + level) }
-    ensures calls { (D.state io.new.disk.now).calls + steps.old ≤ (D.state io.old.disk.now).calls + steps.new }
-    ensures kept_fit { FitsDisk (D.state io.new.disk.now).size io.new.space }
-    ensures same { io.new.disk.ghost_name ≡ io.old.disk.ghost_name }
+    ensures calls { (disk_of io.new).calls + steps.old ≤ (disk_of io.old).calls + steps.new }
 {
     if stands_throughout(level, &ptr) {
         return Ok(base);

@@ -1,7 +1,8 @@
 //! Leaves of indices that stand below one node, put at once on a copy of the path to it.
-ghost use Rattle.std.specs.Prelude.{◌≡◌, ◌+◌, ◌-◌, ◌*◌, ◌<◌, ◌≤◌, ℕ, List, All, IfOk, OnOk, length};
+ghost use Rattle.std.specs.Prelude.{◌≡◌, ◌+◌, ◌-◌, ◌*◌, ◌<◌, ◌≤◌, ℕ, List, All, IfOk, OnOk};
 ghost use Rattle.zst_space.specs.FreeSectors.{FreeSectors};
-ghost use Rattle.zst_block.specs.Blocks.{FitsDisk, Has, SparesTaken};
+ghost use Rattle.zst_block.specs.Blocks.{Has};
+ghost use Rattle.zst_block.specs.IoStates.{IsHonest, blocks_of, disk_of, io_of, IsSparedBy};
 ghost use Rattle.zst_block.specs.IoCalls.{Works, stop_of};
 ghost use Rattle.zst_tree.specs.Damage.{NamesDamage, NamesNode};
 ghost use Rattle.zst_tree.specs.Indices.{Delivers, Map, Subtree, span};
@@ -45,14 +46,12 @@ fn put_leaves<D: Disk>(
     requires level { level ≤ 7 }
     requires inner { 0 < level }
     requires part { part < span (level - 1) }
-    requires fits { FitsDisk (D.state io.old.disk.now).size io.old.space }
-    ensures put { (group base : ℕ) (map : Map) → (D.state io.new.disk.now).honest → base + 128 * part ≡ 128 * group → All (IsOf group) leaves.now
-        → Subtree (Has (D.state io.old.disk.now).seen io.old.space) level ptr base map
-        → Delivers (λ made. Subtree (Has (D.state io.new.disk.now).seen io.new.space) level made base (with_leaves map leaves.now)) result }
-    ensures damaged { (D.state io.new.disk.now).honest → NamesDamage (SparesTaken io.old.space (D.state io.old.disk.now).seen) (D.state io.old.disk.now).size NamesNode level ptr result }
+    ensures put { (group base : ℕ) (map : Map) → IsHonest io.new → base + 128 * part ≡ 128 * group → All (IsOf group) leaves.now
+        → Subtree (blocks_of io.old) level ptr base map
+        → Delivers (λ made. Subtree (blocks_of io.new) level made base (with_leaves map leaves.now)) result }
+    ensures damaged { IsHonest io.new → NamesDamage (IsSparedBy io.old) (disk_of io.old).size NamesNode level ptr result }
     ensures names { IfOk result (NamesNode level) }
-    ensures works { Works (16 * level) 16 (D.state io.old.disk.now) io.old.space io.old.failed (D.state io.new.disk.now) io.new.space io.new.failed (stop_of result) }
-    ensures same { io.new.disk.ghost_name ≡ io.old.disk.ghost_name }
+    ensures works { Works (16 * level) 16 (io_of io.old) (io_of io.new) (stop_of result) }
 {
     if level == 1 {
         open(io, level, ptr)?;
@@ -68,7 +67,6 @@ fn put_leaves<D: Disk>(
 
 impl Tree {
     ghost use Rattle.std.specs.Prelude.{◌≡◌, ◌+◌, ◌*◌, ◌^◌, ◌<◌, ◌≤◌, ℕ, All, OnErr, OnOk};
-    ghost use Rattle.zst_block.specs.Blocks.{FitsDisk, Has, SparesTaken};
     ghost use Rattle.zst_block.specs.IoCalls.{Works, stop_of};
     ghost use Rattle.zst_tree.specs.Changes.{TreeDatedUpTo};
     ghost use Rattle.zst_tree.specs.Damage.{NamesDamage, NamesNode};
@@ -88,19 +86,17 @@ impl Tree {
         requires levels { self.old.levels ≤ 7 }
         requires group { 128 * group + 128 ≤ 2 ^ 44 }
         requires leaves { All (IsOf group) leaves.now }
-        requires fits { FitsDisk (D.state io.old.disk.now).size io.old.space }
         // The tree that held a map holds it with these leaves.
-        ensures holds { (map : Map) → (D.state io.new.disk.now).honest → TreeIs (Has (D.state io.old.disk.now).seen io.old.space) self.old map
-            → Delivers (λ done. TreeIs (Has (D.state io.new.disk.now).seen io.new.space) self.new (with_leaves map leaves.now)) result }
+        ensures holds { (map : Map) → IsHonest io.new → TreeIs (blocks_of io.old) self.old map
+            → Delivers (λ done. TreeIs (blocks_of io.new) self.new (with_leaves map leaves.now)) result }
         // Damage is told of a node below the root alone.
-        ensures damaged { (D.state io.new.disk.now).honest → NamesDamage (SparesTaken io.old.space (D.state io.old.disk.now).seen) (D.state io.old.disk.now).size NamesNode self.old.levels self.old.root result }
+        ensures damaged { IsHonest io.new → NamesDamage (IsSparedBy io.old) (disk_of io.old).size NamesNode self.old.levels self.old.root result }
         ensures kept { OnErr result (self.new ≡ self.old) }
         ensures levels { self.new.levels ≤ 7 }
         ensures root { OnOk result ((0 < self.new.levels) × NamesNode self.new.levels self.new.root) }
-        ensures dated { (bound : ℕ) (map : Map) → (D.state io.new.disk.now).honest → TreeIs (Has (D.state io.old.disk.now).seen io.old.space) self.old map → TreeDatedUpTo bound self.old
+        ensures dated { (bound : ℕ) (map : Map) → IsHonest io.new → TreeIs (blocks_of io.old) self.old map → TreeDatedUpTo bound self.old
             → All (λ leaf. leaf.ptr.number ≤ bound) leaves.now → OnOk result (TreeDatedUpTo bound self.new) }
-        ensures works { Works 224 16 (D.state io.old.disk.now) io.old.space io.old.failed (D.state io.new.disk.now) io.new.space io.new.failed (stop_of result) }
-        ensures same { io.new.disk.ghost_name ≡ io.old.disk.ghost_name }
+        ensures works { Works 224 16 (io_of io.old) (io_of io.new) (stop_of result) }
     {
         let grown = grow_to(io, *self, 128 * group + 128)?;
         let root = put_leaves(io, grown.levels, grown.root, group, leaves)?;

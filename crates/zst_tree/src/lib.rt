@@ -18,7 +18,7 @@ mod writes;
 pub use leaf_puts::Leaf;
 pub use nodes::{child_at, load_node};
 pub use puts::put_child;
-pub use spans::{INDEX_BOUND, span_of};
+pub use spans::{TREE_INDEX_BOUND, span_of};
 pub use steps::{Steps, tick};
 pub use tree::{ObjSet, Tree};
 pub use words::{push_ptr, push_set, read_ptr, read_set};

@@ -1,6 +1,6 @@
 //! The leaf of an index.
-ghost use Rattle.std.specs.Prelude.{◌≡◌, ◌+◌, ◌<◌, ◌≤◌, ℕ, IfOk};
-ghost use Rattle.zst_block.specs.Blocks.{FitsDisk, Has};
+ghost use Rattle.std.specs.Prelude.{◌+◌, ◌<◌, ◌≤◌, ℕ, IfOk};
+ghost use Rattle.zst_block.specs.IoStates.{IsHonest, blocks_of, disk_of, io_of};
 ghost use Rattle.zst_block.specs.IoCalls.{Looks, stop_of};
 ghost use Rattle.zst_tree.specs.Damage.{HangsBelow, IsSeen, MayHave, NamesDamage, NamesNode};
 ghost use Rattle.zst_tree.specs.Lookups.{Finds};
@@ -23,17 +23,14 @@ pub(crate) fn find_in<D: Disk, L: Ledger>(
 ) -> Result<(Ptr, u64), BlockFault>
     requires level { level ≤ 7 }
     requires offset { offset < span level }
-    requires fits { FitsDisk (D.state io.old.disk.now).size io.old.space }
-    ensures finds { (base : ℕ) (map : Map) → (D.state io.new.disk.now).honest → Subtree (Has (D.state io.old.disk.now).seen io.old.space) level ptr base map →
-        Delivers (Finds (Has (D.state io.old.disk.now).seen io.old.space) level ptr offset) result }
+    ensures finds { (base : ℕ) (map : Map) → IsHonest io.new → Subtree (blocks_of io.old) level ptr base map →
+        Delivers (Finds (blocks_of io.old) level ptr offset) result }
     ensures range { IfOk result (λ found. (0 < found.1) × (offset + found.1 ≤ span level)) }
-    ensures hangs { (D.state io.new.disk.now).honest → IfOk result (λ found. HangsBelow (MayHave (IsSeen (D.state io.old.disk.now).seen)) level ptr found.0) }
-    ensures damaged { (D.state io.new.disk.now).honest → NamesDamage (IsSeen (D.state io.old.disk.now).seen) (D.state io.old.disk.now).size NamesNode level ptr result }
-    ensures looks { Looks (D.state io.old.disk.now) io.old.space io.old.failed (D.state io.new.disk.now) io.new.space io.new.failed (stop_of result) }
+    ensures hangs { IsHonest io.new → IfOk result (λ found. HangsBelow (MayHave (IsSeen (disk_of io.old).seen)) level ptr found.0) }
+    ensures damaged { IsHonest io.new → NamesDamage (IsSeen (disk_of io.old).seen) (disk_of io.old).size NamesNode level ptr result }
+    ensures looks { Looks (io_of io.old) (io_of io.new) (stop_of result) }
     ensures steps { (steps.old ≤ steps.new) × (steps.new ≤ steps.old + level) }
-    ensures calls { (D.state io.new.disk.now).calls + steps.old ≤ (D.state io.old.disk.now).calls + steps.new }
-    ensures kept_fit { FitsDisk (D.state io.new.disk.now).size io.new.space }
-    ensures same { io.new.disk.ghost_name ≡ io.old.disk.ghost_name }
+    ensures calls { (disk_of io.new).calls + steps.old ≤ (disk_of io.old).calls + steps.new }
 {
     if level == 0 {
         return Ok((ptr, 1));

@@ -1,7 +1,8 @@
 //! The greatest index below one that has something present.
 ghost use Rattle.std.specs.Prelude.{◌≡◌, ◌+◌, ◌-◌, ◌*◌, ◌^◌, ◌<◌, ◌≤◌, ℕ, List, IfOk, IfSome, MatchOption, true, false};
 ghost use Rattle.zst_space.specs.FreeSectors.{FreeSectors};
-ghost use Rattle.zst_block.specs.Blocks.{FitsDisk, Has};
+ghost use Rattle.zst_block.specs.Blocks.{Has};
+ghost use Rattle.zst_block.specs.IoStates.{IsHonest, blocks_of, disk_of, io_of};
 ghost use Rattle.zst_block.specs.Ptr.{is_present};
 ghost use Rattle.zst_block.specs.IoCalls.{Looks, stop_of};
 ghost use Rattle.zst_tree.specs.Damage.{IsBelow, IsSeen, NamesDamage, SumsUp};
@@ -66,17 +67,14 @@ pub(crate) fn back_along<D: Disk>(
     requires level { level ≤ 7 }
     requires base { base + span level < 2 ^ 64 }
     requires offset { offset < span level }
-    requires fits { FitsDisk (D.state io.old.disk.now).size io.old.space }
-    ensures reaches { (map : Map) → (D.state io.new.disk.now).honest → Subtree (Has (D.state io.old.disk.now).seen io.old.space) level ptr base map →
-        Delivers (ReachesEarlier (Has (D.state io.new.disk.now).seen io.new.space) map (level - 1) base (base + offset + 1)) result }
+    ensures reaches { (map : Map) → IsHonest io.new → Subtree (blocks_of io.old) level ptr base map →
+        Delivers (ReachesEarlier (blocks_of io.new) map (level - 1) base (base + offset + 1)) result }
     ensures inside { IfOk result (IsInside (level - 1) base (base + offset + 1)) }
     ensures present { IfOk result (IfThere (λ beside. is_present beside.ptr ≡ true)) }
-    ensures below { (D.state io.new.disk.now).honest → IfOk result (IfThere (λ beside. IsBelow (IsSeen (D.state io.old.disk.now).seen) (D.state io.old.disk.now).size (SumsUp (IsSeen (D.state io.old.disk.now).seen)) level ptr (IsSeen (D.state io.old.disk.now).seen) beside.level beside.ptr)) }
-    ensures damaged { (D.state io.new.disk.now).honest → NamesDamage (IsSeen (D.state io.old.disk.now).seen) (D.state io.old.disk.now).size (SumsUp (IsSeen (D.state io.old.disk.now).seen)) level ptr result }
-    ensures looks { Looks (D.state io.old.disk.now) io.old.space io.old.failed (D.state io.new.disk.now) io.new.space io.new.failed (stop_of result) }
-    ensures calls { (D.state io.new.disk.now).calls ≤ (D.state io.old.disk.now).calls + level }
-    ensures kept_fit { FitsDisk (D.state io.new.disk.now).size io.new.space }
-    ensures same { io.new.disk.ghost_name ≡ io.old.disk.ghost_name }
+    ensures below { IsHonest io.new → IfOk result (IfThere (λ beside. IsBelow (IsSeen (disk_of io.old).seen) (disk_of io.old).size (SumsUp (IsSeen (disk_of io.old).seen)) level ptr (IsSeen (disk_of io.old).seen) beside.level beside.ptr)) }
+    ensures damaged { IsHonest io.new → NamesDamage (IsSeen (disk_of io.old).seen) (disk_of io.old).size (SumsUp (IsSeen (disk_of io.old).seen)) level ptr result }
+    ensures looks { Looks (io_of io.old) (io_of io.new) (stop_of result) }
+    ensures calls { (disk_of io.new).calls ≤ (disk_of io.old).calls + level }
 {
     if !ptr.is_present() {
         return Ok(PathAnswer::Nothing);
@@ -102,15 +100,12 @@ pub(crate) fn last_in<D: Disk>(
 ) -> Result<u64, BlockFault>
     requires level { level ≤ 7 }
     requires base { base + span level < 2 ^ 64 }
-    requires fits { FitsDisk (D.state io.old.disk.now).size io.old.space }
-    ensures last { (map : Map) → (D.state io.new.disk.now).honest → is_present ptr ≡ true → Subtree (Has (D.state io.old.disk.now).seen io.old.space) level ptr base map →
+    ensures last { (map : Map) → IsHonest io.new → is_present ptr ≡ true → Subtree (blocks_of io.old) level ptr base map →
         Delivers (IsLast map base (base + span level)) result }
     ensures range { IfOk result (λ found. (base ≤ found) × (found < base + span level)) }
-    ensures damaged { is_present ptr ≡ true → (D.state io.new.disk.now).honest → NamesDamage (IsSeen (D.state io.old.disk.now).seen) (D.state io.old.disk.now).size (SumsUp (IsSeen (D.state io.old.disk.now).seen)) level ptr result }
-    ensures looks { Looks (D.state io.old.disk.now) io.old.space io.old.failed (D.state io.new.disk.now) io.new.space io.new.failed (stop_of result) }
-    ensures calls { (D.state io.new.disk.now).calls ≤ (D.state io.old.disk.now).calls + level }
-    ensures kept_fit { FitsDisk (D.state io.new.disk.now).size io.new.space }
-    ensures same { io.new.disk.ghost_name ≡ io.old.disk.ghost_name }
+    ensures damaged { is_present ptr ≡ true → IsHonest io.new → NamesDamage (IsSeen (disk_of io.old).seen) (disk_of io.old).size (SumsUp (IsSeen (disk_of io.old).seen)) level ptr result }
+    ensures looks { Looks (io_of io.old) (io_of io.new) (stop_of result) }
+    ensures calls { (disk_of io.new).calls ≤ (disk_of io.old).calls + level }
 {
     if stands_throughout(level, &ptr) {
         return Ok(base + (span_of(level) - 1));

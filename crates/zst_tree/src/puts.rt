@@ -1,7 +1,8 @@
 // A range of indices gets one leaf, on a copy of the path or of the two paths to its ends.
 ghost use Rattle.std.specs.Prelude.{◌≡◌, ◌⊎◌, ◌+◌, ◌-◌, ◌*◌, ◌<◌, ◌≤◌, ℕ, List, IfOk, OnOk, true, false, length};
 ghost use Rattle.zst_space.specs.FreeSectors.{FreeSectors};
-ghost use Rattle.zst_block.specs.Blocks.{FitsDisk, Has, SparesTaken};
+ghost use Rattle.zst_block.specs.Blocks.{SparesTaken};
+ghost use Rattle.zst_block.specs.IoStates.{IsHonest, blocks_of, disk_of, io_of, IsSparedBy};
 ghost use Rattle.zst_block.specs.Ptr.{is_flat, is_lawful};
 ghost use Rattle.zst_block.specs.IoCalls.{Looks, Works, stop_of};
 ghost use Rattle.zst_block.specs.declared.ptr.Ptr.{Ptr};
@@ -39,14 +40,11 @@ pub(crate) fn fill(node: &mut Node, from: usize, below: usize, ptr: &Ptr)
 // Fills the node with the pointers below this one.
 pub(crate) fn open<D: Disk>(io: &mut Io<'_, D>, level: u8, ptr: Ptr) -> Result<(), BlockFault>
     requires inner { 0 < level }
-    requires fits { FitsDisk (D.state io.old.disk.now).size io.old.space }
-    ensures parts { (base : ℕ) (map : Map) → (D.state io.new.disk.now).honest → Subtree (Has (D.state io.old.disk.now).seen io.old.space) level ptr base map → Delivers (λ done. Parts (Has (D.state io.old.disk.now).seen io.old.space) (level - 1) io.new.node base map) result }
-    ensures below { (D.state io.new.disk.now).honest → OnOk result ((k : ℕ) → k < 128 → IsBelow (SparesTaken io.old.space (D.state io.old.disk.now).seen) (D.state io.old.disk.now).size NamesNode level ptr (SparesTaken io.old.space (D.state io.old.disk.now).seen) (level - 1) (child io.new.node k)) }
-    ensures hangs { (D.state io.new.disk.now).honest → OnOk result ((k : ℕ) → k < 128 → (found : Ptr) → HangsBelow (MayHave (SparesTaken io.old.space (D.state io.old.disk.now).seen)) (level - 1) (child io.new.node k) found → HangsBelow (MayHave (SparesTaken io.old.space (D.state io.old.disk.now).seen)) level ptr found) }
-    ensures damaged { (D.state io.new.disk.now).honest → NamesDamage (SparesTaken io.old.space (D.state io.old.disk.now).seen) (D.state io.old.disk.now).size NamesNode level ptr result }
-    ensures looks { Looks (D.state io.old.disk.now) io.old.space io.old.failed (D.state io.new.disk.now) io.new.space io.new.failed (stop_of result) }
-    ensures kept_fit { FitsDisk (D.state io.new.disk.now).size io.new.space }
-    ensures same { io.new.disk.ghost_name ≡ io.old.disk.ghost_name }
+    ensures parts { (base : ℕ) (map : Map) → IsHonest io.new → Subtree (blocks_of io.old) level ptr base map → Delivers (λ done. Parts (blocks_of io.old) (level - 1) io.new.node base map) result }
+    ensures below { IsHonest io.new → OnOk result ((k : ℕ) → k < 128 → IsBelow (IsSparedBy io.old) (disk_of io.old).size NamesNode level ptr (IsSparedBy io.old) (level - 1) (child io.new.node k)) }
+    ensures hangs { IsHonest io.new → OnOk result ((k : ℕ) → k < 128 → (found : Ptr) → HangsBelow (MayHave (IsSparedBy io.old)) (level - 1) (child io.new.node k) found → HangsBelow (MayHave (IsSparedBy io.old)) level ptr found) }
+    ensures damaged { IsHonest io.new → NamesDamage (IsSparedBy io.old) (disk_of io.old).size NamesNode level ptr result }
+    ensures looks { Looks (io_of io.old) (io_of io.new) (stop_of result) }
 {
     if ptr.is_flat() {
         fill(&mut io.node, 0, 128, &ptr);
@@ -83,13 +81,11 @@ fn summary_of(node: &Node) -> Summary
 // Writes the node into free sectors.
 pub(crate) fn close<D: Disk>(io: &mut Io<'_, D>, level: u8) -> Result<Ptr, BlockFault>
     requires inner { 0 < level }
-    requires fits { FitsDisk (D.state io.old.disk.now).size io.old.space }
-    ensures whole { (base : ℕ) (map : Map) → Parts (Has (D.state io.old.disk.now).seen io.old.space) (level - 1) io.old.node base map → Delivers (λ made. Subtree (Has (D.state io.new.disk.now).seen io.new.space) level made base map) result }
-    ensures wrote { IfOk result (λ made. Has (D.state io.new.disk.now).seen io.new.space made io.old.node) }
+    ensures whole { (base : ℕ) (map : Map) → Parts (blocks_of io.old) (level - 1) io.old.node base map → Delivers (λ made. Subtree (blocks_of io.new) level made base map) result }
+    ensures wrote { IfOk result (λ made. blocks_of io.new made io.old.node) }
     ensures names { IfOk result (NamesNode level) }
     ensures never_damaged { (sector : ℕ) (stated found : List ℕ) → ¬ (result ≡ Err (BlockFault.Damaged sector stated found)) }
-    ensures works { Works 16 16 (D.state io.old.disk.now) io.old.space io.old.failed (D.state io.new.disk.now) io.new.space io.new.failed (stop_of result) }
-    ensures same { io.new.disk.ghost_name ≡ io.old.disk.ghost_name }
+    ensures works { Works 16 16 (io_of io.old) (io_of io.new) (stop_of result) }
 {
     let summary = summary_of(&io.node);
     let ptr = save(io, level, summary.number)?;
@@ -109,18 +105,16 @@ pub(crate) fn mend_one<D: Disk>(
 ) -> Result<Ptr, BlockFault>
     requires inner { 0 < level }
     requires child { child < 128 }
-    requires fits { FitsDisk (D.state io.old.disk.now).size io.old.space }
-    ensures mended { (base : ℕ) (map put : Map) → (D.state io.new.disk.now).honest → Subtree (Has (D.state io.old.disk.now).seen io.old.space) level ptr base map
-        → Subtree (Has (D.state io.old.disk.now).seen io.old.space) (level - 1) new (base + child * span (level - 1)) put
+    ensures mended { (base : ℕ) (map put : Map) → IsHonest io.new → Subtree (blocks_of io.old) level ptr base map
+        → Subtree (blocks_of io.old) (level - 1) new (base + child * span (level - 1)) put
         → SameBeside map put base (base + child * span (level - 1)) (base + child * span (level - 1) + span (level - 1)) (base + span level)
-        → Delivers (λ made. Subtree (Has (D.state io.new.disk.now).seen io.new.space) level made base put) result }
-    ensures damaged { (D.state io.new.disk.now).honest → NamesDamage (SparesTaken io.old.space (D.state io.old.disk.now).seen) (D.state io.old.disk.now).size NamesNode level ptr result }
+        → Delivers (λ made. Subtree (blocks_of io.new) level made base put) result }
+    ensures damaged { IsHonest io.new → NamesDamage (IsSparedBy io.old) (disk_of io.old).size NamesNode level ptr result }
     ensures names { IfOk result (NamesNode level) }
-    ensures within { (leaf : Ptr) (image : List ℕ) (space : FreeSectors) → (D.state io.new.disk.now).honest → ((c : List ℕ) → SparesTaken io.old.space (D.state io.old.disk.now).seen c → SparesTaken space image c)
-        → IsWithin (SparesTaken space image) (D.state io.old.disk.now).size level ptr leaf (SparesTaken io.old.space (D.state io.old.disk.now).seen) (level - 1) new
-        → IfOk result (IsWithin (SparesTaken space image) (D.state io.old.disk.now).size level ptr leaf (SparesTaken io.new.space (D.state io.new.disk.now).seen) level) }
-    ensures works { Works 16 16 (D.state io.old.disk.now) io.old.space io.old.failed (D.state io.new.disk.now) io.new.space io.new.failed (stop_of result) }
-    ensures same { io.new.disk.ghost_name ≡ io.old.disk.ghost_name }
+    ensures within { (leaf : Ptr) (image : List ℕ) (space : FreeSectors) → IsHonest io.new → ((c : List ℕ) → IsSparedBy io.old c → SparesTaken space image c)
+        → IsWithin (SparesTaken space image) (disk_of io.old).size level ptr leaf (IsSparedBy io.old) (level - 1) new
+        → IfOk result (IsWithin (SparesTaken space image) (disk_of io.old).size level ptr leaf (IsSparedBy io.new) level) }
+    ensures works { Works 16 16 (io_of io.old) (io_of io.new) (stop_of result) }
 {
     open(io, level, ptr)?;
     put_child(&mut io.node, child, &new);
@@ -149,21 +143,19 @@ fn mend_two<D: Disk>(
     requires high { mend.high < 128 }
     requires flat { is_flat leaf ≡ true }
     requires lawful { is_lawful leaf ≡ true }
-    requires fits { FitsDisk (D.state io.old.disk.now).size io.old.space }
-    ensures mended { (base : ℕ) (map put : Map) → (D.state io.new.disk.now).honest → Subtree (Has (D.state io.old.disk.now).seen io.old.space) level ptr base map
-        → Subtree (Has (D.state io.old.disk.now).seen io.old.space) (level - 1) mend.new_low (base + mend.low * span (level - 1)) put
-        → Subtree (Has (D.state io.old.disk.now).seen io.old.space) (level - 1) mend.new_high (base + mend.high * span (level - 1)) put
+    ensures mended { (base : ℕ) (map put : Map) → IsHonest io.new → Subtree (blocks_of io.old) level ptr base map
+        → Subtree (blocks_of io.old) (level - 1) mend.new_low (base + mend.low * span (level - 1)) put
+        → Subtree (blocks_of io.old) (level - 1) mend.new_high (base + mend.high * span (level - 1)) put
         → SameBeside map put base (base + mend.low * span (level - 1)) (base + mend.high * span (level - 1) + span (level - 1)) (base + span level)
         → Same put (base + mend.low * span (level - 1) + span (level - 1)) (base + mend.high * span (level - 1)) leaf
-        → Delivers (λ made. Subtree (Has (D.state io.new.disk.now).seen io.new.space) level made base put) result }
-    ensures damaged { (D.state io.new.disk.now).honest → NamesDamage (SparesTaken io.old.space (D.state io.old.disk.now).seen) (D.state io.old.disk.now).size NamesNode level ptr result }
+        → Delivers (λ made. Subtree (blocks_of io.new) level made base put) result }
+    ensures damaged { IsHonest io.new → NamesDamage (IsSparedBy io.old) (disk_of io.old).size NamesNode level ptr result }
     ensures names { IfOk result (NamesNode level) }
-    ensures within { (image : List ℕ) (space : FreeSectors) → (D.state io.new.disk.now).honest → ((c : List ℕ) → SparesTaken io.old.space (D.state io.old.disk.now).seen c → SparesTaken space image c)
-        → IsWithin (SparesTaken space image) (D.state io.old.disk.now).size level ptr leaf (SparesTaken io.old.space (D.state io.old.disk.now).seen) (level - 1) mend.new_low
-        → IsWithin (SparesTaken space image) (D.state io.old.disk.now).size level ptr leaf (SparesTaken io.old.space (D.state io.old.disk.now).seen) (level - 1) mend.new_high
-        → IfOk result (IsWithin (SparesTaken space image) (D.state io.old.disk.now).size level ptr leaf (SparesTaken io.new.space (D.state io.new.disk.now).seen) level) }
-    ensures works { Works 16 16 (D.state io.old.disk.now) io.old.space io.old.failed (D.state io.new.disk.now) io.new.space io.new.failed (stop_of result) }
-    ensures same { io.new.disk.ghost_name ≡ io.old.disk.ghost_name }
+    ensures within { (image : List ℕ) (space : FreeSectors) → IsHonest io.new → ((c : List ℕ) → IsSparedBy io.old c → SparesTaken space image c)
+        → IsWithin (SparesTaken space image) (disk_of io.old).size level ptr leaf (IsSparedBy io.old) (level - 1) mend.new_low
+        → IsWithin (SparesTaken space image) (disk_of io.old).size level ptr leaf (IsSparedBy io.old) (level - 1) mend.new_high
+        → IfOk result (IsWithin (SparesTaken space image) (disk_of io.old).size level ptr leaf (IsSparedBy io.new) level) }
+    ensures works { Works 16 16 (io_of io.old) (io_of io.new) (stop_of result) }
 {
     open(io, level, ptr)?;
     put_child(&mut io.node, mend.low, &mend.new_low);
@@ -230,15 +222,13 @@ pub(crate) fn put_in<D: Disk>(
     requires below { below ≤ span level }
     requires leaf { (is_flat leaf ≡ true) ⊎ (below ≡ first + 1) }
     requires lawful { is_lawful leaf ≡ true }
-    requires fits { FitsDisk (D.state io.old.disk.now).size io.old.space }
-    ensures put { (base : ℕ) (map put : Map) → (D.state io.new.disk.now).honest → Subtree (Has (D.state io.old.disk.now).seen io.old.space) level ptr base map
+    ensures put { (base : ℕ) (map put : Map) → IsHonest io.new → Subtree (blocks_of io.old) level ptr base map
         → Changed map put base (base + first) (base + below) (base + span level) leaf
-        → Delivers (λ made. Subtree (Has (D.state io.new.disk.now).seen io.new.space) level made base put) result }
-    ensures damaged { (D.state io.new.disk.now).honest → NamesDamage (SparesTaken io.old.space (D.state io.old.disk.now).seen) (D.state io.old.disk.now).size NamesNode level ptr result }
+        → Delivers (λ made. Subtree (blocks_of io.new) level made base put) result }
+    ensures damaged { IsHonest io.new → NamesDamage (IsSparedBy io.old) (disk_of io.old).size NamesNode level ptr result }
     ensures root { IfOk result (IsPutRoot level leaf) }
-    ensures within { (D.state io.new.disk.now).honest → IfOk result (IsWithin (SparesTaken io.old.space (D.state io.old.disk.now).seen) (D.state io.old.disk.now).size level ptr leaf (SparesTaken io.new.space (D.state io.new.disk.now).seen) level) }
-    ensures works { Works (16 * most level first below) 16 (D.state io.old.disk.now) io.old.space io.old.failed (D.state io.new.disk.now) io.new.space io.new.failed (stop_of result) }
-    ensures same { io.new.disk.ghost_name ≡ io.old.disk.ghost_name }
+    ensures within { IsHonest io.new → IfOk result (IsWithin (IsSparedBy io.old) (disk_of io.old).size level ptr leaf (IsSparedBy io.new) level) }
+    ensures works { Works (16 * most level first below) 16 (io_of io.old) (io_of io.new) (stop_of result) }
 {
     if is_whole(level, first, below) {
         return Ok(leaf);

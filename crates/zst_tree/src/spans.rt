@@ -2,8 +2,8 @@
 ghost use Rattle.std.specs.Prelude.{◌≡◌, ◌+◌, ◌-◌, ◌*◌, ◌^◌, ◌<◌, ◌≤◌};
 ghost use Rattle.zst_tree.specs.Indices.{span};
 
-/// Indices are below this.
-pub const INDEX_BOUND: u64 = 17592186044416;
+/// Indices of a tree are below this, 2^44: twice as many as an object may have.
+pub const TREE_INDEX_BOUND: u64 = 17592186044416;
 
 /// How many indices stand below a pointer at a level.
 pub fn span_of(level: u8) -> u64
@@ -24,12 +24,12 @@ pub fn span_of(level: u8) -> u64
 
 // Where an offset below a pointer stands: the child, and the offset below it.
 #[derive(Clone, Copy)]
-pub(crate) struct Place {
+pub(crate) struct ChildPlace {
     pub child: usize,
     pub rest: u64,
 }
 
-pub(crate) fn place_of(level: u8, offset: u64) -> Place
+pub(crate) fn place_of(level: u8, offset: u64) -> ChildPlace
     requires level { level ≤ 7 }
     requires inner { 0 < level }
     requires offset { offset < span level }
@@ -38,7 +38,7 @@ pub(crate) fn place_of(level: u8, offset: u64) -> Place
     ensures sum { result.child * span (level - 1) + result.rest ≡ offset }
 {
     let part = span_of(level - 1);
-    Place {
+    ChildPlace {
         child: (offset / part) as usize,
         rest: offset % part,
     }

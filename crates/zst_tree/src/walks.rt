@@ -1,6 +1,6 @@
 //! What reads a tree.
 ghost use Rattle.std.specs.Prelude.{◌≡◌, ◌⊎◌, ◌+◌, ◌-◌, ◌*◌, ◌^◌, ◌<◌, ◌≤◌, ℕ, IfOk, IfSome, MatchOption};
-ghost use Rattle.zst_block.specs.Blocks.{FitsDisk, Has};
+ghost use Rattle.zst_block.specs.IoStates.{IsHonest, blocks_of, disk_of, io_of};
 ghost use Rattle.zst_block.specs.IoCalls.{Looks, stop_of};
 ghost use Rattle.zst_tree.specs.Damage.{IsSeen, NamesDamage, SumsUp};
 ghost use Rattle.zst_tree.specs.PresentIndices.{FindsLast};
@@ -11,7 +11,7 @@ use crate::late_indices::{along, first_in};
 use crate::lookups::find_in;
 use crate::path_answer::PathAnswer;
 use crate::present_indices::{back_along, last_in};
-use crate::spans::{INDEX_BOUND, span_of};
+use crate::spans::{TREE_INDEX_BOUND, span_of};
 use crate::steps::Steps;
 use crate::tree::Tree;
 use std::sync::ledger::Ledger;
@@ -29,16 +29,13 @@ fn first_from<D: Disk, L: Ledger>(
     steps: &mut Steps<L>,
 ) -> Result<Option<u64>, BlockFault>
     requires levels { levels ≤ 7 }
-    requires fits { FitsDisk (D.state io.old.disk.now).size io.old.space }
-    ensures first { (map : Map) → (D.state io.new.disk.now).honest → Subtree (Has (D.state io.old.disk.now).seen io.old.space) levels root 0 map →
+    ensures first { (map : Map) → IsHonest io.new → Subtree (blocks_of io.old) levels root 0 map →
         Delivers (FindsFirst map index (span levels) number) result }
     ensures range { IfOk result (λ found. IfSome found (λ first. (index ≤ first) × (first < span levels))) }
-    ensures damaged { (D.state io.new.disk.now).honest → NamesDamage (IsSeen (D.state io.old.disk.now).seen) (D.state io.old.disk.now).size (SumsUp (IsSeen (D.state io.old.disk.now).seen)) levels root result }
-    ensures looks { Looks (D.state io.old.disk.now) io.old.space io.old.failed (D.state io.new.disk.now) io.new.space io.new.failed (stop_of result) }
+    ensures damaged { IsHonest io.new → NamesDamage (IsSeen (disk_of io.old).seen) (disk_of io.old).size (SumsUp (IsSeen (disk_of io.old).seen)) levels root result }
+    ensures looks { Looks (io_of io.old) (io_of io.new) (stop_of result) }
     ensures steps { (steps.old ≤ steps.new) × (steps.new ≤ steps.old + (2 * levels - 1)) }
-    ensures calls { (D.state io.new.disk.now).calls + steps.old ≤ (D.state io.old.disk.now).calls + steps.new }
-    ensures kept_fit { FitsDisk (D.state io.new.disk.now).size io.new.space }
-    ensures same { io.new.disk.ghost_name ≡ io.old.disk.ghost_name }
+    ensures calls { (disk_of io.new).calls + steps.old ≤ (disk_of io.old).calls + steps.new }
 {
     if index >= span_of(levels) {
         return Ok(None);
@@ -67,15 +64,12 @@ fn last_to<D: Disk>(
 ) -> Result<Option<u64>, BlockFault>
     requires levels { levels ≤ 7 }
     requires index { index < span levels }
-    requires fits { FitsDisk (D.state io.old.disk.now).size io.old.space }
-    ensures last { (map : Map) → (D.state io.new.disk.now).honest → Subtree (Has (D.state io.old.disk.now).seen io.old.space) levels root 0 map →
+    ensures last { (map : Map) → IsHonest io.new → Subtree (blocks_of io.old) levels root 0 map →
         Delivers (FindsLast map 0 (index + 1)) result }
     ensures range { IfOk result (λ found. IfSome found (λ last. last ≤ index)) }
-    ensures damaged { (D.state io.new.disk.now).honest → NamesDamage (IsSeen (D.state io.old.disk.now).seen) (D.state io.old.disk.now).size (SumsUp (IsSeen (D.state io.old.disk.now).seen)) levels root result }
-    ensures looks { Looks (D.state io.old.disk.now) io.old.space io.old.failed (D.state io.new.disk.now) io.new.space io.new.failed (stop_of result) }
-    ensures calls { (D.state io.new.disk.now).calls ≤ (D.state io.old.disk.now).calls + (2 * levels - 1) }
-    ensures kept_fit { FitsDisk (D.state io.new.disk.now).size io.new.space }
-    ensures same { io.new.disk.ghost_name ≡ io.old.disk.ghost_name }
+    ensures damaged { IsHonest io.new → NamesDamage (IsSeen (disk_of io.old).seen) (disk_of io.old).size (SumsUp (IsSeen (disk_of io.old).seen)) levels root result }
+    ensures looks { Looks (io_of io.old) (io_of io.new) (stop_of result) }
+    ensures calls { (disk_of io.new).calls ≤ (disk_of io.old).calls + (2 * levels - 1) }
 {
     match back_along(io, levels, root, 0, index)? {
         PathAnswer::Nothing => Ok(None),
@@ -86,7 +80,6 @@ fn last_to<D: Disk>(
 
 impl Tree {
     ghost use Rattle.std.specs.Prelude.{◌≡◌, ◌+◌, ◌^◌, ◌<◌, ◌≤◌, ℕ, IfOk, IfSome};
-    ghost use Rattle.zst_block.specs.Blocks.{FitsDisk, Has};
     ghost use Rattle.zst_block.specs.IoCalls.{Looks, stop_of};
     ghost use Rattle.zst_tree.specs.Damage.{HangsIn, IsSeen, MayHave, NamesDamage, NamesNode, SumsUp};
     ghost use Rattle.zst_tree.specs.PresentIndices.{FindsLast};
@@ -105,26 +98,23 @@ impl Tree {
     ) -> Result<(Ptr, u64), BlockFault>
         requires levels { self.now.levels ≤ 7 }
         requires index { index < 2 ^ 44 }
-        requires fits { FitsDisk (D.state io.old.disk.now).size io.old.space }
 
         // A tree that is there shows what it holds, and isn't damaged.
-        ensures shows { (map : Map) → (D.state io.new.disk.now).honest → TreeIs (Has (D.state io.old.disk.now).seen io.old.space) self.now map → Delivers (Shows map index) result }
-        ensures count { (map : Map) → (D.state io.new.disk.now).honest → TreeIs (Has (D.state io.old.disk.now).seen io.old.space) self.now map → Delivers (FindsIn (Has (D.state io.old.disk.now).seen io.old.space) self.now index) result }
+        ensures shows { (map : Map) → IsHonest io.new → TreeIs (blocks_of io.old) self.now map → Delivers (Shows map index) result }
+        ensures count { (map : Map) → IsHonest io.new → TreeIs (blocks_of io.old) self.now map → Delivers (FindsIn (blocks_of io.old) self.now index) result }
         ensures range { IfOk result (λ found. (0 < found.1) × (index + found.1 ≤ 2 ^ 49)) }
 
         // What it gives hangs in the tree, and damage is told of a node below the root alone.
-        ensures hangs { (D.state io.new.disk.now).honest → IfOk result (λ found. HangsIn (MayHave (IsSeen (D.state io.old.disk.now).seen)) self.now found.0) }
-        ensures damaged { (D.state io.new.disk.now).honest → NamesDamage (IsSeen (D.state io.old.disk.now).seen) (D.state io.old.disk.now).size NamesNode self.now.levels self.now.root result }
+        ensures hangs { IsHonest io.new → IfOk result (λ found. HangsIn (MayHave (IsSeen (disk_of io.old).seen)) self.now found.0) }
+        ensures damaged { IsHonest io.new → NamesDamage (IsSeen (disk_of io.old).seen) (disk_of io.old).size NamesNode self.now.levels self.now.root result }
 
         // It only reads, a block each step.
-        ensures looks { Looks (D.state io.old.disk.now) io.old.space io.old.failed (D.state io.new.disk.now) io.new.space io.new.failed (stop_of result) }
+        ensures looks { Looks (io_of io.old) (io_of io.new) (stop_of result) }
         ensures steps { (steps.old ≤ steps.new) × (steps.new ≤ steps.old + 7) }
-        ensures calls { (D.state io.new.disk.now).calls + steps.old ≤ (D.state io.old.disk.now).calls + steps.new }
-        ensures kept_fit { FitsDisk (D.state io.new.disk.now).size io.new.space }
-        ensures same { io.new.disk.ghost_name ≡ io.old.disk.ghost_name }
+        ensures calls { (disk_of io.new).calls + steps.old ≤ (disk_of io.old).calls + steps.new }
     {
         if index >= span_of(self.levels) {
-            return Ok((Ptr::hole(self.past), INDEX_BOUND - index));
+            return Ok((Ptr::hole(self.past), TREE_INDEX_BOUND - index));
         }
         find_in(io, self.levels, self.root, index, steps)
     }
@@ -140,21 +130,18 @@ impl Tree {
     ) -> Result<Option<u64>, BlockFault>
         requires levels { self.now.levels ≤ 7 }
         requires below { below ≤ 2 ^ 44 }
-        requires fits { FitsDisk (D.state io.old.disk.now).size io.old.space }
 
         // A tree that is there has it found, and isn't damaged.
-        ensures first { (map : Map) → (D.state io.new.disk.now).honest → TreeIs (Has (D.state io.old.disk.now).seen io.old.space) self.now map → Delivers (FindsFirst map index below number) result }
+        ensures first { (map : Map) → IsHonest io.new → TreeIs (blocks_of io.old) self.now map → Delivers (FindsFirst map index below number) result }
         ensures range { IfOk result (λ found. IfSome found (λ first. (index ≤ first) × (first < below))) }
 
         // Damage is told of a node below the root alone.
-        ensures damaged { (D.state io.new.disk.now).honest → NamesDamage (IsSeen (D.state io.old.disk.now).seen) (D.state io.old.disk.now).size (SumsUp (IsSeen (D.state io.old.disk.now).seen)) self.now.levels self.now.root result }
+        ensures damaged { IsHonest io.new → NamesDamage (IsSeen (disk_of io.old).seen) (disk_of io.old).size (SumsUp (IsSeen (disk_of io.old).seen)) self.now.levels self.now.root result }
 
         // It only reads, a block each step.
-        ensures looks { Looks (D.state io.old.disk.now) io.old.space io.old.failed (D.state io.new.disk.now) io.new.space io.new.failed (stop_of result) }
+        ensures looks { Looks (io_of io.old) (io_of io.new) (stop_of result) }
         ensures steps { (steps.old ≤ steps.new) × (steps.new ≤ steps.old + 13) }
-        ensures calls { (D.state io.new.disk.now).calls + steps.old ≤ (D.state io.old.disk.now).calls + steps.new }
-        ensures kept_fit { FitsDisk (D.state io.new.disk.now).size io.new.space }
-        ensures same { io.new.disk.ghost_name ≡ io.old.disk.ghost_name }
+        ensures calls { (disk_of io.new).calls + steps.old ≤ (disk_of io.old).calls + steps.new }
     {
         match first_from(io, self.levels, self.root, index, number, steps)? {
             Some(found) => Ok(limited(found, below)),
@@ -170,20 +157,17 @@ impl Tree {
     ) -> Result<Option<u64>, BlockFault>
         requires levels { self.now.levels ≤ 7 }
         requires index { index ≤ 2 ^ 44 }
-        requires fits { FitsDisk (D.state io.old.disk.now).size io.old.space }
 
         // A tree that is there has it found, and isn't damaged.
-        ensures last { (map : Map) → (D.state io.new.disk.now).honest → TreeIs (Has (D.state io.old.disk.now).seen io.old.space) self.now map → Delivers (FindsLast map 0 index) result }
+        ensures last { (map : Map) → IsHonest io.new → TreeIs (blocks_of io.old) self.now map → Delivers (FindsLast map 0 index) result }
         ensures range { IfOk result (λ found. IfSome found (λ last. last < index)) }
 
         // Damage is told of a node below the root alone.
-        ensures damaged { (D.state io.new.disk.now).honest → NamesDamage (IsSeen (D.state io.old.disk.now).seen) (D.state io.old.disk.now).size (SumsUp (IsSeen (D.state io.old.disk.now).seen)) self.now.levels self.now.root result }
+        ensures damaged { IsHonest io.new → NamesDamage (IsSeen (disk_of io.old).seen) (disk_of io.old).size (SumsUp (IsSeen (disk_of io.old).seen)) self.now.levels self.now.root result }
 
         // It only reads, and little.
-        ensures looks { Looks (D.state io.old.disk.now) io.old.space io.old.failed (D.state io.new.disk.now) io.new.space io.new.failed (stop_of result) }
-        ensures calls { (D.state io.new.disk.now).calls ≤ (D.state io.old.disk.now).calls + 14 }
-        ensures kept_fit { FitsDisk (D.state io.new.disk.now).size io.new.space }
-        ensures same { io.new.disk.ghost_name ≡ io.old.disk.ghost_name }
+        ensures looks { Looks (io_of io.old) (io_of io.new) (stop_of result) }
+        ensures calls { (disk_of io.new).calls ≤ (disk_of io.old).calls + 14 }
     {
         let end = index.min(span_of(self.levels));
         if end == 0 {

@@ -1,8 +1,8 @@
 // What changes a tree: it grows, and a range gets one leaf. The tree is changed last, so a refusal
 // leaves it.
 ghost use Rattle.std.specs.Prelude.{◌≡◌, ◌⊎◌, ◌+◌, ◌-◌, ◌*◌, ◌^◌, ◌<◌, ◌≤◌, ℕ, List, true, false, OnErr, OnOk, IfOk};
-ghost use Rattle.zst_block.specs.Blocks.{FitsDisk, Has, SparesTaken};
 ghost use Rattle.zst_block.specs.Ptr.{hole_of, redacted_of, is_flat, is_lawful};
+ghost use Rattle.zst_block.specs.IoStates.{IsHonest, blocks_of, disk_of, io_of, IsSparedBy};
 ghost use Rattle.zst_block.specs.IoCalls.{Works, stop_of};
 ghost use Rattle.zst_block.specs.declared.ptr.Ptr.{Ptr};
 ghost use Rattle.zst_tree.specs.Damage.{IsWithin, NamesDamage, NamesNode};
@@ -10,7 +10,7 @@ ghost use Rattle.zst_tree.specs.Indices.{Map, span, Subtree, Changed, Delivers, 
 ghost use Rattle.zst_tree.specs.Changes.{IsPutRoot, PutsRoot, TreeDatedUpTo, most};
 
 use crate::puts::{close, fill, put_child, put_in};
-use crate::spans::{INDEX_BOUND, span_of};
+use crate::spans::{TREE_INDEX_BOUND, span_of};
 use crate::tree::Tree;
 use zst_block::{BlockFault, Io, Ptr};
 use zst_outside::Disk;
@@ -18,14 +18,12 @@ use zst_outside::Disk;
 // A tree one level taller: its first child is the old root, and the others are holes.
 fn raise<D: Disk>(io: &mut Io<'_, D>, tree: Tree) -> Result<Tree, BlockFault>
     requires levels { tree.levels < 7 }
-    requires fits { FitsDisk (D.state io.old.disk.now).size io.old.space }
-    ensures raised { (whole : Map) → Stands (Has (D.state io.old.disk.now).seen io.old.space) tree whole → Delivers (λ taller. Stands (Has (D.state io.new.disk.now).seen io.new.space) taller whole) result }
+    ensures raised { (whole : Map) → Stands (blocks_of io.old) tree whole → Delivers (λ taller. Stands (blocks_of io.new) taller whole) result }
     ensures taller { IfOk result (λ taller. taller.levels ≡ tree.levels + 1) }
-    ensures within { (leaf : Ptr) → IfOk result (λ taller. IsWithin (SparesTaken io.old.space (D.state io.old.disk.now).seen) (D.state io.old.disk.now).size tree.levels tree.root leaf (SparesTaken io.new.space (D.state io.new.disk.now).seen) taller.levels taller.root) }
+    ensures within { (leaf : Ptr) → IfOk result (λ taller. IsWithin (IsSparedBy io.old) (disk_of io.old).size tree.levels tree.root leaf (IsSparedBy io.new) taller.levels taller.root) }
     ensures never_damaged { (sector : ℕ) (stated found : List ℕ) → ¬ (result ≡ Err (BlockFault.Damaged sector stated found)) }
     ensures names { IfOk result (λ taller. NamesNode taller.levels taller.root) }
-    ensures works { Works 16 16 (D.state io.old.disk.now) io.old.space io.old.failed (D.state io.new.disk.now) io.new.space io.new.failed (stop_of result) }
-    ensures same { io.new.disk.ghost_name ≡ io.old.disk.ghost_name }
+    ensures works { Works 16 16 (io_of io.old) (io_of io.new) (stop_of result) }
 {
     fill(&mut io.node, 0, 128, &Ptr::hole(tree.past));
     put_child(&mut io.node, 0, &tree.root);
@@ -55,14 +53,12 @@ pub(crate) fn grow_to<D: Disk>(
 ) -> Result<Tree, BlockFault>
     requires levels { tree.levels ≤ 7 }
     requires need { need ≤ 2 ^ 44 }
-    requires fits { FitsDisk (D.state io.old.disk.now).size io.old.space }
-    ensures grown { (whole : Map) → Stands (Has (D.state io.old.disk.now).seen io.old.space) tree whole → Delivers (λ grown. Stands (Has (D.state io.new.disk.now).seen io.new.space) grown whole) result }
+    ensures grown { (whole : Map) → Stands (blocks_of io.old) tree whole → Delivers (λ grown. Stands (blocks_of io.new) grown whole) result }
     ensures size { IfOk result (λ grown. (need ≤ span grown.levels) × (grown.levels ≤ 7) × (tree.levels ≤ grown.levels)) }
-    ensures within { (leaf : Ptr) → IfOk result (λ grown. IsWithin (SparesTaken io.old.space (D.state io.old.disk.now).seen) (D.state io.old.disk.now).size tree.levels tree.root leaf (SparesTaken io.new.space (D.state io.new.disk.now).seen) grown.levels grown.root) }
+    ensures within { (leaf : Ptr) → IfOk result (λ grown. IsWithin (IsSparedBy io.old) (disk_of io.old).size tree.levels tree.root leaf (IsSparedBy io.new) grown.levels grown.root) }
     ensures never_damaged { (sector : ℕ) (stated found : List ℕ) → ¬ (result ≡ Err (BlockFault.Damaged sector stated found)) }
     ensures root { IfOk result (λ grown. ((grown.levels ≡ tree.levels) × (grown.root ≡ tree.root)) ⊎ ((0 < grown.levels) × NamesNode grown.levels grown.root)) }
-    ensures works { Works (16 * (7 - tree.levels)) 16 (D.state io.old.disk.now) io.old.space io.old.failed (D.state io.new.disk.now) io.new.space io.new.failed (stop_of result) }
-    ensures same { io.new.disk.ghost_name ≡ io.old.disk.ghost_name }
+    ensures works { Works (16 * (7 - tree.levels)) 16 (io_of io.old) (io_of io.new) (stop_of result) }
 {
     if is_enough(tree.levels, need) {
         return Ok(tree);
@@ -84,17 +80,15 @@ fn put_range<D: Disk>(
     requires below { below ≤ 2 ^ 44 }
     requires leaf { (is_flat leaf ≡ true) ⊎ (below ≡ first + 1) }
     requires lawful { is_lawful leaf ≡ true }
-    requires fits { FitsDisk (D.state io.old.disk.now).size io.old.space }
-    ensures puts { (map put : Map) → (D.state io.new.disk.now).honest → TreeIs (Has (D.state io.old.disk.now).seen io.old.space) tree.old map → Puts map put first below leaf → Delivers (λ done. TreeIs (Has (D.state io.new.disk.now).seen io.new.space) tree.new put) result }
-    ensures damaged { (D.state io.new.disk.now).honest → NamesDamage (SparesTaken io.old.space (D.state io.old.disk.now).seen) (D.state io.old.disk.now).size NamesNode tree.old.levels tree.old.root result }
+    ensures puts { (map put : Map) → IsHonest io.new → TreeIs (blocks_of io.old) tree.old map → Puts map put first below leaf → Delivers (λ done. TreeIs (blocks_of io.new) tree.new put) result }
+    ensures damaged { IsHonest io.new → NamesDamage (IsSparedBy io.old) (disk_of io.old).size NamesNode tree.old.levels tree.old.root result }
     ensures kept { OnErr result (tree.new ≡ tree.old) }
     ensures levels { tree.new.levels ≤ 7 }
     ensures root { PutsRoot tree.old leaf tree.new }
-    ensures dated { (bound : ℕ) (map : Map) → (D.state io.new.disk.now).honest → TreeIs (Has (D.state io.old.disk.now).seen io.old.space) tree.old map → TreeDatedUpTo bound tree.old → leaf.number ≤ bound → OnOk result (TreeDatedUpTo bound tree.new) }
-    ensures within { (D.state io.new.disk.now).honest → OnOk result (IsWithin (SparesTaken io.old.space (D.state io.old.disk.now).seen) (D.state io.old.disk.now).size tree.old.levels tree.old.root leaf (SparesTaken io.new.space (D.state io.new.disk.now).seen) tree.new.levels tree.new.root) }
-    ensures works { Works 320 16 (D.state io.old.disk.now) io.old.space io.old.failed (D.state io.new.disk.now) io.new.space io.new.failed (stop_of result) }
-    ensures one { below ≡ first + 1 → Works 224 16 (D.state io.old.disk.now) io.old.space io.old.failed (D.state io.new.disk.now) io.new.space io.new.failed (stop_of result) }
-    ensures same { io.new.disk.ghost_name ≡ io.old.disk.ghost_name }
+    ensures dated { (bound : ℕ) (map : Map) → IsHonest io.new → TreeIs (blocks_of io.old) tree.old map → TreeDatedUpTo bound tree.old → leaf.number ≤ bound → OnOk result (TreeDatedUpTo bound tree.new) }
+    ensures within { IsHonest io.new → OnOk result (IsWithin (IsSparedBy io.old) (disk_of io.old).size tree.old.levels tree.old.root leaf (IsSparedBy io.new) tree.new.levels tree.new.root) }
+    ensures works { Works 320 16 (io_of io.old) (io_of io.new) (stop_of result) }
+    ensures one { below ≡ first + 1 → Works 224 16 (io_of io.old) (io_of io.new) (stop_of result) }
 {
     let grown = grow_to(io, *tree, below)?;
     let root = put_in(io, grown.levels, grown.root, first, below, leaf)?;
@@ -111,16 +105,14 @@ fn punch_on<D: Disk>(
 ) -> Result<(), BlockFault>
     requires levels { tree.old.levels ≤ 7 }
     requires first { first < 2 ^ 44 }
-    requires fits { FitsDisk (D.state io.old.disk.now).size io.old.space }
-    ensures puts { (map put : Map) → (D.state io.new.disk.now).honest → TreeIs (Has (D.state io.old.disk.now).seen io.old.space) tree.old map → Puts map put first (2 ^ 44) (hole_of number) → Delivers (λ done. TreeIs (Has (D.state io.new.disk.now).seen io.new.space) tree.new put) result }
-    ensures damaged { (D.state io.new.disk.now).honest → NamesDamage (SparesTaken io.old.space (D.state io.old.disk.now).seen) (D.state io.old.disk.now).size NamesNode tree.old.levels tree.old.root result }
+    ensures puts { (map put : Map) → IsHonest io.new → TreeIs (blocks_of io.old) tree.old map → Puts map put first (2 ^ 44) (hole_of number) → Delivers (λ done. TreeIs (blocks_of io.new) tree.new put) result }
+    ensures damaged { IsHonest io.new → NamesDamage (IsSparedBy io.old) (disk_of io.old).size NamesNode tree.old.levels tree.old.root result }
     ensures kept { OnErr result (tree.new ≡ tree.old) }
     ensures levels { tree.new.levels ≤ 7 }
     ensures root { PutsRoot tree.old (hole_of number) tree.new }
-    ensures dated { (bound : ℕ) (map : Map) → (D.state io.new.disk.now).honest → TreeIs (Has (D.state io.old.disk.now).seen io.old.space) tree.old map → TreeDatedUpTo bound tree.old → number ≤ bound → OnOk result (TreeDatedUpTo bound tree.new) }
-    ensures within { (D.state io.new.disk.now).honest → OnOk result (IsWithin (SparesTaken io.old.space (D.state io.old.disk.now).seen) (D.state io.old.disk.now).size tree.old.levels tree.old.root (hole_of number) (SparesTaken io.new.space (D.state io.new.disk.now).seen) tree.new.levels tree.new.root) }
-    ensures works { Works 320 16 (D.state io.old.disk.now) io.old.space io.old.failed (D.state io.new.disk.now) io.new.space io.new.failed (stop_of result) }
-    ensures same { io.new.disk.ghost_name ≡ io.old.disk.ghost_name }
+    ensures dated { (bound : ℕ) (map : Map) → IsHonest io.new → TreeIs (blocks_of io.old) tree.old map → TreeDatedUpTo bound tree.old → number ≤ bound → OnOk result (TreeDatedUpTo bound tree.new) }
+    ensures within { IsHonest io.new → OnOk result (IsWithin (IsSparedBy io.old) (disk_of io.old).size tree.old.levels tree.old.root (hole_of number) (IsSparedBy io.new) tree.new.levels tree.new.root) }
+    ensures works { Works 320 16 (io_of io.old) (io_of io.new) (stop_of result) }
 {
     let grown = grow_to(io, *tree, first)?;
     let root = punch_end(io, grown.levels, grown.root, first, number)?;
@@ -142,13 +134,11 @@ fn punch_end<D: Disk>(
 ) -> Result<Ptr, BlockFault>
     requires levels { levels ≤ 7 }
     requires first { first ≤ span levels }
-    requires fits { FitsDisk (D.state io.old.disk.now).size io.old.space }
-    ensures puts { (map put : Map) → (D.state io.new.disk.now).honest → Subtree (Has (D.state io.old.disk.now).seen io.old.space) levels root 0 map → Changed map put 0 first (span levels) (span levels) (hole_of number) → Delivers (λ made. Subtree (Has (D.state io.new.disk.now).seen io.new.space) levels made 0 put) result }
-    ensures damaged { (D.state io.new.disk.now).honest → NamesDamage (SparesTaken io.old.space (D.state io.old.disk.now).seen) (D.state io.old.disk.now).size NamesNode levels root result }
+    ensures puts { (map put : Map) → IsHonest io.new → Subtree (blocks_of io.old) levels root 0 map → Changed map put 0 first (span levels) (span levels) (hole_of number) → Delivers (λ made. Subtree (blocks_of io.new) levels made 0 put) result }
+    ensures damaged { IsHonest io.new → NamesDamage (IsSparedBy io.old) (disk_of io.old).size NamesNode levels root result }
     ensures root { IfOk result (λ made. (made ≡ root) ⊎ IsPutRoot levels (hole_of number) made) }
-    ensures within { (D.state io.new.disk.now).honest → IfOk result (IsWithin (SparesTaken io.old.space (D.state io.old.disk.now).seen) (D.state io.old.disk.now).size levels root (hole_of number) (SparesTaken io.new.space (D.state io.new.disk.now).seen) levels) }
-    ensures works { Works (16 * most levels first (span levels)) 16 (D.state io.old.disk.now) io.old.space io.old.failed (D.state io.new.disk.now) io.new.space io.new.failed (stop_of result) }
-    ensures same { io.new.disk.ghost_name ≡ io.old.disk.ghost_name }
+    ensures within { IsHonest io.new → IfOk result (IsWithin (IsSparedBy io.old) (disk_of io.old).size levels root (hole_of number) (IsSparedBy io.new) levels) }
+    ensures works { Works (16 * most levels first (span levels)) 16 (io_of io.old) (io_of io.new) (stop_of result) }
 {
     let span = span_of(levels);
     if first == span {
@@ -170,18 +160,16 @@ impl Tree {
         requires levels { self.old.levels ≤ 7 }
         requires index { index < 2 ^ 44 }
         requires lawful { is_lawful leaf ≡ true }
-        requires fits { FitsDisk (D.state io.old.disk.now).size io.old.space }
         // The tree that held a map holds each one that has the leaf at the index and is else the same.
-        ensures puts { (map put : Map) → (D.state io.new.disk.now).honest → TreeIs (Has (D.state io.old.disk.now).seen io.old.space) self.old map → Puts map put index (index + 1) leaf → Delivers (λ done. TreeIs (Has (D.state io.new.disk.now).seen io.new.space) self.new put) result }
+        ensures puts { (map put : Map) → IsHonest io.new → TreeIs (blocks_of io.old) self.old map → Puts map put index (index + 1) leaf → Delivers (λ done. TreeIs (blocks_of io.new) self.new put) result }
         // Damage is told of a node below the root alone, and afterwards no more may be.
-        ensures damaged { (D.state io.new.disk.now).honest → NamesDamage (SparesTaken io.old.space (D.state io.old.disk.now).seen) (D.state io.old.disk.now).size NamesNode self.old.levels self.old.root result }
-        ensures within { (D.state io.new.disk.now).honest → OnOk result (IsWithin (SparesTaken io.old.space (D.state io.old.disk.now).seen) (D.state io.old.disk.now).size self.old.levels self.old.root leaf (SparesTaken io.new.space (D.state io.new.disk.now).seen) self.new.levels self.new.root) }
+        ensures damaged { IsHonest io.new → NamesDamage (IsSparedBy io.old) (disk_of io.old).size NamesNode self.old.levels self.old.root result }
+        ensures within { IsHonest io.new → OnOk result (IsWithin (IsSparedBy io.old) (disk_of io.old).size self.old.levels self.old.root leaf (IsSparedBy io.new) self.new.levels self.new.root) }
         ensures kept { OnErr result (self.new ≡ self.old) }
         ensures levels { self.new.levels ≤ 7 }
         ensures root { PutsRoot self.old leaf self.new }
-        ensures dated { (bound : ℕ) (map : Map) → (D.state io.new.disk.now).honest → TreeIs (Has (D.state io.old.disk.now).seen io.old.space) self.old map → TreeDatedUpTo bound self.old → leaf.number ≤ bound → OnOk result (TreeDatedUpTo bound self.new) }
-        ensures works { Works 224 16 (D.state io.old.disk.now) io.old.space io.old.failed (D.state io.new.disk.now) io.new.space io.new.failed (stop_of result) }
-        ensures same { io.new.disk.ghost_name ≡ io.old.disk.ghost_name }
+        ensures dated { (bound : ℕ) (map : Map) → IsHonest io.new → TreeIs (blocks_of io.old) self.old map → TreeDatedUpTo bound self.old → leaf.number ≤ bound → OnOk result (TreeDatedUpTo bound self.new) }
+        ensures works { Works 224 16 (io_of io.old) (io_of io.new) (stop_of result) }
     {
         put_range(self, io, index, index + 1, leaf)
     }
@@ -198,23 +186,21 @@ impl Tree {
     ) -> Result<(), BlockFault>
         requires levels { self.old.levels ≤ 7 }
         requires range { first + count ≤ 2 ^ 44 }
-        requires fits { FitsDisk (D.state io.old.disk.now).size io.old.space }
         // The tree that held a map holds each one that has holes in the range and is else the same.
-        ensures puts { (map put : Map) → (D.state io.new.disk.now).honest → TreeIs (Has (D.state io.old.disk.now).seen io.old.space) self.old map → Puts map put first (first + count) (hole_of number) → Delivers (λ done. TreeIs (Has (D.state io.new.disk.now).seen io.new.space) self.new put) result }
+        ensures puts { (map put : Map) → IsHonest io.new → TreeIs (blocks_of io.old) self.old map → Puts map put first (first + count) (hole_of number) → Delivers (λ done. TreeIs (blocks_of io.new) self.new put) result }
         // Damage is told of a node below the root alone, and afterwards no more may be.
-        ensures damaged { (D.state io.new.disk.now).honest → NamesDamage (SparesTaken io.old.space (D.state io.old.disk.now).seen) (D.state io.old.disk.now).size NamesNode self.old.levels self.old.root result }
-        ensures within { (D.state io.new.disk.now).honest → OnOk result (IsWithin (SparesTaken io.old.space (D.state io.old.disk.now).seen) (D.state io.old.disk.now).size self.old.levels self.old.root (hole_of number) (SparesTaken io.new.space (D.state io.new.disk.now).seen) self.new.levels self.new.root) }
+        ensures damaged { IsHonest io.new → NamesDamage (IsSparedBy io.old) (disk_of io.old).size NamesNode self.old.levels self.old.root result }
+        ensures within { IsHonest io.new → OnOk result (IsWithin (IsSparedBy io.old) (disk_of io.old).size self.old.levels self.old.root (hole_of number) (IsSparedBy io.new) self.new.levels self.new.root) }
         ensures kept { OnErr result (self.new ≡ self.old) }
         ensures levels { self.new.levels ≤ 7 }
         ensures root { PutsRoot self.old (hole_of number) self.new }
-        ensures dated { (bound : ℕ) (map : Map) → (D.state io.new.disk.now).honest → TreeIs (Has (D.state io.old.disk.now).seen io.old.space) self.old map → TreeDatedUpTo bound self.old → (0 < count → number ≤ bound) → OnOk result (TreeDatedUpTo bound self.new) }
-        ensures works { Works 320 16 (D.state io.old.disk.now) io.old.space io.old.failed (D.state io.new.disk.now) io.new.space io.new.failed (stop_of result) }
-        ensures same { io.new.disk.ghost_name ≡ io.old.disk.ghost_name }
+        ensures dated { (bound : ℕ) (map : Map) → IsHonest io.new → TreeIs (blocks_of io.old) self.old map → TreeDatedUpTo bound self.old → (0 < count → number ≤ bound) → OnOk result (TreeDatedUpTo bound self.new) }
+        ensures works { Works 320 16 (io_of io.old) (io_of io.new) (stop_of result) }
     {
         if count == 0 {
             return Ok(());
         }
-        if first + count == INDEX_BOUND {
+        if first + count == TREE_INDEX_BOUND {
             return punch_on(self, io, first, number);
         }
         put_range(self, io, first, first + count, Ptr::hole(number))
@@ -232,18 +218,16 @@ impl Tree {
     ) -> Result<(), BlockFault>
         requires levels { self.old.levels ≤ 7 }
         requires range { first + count ≤ 2 ^ 44 }
-        requires fits { FitsDisk (D.state io.old.disk.now).size io.old.space }
         // The tree that held a map holds each one that is redacted in the range and is else the same.
-        ensures puts { (map put : Map) → (D.state io.new.disk.now).honest → TreeIs (Has (D.state io.old.disk.now).seen io.old.space) self.old map → Puts map put first (first + count) (redacted_of number) → Delivers (λ done. TreeIs (Has (D.state io.new.disk.now).seen io.new.space) self.new put) result }
+        ensures puts { (map put : Map) → IsHonest io.new → TreeIs (blocks_of io.old) self.old map → Puts map put first (first + count) (redacted_of number) → Delivers (λ done. TreeIs (blocks_of io.new) self.new put) result }
         // Damage is told of a node below the root alone, and afterwards no more may be.
-        ensures damaged { (D.state io.new.disk.now).honest → NamesDamage (SparesTaken io.old.space (D.state io.old.disk.now).seen) (D.state io.old.disk.now).size NamesNode self.old.levels self.old.root result }
-        ensures within { (D.state io.new.disk.now).honest → OnOk result (IsWithin (SparesTaken io.old.space (D.state io.old.disk.now).seen) (D.state io.old.disk.now).size self.old.levels self.old.root (redacted_of number) (SparesTaken io.new.space (D.state io.new.disk.now).seen) self.new.levels self.new.root) }
+        ensures damaged { IsHonest io.new → NamesDamage (IsSparedBy io.old) (disk_of io.old).size NamesNode self.old.levels self.old.root result }
+        ensures within { IsHonest io.new → OnOk result (IsWithin (IsSparedBy io.old) (disk_of io.old).size self.old.levels self.old.root (redacted_of number) (IsSparedBy io.new) self.new.levels self.new.root) }
         ensures kept { OnErr result (self.new ≡ self.old) }
         ensures levels { self.new.levels ≤ 7 }
         ensures root { PutsRoot self.old (redacted_of number) self.new }
-        ensures dated { (bound : ℕ) (map : Map) → (D.state io.new.disk.now).honest → TreeIs (Has (D.state io.old.disk.now).seen io.old.space) self.old map → TreeDatedUpTo bound self.old → (0 < count → number ≤ bound) → OnOk result (TreeDatedUpTo bound self.new) }
-        ensures works { Works 320 16 (D.state io.old.disk.now) io.old.space io.old.failed (D.state io.new.disk.now) io.new.space io.new.failed (stop_of result) }
-        ensures same { io.new.disk.ghost_name ≡ io.old.disk.ghost_name }
+        ensures dated { (bound : ℕ) (map : Map) → IsHonest io.new → TreeIs (blocks_of io.old) self.old map → TreeDatedUpTo bound self.old → (0 < count → number ≤ bound) → OnOk result (TreeDatedUpTo bound self.new) }
+        ensures works { Works 320 16 (io_of io.old) (io_of io.new) (stop_of result) }
     {
         if count == 0 {
             return Ok(());

@@ -4,11 +4,11 @@ use Rattle.std.proofs.lemmas.Bool.{cases_lt}
 use Rattle.std.proofs.lemmas.List.{take_all}
 use Rattle.zst_outside.specs.Ranges.{bytes_at, bytes_at-bytes_at}
 use Rattle.zst_uber.specs.Slots.{body_place, in_slot, gate_of, slot_at, greater, latest, latest_slot}
-use Rattle.zst_uber.specs.declared.slot.Slot.{Slot}
-use Rattle.zst_uber.specs.declared.slot.Slot.TheVariants.{First, Second}
+use Rattle.zst_uber.specs.declared.body_slot.BodySlot.{BodySlot}
+use Rattle.zst_uber.specs.declared.body_slot.BodySlot.TheVariants.{First, Second}
 
 -- the one of two in this slot
-abbrev pub of_slot : Slot → Option (List ℕ) → Option (List ℕ) → Option (List ℕ)
+abbrev pub of_slot : BodySlot → Option (List ℕ) → Option (List ℕ) → Option (List ℕ)
 of_slot First first second = first
 of_slot Second first second = second
 
@@ -16,14 +16,14 @@ of_slot Second first second = second
 abbrev pub chosen : Option (List ℕ) → Option (List ℕ) → Option (List ℕ)
 chosen first second = of_slot (greater first second) first second
 
-slot_is : (image : List ℕ) (s : Slot) → slot_at image s ≡ of_slot s (slot_at image First) (slot_at image Second)
+slot_is : (image : List ℕ) (s : BodySlot) → slot_at image s ≡ of_slot s (slot_at image First) (slot_at image Second)
 slot_is image First = refl
 slot_is image Second = refl
 
 pub latest_is : (image : List ℕ) → latest image ≡ chosen (slot_at image First) (slot_at image Second)
 latest_is image = slot_is image (latest_slot image)
 
-pub same_slot : (a b : List ℕ) (t : Slot) → gate_of b t ≡ gate_of a t → bytes_at b (body_place t) 512 ≡ bytes_at a (body_place t) 512 → slot_at b t ≡ slot_at a t
+pub same_slot : (a b : List ℕ) (t : BodySlot) → gate_of b t ≡ gate_of a t → bytes_at b (body_place t) 512 ≡ bytes_at a (body_place t) 512 → slot_at b t ≡ slot_at a t
 same_slot a b t gate body = ap (λ (g : List ℕ). in_slot g (bytes_at b (body_place t) 512)) gate ∙ ap (λ (x : List ℕ). in_slot (gate_of a t) x) body
 
 -- what stands in sectors 0 to 7 alone decides on the latest body
@@ -55,18 +55,18 @@ front_is image count is = go (cases_lt (length image) 2048)
     go (inr long) = ap (λ (n : ℕ). bytes_at image 0 n) (omega (arith, is, long))
 
 -- both slots stand in the front of an image
-pub slot_in_front : (t : Slot) (image : List ℕ) → slot_at (bytes_at image 0 2048) t ≡ slot_at image t
+pub slot_in_front : (t : BodySlot) (image : List ℕ) → slot_at (bytes_at image 0 2048) t ≡ slot_at image t
 slot_in_front t image = go t (cases_lt (length image) 2048)
   where
-    go : (t : Slot) → (length image < 2048) ⊎ (2048 ≤ length image) → slot_at (bytes_at image 0 2048) t ≡ slot_at image t
+    go : (t : BodySlot) → (length image < 2048) ⊎ (2048 ≤ length image) → slot_at (bytes_at image 0 2048) t ≡ slot_at image t
     go t (inl short) = ap (λ (front : List ℕ). slot_at front t) (short_front image (omega arith))
     go First (inr long) = same_slot image (bytes_at image 0 2048) First (bytes_at-bytes_at image 0 2048 0 1 (omega arith) (omega arith)) (bytes_at-bytes_at image 0 2048 512 512 (omega arith) (omega arith))
     go Second (inr long) = same_slot image (bytes_at image 0 2048) Second (bytes_at-bytes_at image 0 2048 1024 1 (omega arith) (omega arith)) (bytes_at-bytes_at image 0 2048 1536 512 (omega arith) (omega arith))
 
-pub gate_in_front : (t : Slot) (image : List ℕ) → gate_of (bytes_at image 0 2048) t ≡ gate_of image t
+pub gate_in_front : (t : BodySlot) (image : List ℕ) → gate_of (bytes_at image 0 2048) t ≡ gate_of image t
 gate_in_front t image = go t (cases_lt (length image) 2048)
   where
-    go : (t : Slot) → (length image < 2048) ⊎ (2048 ≤ length image) → gate_of (bytes_at image 0 2048) t ≡ gate_of image t
+    go : (t : BodySlot) → (length image < 2048) ⊎ (2048 ≤ length image) → gate_of (bytes_at image 0 2048) t ≡ gate_of image t
     go t (inl short) = ap (λ (front : List ℕ). gate_of front t) (short_front image (omega arith))
     go First (inr long) = bytes_at-bytes_at image 0 2048 0 1 (omega arith) (omega arith)
     go Second (inr long) = bytes_at-bytes_at image 0 2048 1024 1 (omega arith) (omega arith)

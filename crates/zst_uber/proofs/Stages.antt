@@ -7,39 +7,39 @@ use Rattle.zst_uber.specs.Slots.{gate_place, body_place, other, gate_of, slot_at
 use Rattle.zst_uber.specs.Commit.{HasOldOrNew, KeepsOldOrNew, LabelSettled, Closing, ClosedImage, Closes}
 use Rattle.zst_uber.proofs.SlotsLaws.{same_slot, latest-label}
 use Rattle.zst_uber.specs.declared.uber.Uber.{Uber}
-use Rattle.zst_uber.specs.declared.slot.Slot.{Slot}
-use Rattle.zst_uber.specs.declared.slot.Slot.TheVariants.{First, Second}
+use Rattle.zst_uber.specs.declared.body_slot.BodySlot.{BodySlot}
+use Rattle.zst_uber.specs.declared.body_slot.BodySlot.TheVariants.{First, Second}
 use Rattle.zst_uber.proofs.LatestLemmas.{gate_other, body_other, torn_shut, torn_body, IsNew, torn_open, opened_stands}
 
 -- in sectors 0 to 7 they are alike
 abbrev SameLabel : List ℕ → List ℕ → Type 0
 SameLabel seen d = (p n : ℕ) → p + n ≤ 4096 → bytes_at d p n ≡ bytes_at seen p n
 
-same_at : (t : Slot) (s d : List ℕ) → SameLabel s d → slot_at d t ≡ slot_at s t
+same_at : (t : BodySlot) (s d : List ℕ) → SameLabel s d → slot_at d t ≡ slot_at s t
 same_at First s d same = same_slot s d First (same 0 1 (omega arith)) (same 512 512 (omega arith))
 same_at Second s d same = same_slot s d Second (same 1024 1 (omega arith)) (same 1536 512 (omega arith))
 
-same_gate : (t : Slot) (s d : List ℕ) → SameLabel s d → gate_of d t ≡ gate_of s t
+same_gate : (t : BodySlot) (s d : List ℕ) → SameLabel s d → gate_of d t ≡ gate_of s t
 same_gate First s d same = same 0 1 (omega arith)
 same_gate Second s d same = same 1024 1 (omega arith)
 
-gate_in : (t : Slot) (a b : List ℕ) → Torn (gate_place t) 1 a b → Torn 0 4096 a b
+gate_in : (t : BodySlot) (a b : List ℕ) → Torn (gate_place t) 1 a b → Torn 0 4096 a b
 gate_in First a b torn = Torn-wider 0 4096 0 1 a b (omega arith) (omega arith) torn
 gate_in Second a b torn = Torn-wider 0 4096 1024 1 a b (omega arith) (omega arith) torn
 
-body_in : (t : Slot) (a b : List ℕ) → Torn (body_place t) 512 a b → Torn 0 4096 a b
+body_in : (t : BodySlot) (a b : List ℕ) → Torn (body_place t) 512 a b → Torn 0 4096 a b
 body_in First a b torn = Torn-wider 0 4096 512 512 a b (omega arith) (omega arith) torn
 body_in Second a b torn = Torn-wider 0 4096 1536 512 a b (omega arith) (omega arith) torn
 
-pub gate_writes : (t : Slot) (a b : DiskState) → WritesIn (gate_place t) 1 a b → WritesIn 0 4096 a b
+pub gate_writes : (t : BodySlot) (a b : DiskState) → WritesIn (gate_place t) 1 a b → WritesIn 0 4096 a b
 gate_writes First a b writes = WritesIn-wider 0 4096 0 1 a b (omega arith) (omega arith) writes
 gate_writes Second a b writes = WritesIn-wider 0 4096 1024 1 a b (omega arith) (omega arith) writes
 
-pub body_writes : (t : Slot) (a b : DiskState) → WritesIn (body_place t) 512 a b → WritesIn 0 4096 a b
+pub body_writes : (t : BodySlot) (a b : DiskState) → WritesIn (body_place t) 512 a b → WritesIn 0 4096 a b
 body_writes First a b writes = WritesIn-wider 0 4096 512 512 a b (omega arith) (omega arith) writes
 body_writes Second a b writes = WritesIn-wider 0 4096 1536 512 a b (omega arith) (omega arith) writes
 
-closing_in : (t : Slot) (s d c : List ℕ) → Closing t s d c → Torn 0 4096 d c
+closing_in : (t : BodySlot) (s d c : List ℕ) → Closing t s d c → Torn 0 4096 d c
 closing_in t s d c (inl same) = subst (λ (x : List ℕ). Torn 0 4096 d x) (sym same) (Torn-same 0 4096 d)
 closing_in t s d c (inr torn) = gate_in t d c torn.1
 
@@ -47,7 +47,7 @@ closing_in t s d c (inr torn) = gate_in t d c torn.1
 pub at_start : (uber : Uber) (old : DiskState) (c : List ℕ) → old.images c → HasOldOrNew uber old c
 at_start uber old c now = inl (c, now, refl, Torn-same 0 4096 c)
 
-module _ (t : Slot) (uber : Uber) (old : DiskState) (settled : LabelSettled old) (idle : latest old.seen ≡ slot_at old.seen (other t)) where
+module _ (t : BodySlot) (uber : Uber) (old : DiskState) (settled : LabelSettled old) (idle : latest old.seen ≡ slot_at old.seen (other t)) where
   -- while the gate is closed
   closing : (d c : List ℕ) → old.images d → Closing t old.seen d c → HasOldOrNew uber old c
   closing d c now (inl same) = inl (d, now, ap latest same, closing_in t old.seen d c (inl same))

@@ -5,7 +5,7 @@ use Rattle.zst_outside.specs.Ranges.{bytes_at, Torn}
 use Rattle.zst_space.specs.FreeSectors.{FreeSectors}
 use Rattle.zst_block.specs.Blocks.{KeepsBlocks}
 use Rattle.zst_uber.specs.Slots.{latest, Stands, IsOpen, gate_place}
-use Rattle.zst_uber.specs.declared.slot.Slot.{Slot}
+use Rattle.zst_uber.specs.declared.body_slot.BodySlot.{BodySlot}
 use Rattle.zst_uber.specs.declared.uber.Uber.{Uber}
 
 -- nothing is pending in sectors 0 to 7: there each image is what a read gives
@@ -25,15 +25,15 @@ KeepsOldOrNew uber old c =
     ⊎ (Stands uber c × ((space : FreeSectors) → KeepsBlocks old.seen space c space))
 
 -- the same image, or one with another gate where the gate was open
-abbrev pub Closing : Slot → List ℕ → List ℕ → List ℕ → Type 0
+abbrev pub Closing : BodySlot → List ℕ → List ℕ → List ℕ → Type 0
 Closing slot seen d c = (c ≡ d) ⊎ (IsOpen seen slot × Torn (gate_place slot) 1 d c)
 
 -- an image from before, the same or, where the gate was open, with another gate
-abbrev pub ClosedImage : Slot → DiskState → List ℕ → Type 0
+abbrev pub ClosedImage : BodySlot → DiskState → List ℕ → Type 0
 ClosedImage slot old c = (d : List ℕ) × old.images d × Closing slot old.seen d c
 
 -- A gate was closed: one that was closed before was not written.
-pub record Closes (slot : Slot) (old new : DiskState) : Type 0 where
+pub record Closes (slot : BodySlot) (old new : DiskState) : Type 0 where
   pub size : new.size ≡ old.size
   pub seen : Torn (gate_place slot) 1 old.seen new.seen
   pub crash : (c : List ℕ) → new.images c → ClosedImage slot old c

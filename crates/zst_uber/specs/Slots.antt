@@ -5,24 +5,24 @@ use Rattle.zst_outside.specs.Ranges.{bytes_at}
 use Rattle.zst_uber.specs.Body.{body_bytes}
 use Rattle.zst_uber.specs.declared.TheConstants.{MAGIC}
 use Rattle.zst_uber.specs.declared.uber.Uber.{Uber}
-use Rattle.zst_uber.specs.declared.slot.Slot.{Slot}
-use Rattle.zst_uber.specs.declared.slot.Slot.TheVariants.{First, Second}
+use Rattle.zst_uber.specs.declared.body_slot.BodySlot.{BodySlot}
+use Rattle.zst_uber.specs.declared.body_slot.BodySlot.TheVariants.{First, Second}
 
 -- where a slot's gate stands: in the first byte of sector 0 or 2
-abbrev pub gate_place : Slot → ℕ
+abbrev pub gate_place : BodySlot → ℕ
 gate_place First = 0
 gate_place Second = 1024
 
 -- where its body stands: in sector 1 or 3
-abbrev pub body_place : Slot → ℕ
+abbrev pub body_place : BodySlot → ℕ
 body_place First = 512
 body_place Second = 1536
 
-abbrev pub body_sector : Slot → ℕ
+abbrev pub body_sector : BodySlot → ℕ
 body_sector First = 1
 body_sector Second = 3
 
-abbrev pub other : Slot → Slot
+abbrev pub other : BodySlot → BodySlot
 other First = Second
 other Second = First
 
@@ -33,28 +33,28 @@ counts gate body = (slice_index gate 0 == 165) && ((length body == 512) && (numb
 abbrev pub in_slot : List ℕ → List ℕ → Option (List ℕ)
 in_slot gate body = if counts gate body then Some body else None
 
-abbrev pub gate_of : List ℕ → Slot → List ℕ
+abbrev pub gate_of : List ℕ → BodySlot → List ℕ
 gate_of image slot = bytes_at image (gate_place slot) 1
 
 -- the body in a slot, where it counts
-abbrev pub slot_at : List ℕ → Slot → Option (List ℕ)
+abbrev pub slot_at : List ℕ → BodySlot → Option (List ℕ)
 slot_at image slot = in_slot (gate_of image slot) (bytes_at image (body_place slot) 512)
 
 -- the slot of the body with the greater number, and the first where they are equal
-abbrev pub greater : Option (List ℕ) → Option (List ℕ) → Slot
+abbrev pub greater : Option (List ℕ) → Option (List ℕ) → BodySlot
 greater None second = Second
 greater (Some first) None = First
 greater (Some first) (Some second) = if nat_lt (number_at first 16 8) (number_at second 16 8) then Second else First
 
 -- the slot of the latest body, and the second one where there is none
-abbrev pub latest_slot : List ℕ → Slot
+abbrev pub latest_slot : List ℕ → BodySlot
 latest_slot image = greater (slot_at image First) (slot_at image Second)
 
 -- the latest body
 abbrev pub latest : List ℕ → Option (List ℕ)
 latest image = slot_at image (latest_slot image)
 
-abbrev pub IsOpen : List ℕ → Slot → Type 0
+abbrev pub IsOpen : List ℕ → BodySlot → Type 0
 IsOpen image slot = slice_index (gate_of image slot) 0 ≡ 165
 
 -- one more than the number of the latest body, or 1 where there is none

@@ -4,14 +4,15 @@ ghost use Rattle.zst_outside.specs.Causes.{HasCause};
 ghost use Rattle.zst_outside.specs.Images.{IsSynced, Leaves, OnlyReads, WritesIn};
 ghost use Rattle.zst_outside.specs.Ranges.{bytes_at};
 ghost use Rattle.zst_space.specs.FreeSectors.{FreeSectors};
-ghost use Rattle.zst_block.specs.Blocks.{FitsDisk, KeepsBlocks};
+ghost use Rattle.zst_block.specs.Blocks.{KeepsBlocks};
+ghost use Rattle.zst_block.specs.IoStates.{IsHonest, disk_of};
 ghost use Rattle.zst_uber.specs.Body.{UberFits};
 ghost use Rattle.zst_uber.specs.Slots.{gate_place, body_place, IsOpen, IsNext, Stands, latest, latest_slot, other};
 ghost use Rattle.zst_uber.specs.Commit.{LabelSettled, HasOldOrNew, KeepsOldOrNew, Closes};
 ghost use Rattle.zst_uber.specs.OpenAnswers.{HasDiskCause};
 
+use crate::body_slot::{BodySlot, OPEN, is_open, latest_in, read_front};
 use crate::fault::UberFault;
-use crate::slot::{OPEN, Slot, is_open, latest_in, read_front};
 use crate::uber::Uber;
 use zst_block::Io;
 use zst_outside::{Disk, Fault, put};
@@ -50,26 +51,24 @@ pub fn commit<D: Disk>(disk: &mut D, uber: &Uber) -> Result<(), UberFault>
 /// Commits an event: each image that a crash may leave then has the old latest body and all
 /// blocks of an image from before, or the new one and all blocks that a read gave.
 pub fn commit_event<D: Disk>(io: &mut Io<'_, D>, uber: &Uber) -> Result<(), UberFault>
-    requires fits { FitsDisk (D.state io.old.disk.now).size io.old.space }
-    requires next { (D.state io.old.disk.now).honest → IsNext uber.now.number (latest (D.state io.old.disk.now).seen) }
-    requires settled { (D.state io.old.disk.now).honest → LabelSettled (D.state io.old.disk.now) }
+    requires next { IsHonest io.old → IsNext uber.now.number (latest (disk_of io.old).seen) }
+    requires settled { IsHonest io.old → LabelSettled (disk_of io.old) }
 
-    ensures moments { (D.state io.new.disk.now).honest → Leaves (D.state io.old.disk.now) (D.state io.new.disk.now) (HasOldOrNew uber.now (D.state io.old.disk.now)) }
-    ensures images { (c : List ℕ) → (D.state io.new.disk.now).honest → (D.state io.new.disk.now).images c → KeepsOldOrNew uber.now (D.state io.old.disk.now) c }
-    ensures kept { (space : FreeSectors) → KeepsBlocks (D.state io.old.disk.now).seen space (D.state io.new.disk.now).seen space }
-    ensures writes { WritesIn 0 4096 (D.state io.old.disk.now) (D.state io.new.disk.now) }
+    ensures moments { IsHonest io.new → Leaves (disk_of io.old) (disk_of io.new) (HasOldOrNew uber.now (disk_of io.old)) }
+    ensures images { (c : List ℕ) → IsHonest io.new → (disk_of io.new).images c → KeepsOldOrNew uber.now (disk_of io.old) c }
+    ensures kept { (space : FreeSectors) → KeepsBlocks (disk_of io.old).seen space (disk_of io.new).seen space }
+    ensures writes { WritesIn 0 4096 (disk_of io.old) (disk_of io.new) }
 
-    ensures stands { (D.state io.new.disk.now).honest → OnOk result (Stands uber.now (D.state io.new.disk.now).seen) }
-    ensures following { (D.state io.new.disk.now).honest → OnOk result (IsNext (uber.now.number + 1) (latest (D.state io.new.disk.now).seen)) }
-    ensures durable { OnOk result (IsSynced (D.state io.new.disk.now)) }
-    ensures label { OnOk result (LabelSettled (D.state io.new.disk.now)) }
+    ensures stands { IsHonest io.new → OnOk result (Stands uber.now (disk_of io.new).seen) }
+    ensures following { IsHonest io.new → OnOk result (IsNext (uber.now.number + 1) (latest (disk_of io.new).seen)) }
+    ensures durable { OnOk result (IsSynced (disk_of io.new)) }
+    ensures label { OnOk result (LabelSettled (disk_of io.new)) }
     ensures uber_fits { UberFits uber.now }
 
-    ensures cause { HasDiskCause (D.state io.old.disk.now).faults (D.state io.new.disk.now).faults result }
+    ensures cause { HasDiskCause (disk_of io.old).faults (disk_of io.new).faults result }
     ensures only { (fault : UberFault) → result ≡ Err fault → fault ≡ UberFault.DiskFault }
     ensures failed { io.new.failed ≡ (io.old.failed || is_err result) }
     ensures space { io.new.space ≡ io.old.space }
-    ensures kept_fit { FitsDisk (D.state io.new.disk.now).size io.new.space }
     ensures same { io.new.disk.ghost_name ≡ io.old.disk.ghost_name }
 {
     let outcome = commit(io.disk, uber);
@@ -98,7 +97,7 @@ fn write_body<D: Disk>(disk: &mut D, uber: &Uber) -> Result<(), Fault>
 }
 
 // The slot that isn't the latest body's, and whether its gate is open.
-fn find_idle<D: Disk>(disk: &mut D) -> Result<(Slot, bool), Fault>
+fn find_idle<D: Disk>(disk: &mut D) -> Result<(BodySlot, bool), Fault>
     requires { 2048 ≤ (D.state disk.old).size }
     ensures idle { (D.state disk.new).honest → IfOk result (λ found. latest_slot (D.state disk.old).seen ≡ other found.0) }
     ensures gate { (D.state disk.new).honest → IfOk result (λ found. IsTrue found.1 ↔ IsOpen (D.state disk.old).seen found.0) }
@@ -114,7 +113,7 @@ fn find_idle<D: Disk>(disk: &mut D) -> Result<(Slot, bool), Fault>
 
 // Closes a gate if it is open, and syncs. A closed gate isn't written: until the sync it might
 // hold any byte.
-fn close<D: Disk>(disk: &mut D, slot: Slot, is_open: bool) -> Result<(), Fault>
+fn close<D: Disk>(disk: &mut D, slot: BodySlot, is_open: bool) -> Result<(), Fault>
     requires room { 2048 ≤ (D.state disk.old).size }
     requires gate { (D.state disk.old).honest → (IsTrue is_open ↔ IsOpen (D.state disk.old).seen slot) }
     ensures closed { (D.state disk.new).honest → OnOk result (¬ (IsOpen (D.state disk.new).seen slot)) }
@@ -131,7 +130,7 @@ fn close<D: Disk>(disk: &mut D, slot: Slot, is_open: bool) -> Result<(), Fault>
 }
 
 // Writes a body into a slot, and syncs.
-fn fill<D: Disk>(disk: &mut D, slot: Slot, body: &[u8; 512]) -> Result<(), Fault>
+fn fill<D: Disk>(disk: &mut D, slot: BodySlot, body: &[u8; 512]) -> Result<(), Fault>
     requires { 2048 ≤ (D.state disk.old).size }
     ensures body { OnOk result (bytes_at (D.state disk.new).seen (body_place slot) 512 ≡ body.now) }
     ensures durable { OnOk result (IsSynced (D.state disk.new)) }
@@ -142,7 +141,7 @@ fn fill<D: Disk>(disk: &mut D, slot: Slot, body: &[u8; 512]) -> Result<(), Fault
 }
 
 // Opens a gate by a write of one byte, and syncs.
-fn open_gate<D: Disk>(disk: &mut D, slot: Slot) -> Result<(), Fault>
+fn open_gate<D: Disk>(disk: &mut D, slot: BodySlot) -> Result<(), Fault>
     requires { 2048 ≤ (D.state disk.old).size }
     ensures opened { OnOk result (IsOpen (D.state disk.new).seen slot) }
     ensures durable { OnOk result (IsSynced (D.state disk.new)) }

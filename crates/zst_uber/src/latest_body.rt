@@ -10,8 +10,8 @@ ghost use Rattle.zst_uber.specs.OpenAnswers.{Answers, Decodes, IsLatest, TellsNe
 ghost use Rattle.zst_uber.specs.declared.uber.Uber.{Uber};
 
 use crate::VERSION;
+use crate::body_slot::{BodySlot, latest_in, read_front};
 use crate::fault::UberFault;
-use crate::slot::{Slot, latest_in, read_front};
 use crate::uber::Uber;
 use zst_block::get_sum;
 use zst_bytes::le32;
@@ -46,7 +46,7 @@ pub fn latest<D: Disk>(disk: &mut D) -> Result<Uber, UberFault>
 }
 
 // The slot of the latest body, and the body.
-fn newest<D: Disk>(disk: &mut D) -> Result<(Slot, Option<[u8; 512]>), Fault>
+fn newest<D: Disk>(disk: &mut D) -> Result<(BodySlot, Option<[u8; 512]>), Fault>
     ensures slot { (D.state disk.new).honest → IfOk result (λ found. found.0 ≡ latest_slot (D.state disk.old).seen) }
     ensures body { (D.state disk.new).honest → IfOk result (λ found. found.1 ≡ latest_of (D.state disk.old).seen) }
     ensures reads { OnlyReads (D.state disk.old) (D.state disk.new) }

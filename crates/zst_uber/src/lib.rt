@@ -1,16 +1,16 @@
 //! The two gated slots of a pool, with its latest body, and the commit of the next one.
 #![tactic(auto)]
 
+mod body_slot;
 mod commits;
 mod fault;
 mod latest_body;
-mod slot;
 mod uber;
 
+pub use body_slot::BodySlot;
 pub use commits::{commit, commit_event};
 pub use fault::UberFault;
 pub use latest_body::latest;
-pub use slot::Slot;
 pub use uber::Uber;
 
 /// The first 8 bytes of a body, as a number: `ZSTPOOL1`.

@@ -1,6 +1,5 @@
 // A set of objects on a disk in memory, and its list.
 ghost use Rattle.std.specs.Prelude.{◌≡◌, ◌<◌, IfOk};
-ghost use Rattle.zst_block.specs.Blocks.{FitsDisk};
 ghost use Rattle.zst_model.specs.states.State.{IsHead};
 
 use std::alloc::{AllocError, Global};
@@ -26,7 +25,6 @@ fn zeros(alloc: Global) -> Result<SureDisk, AllocError>
 fn all_free<'d>(alloc: Global, disk: &'d mut SureDisk) -> Io<'d, SureDisk>
     requires { (⟦<SureDisk as Disk>⟧.state disk.old).size ≡ 16777216 }
     ensures same { result.disk.ghost_name ≡ disk.entry.ghost_name }
-    ensures fits { FitsDisk (⟦<SureDisk as Disk>⟧.state result.disk.now).size result.space }
 {
     Io::new(alloc, disk, Space::new(8, 32_768, Vec::new(alloc)))
 }
@@ -45,8 +43,6 @@ fn file() -> ObjectHead
 
 // A file at the last number, of which blocks 5 to 204 are redacted.
 fn make<D: Disk>(io: &mut Io<'_, D>) -> Result<ObjSet, ListFault>
-    requires fits { FitsDisk (D.state io.old.disk.now).size io.old.space }
-    ensures fits { FitsDisk (D.state io.new.disk.now).size io.new.space }
     ensures same { io.new.disk.ghost_name ≡ io.old.disk.ghost_name }
 {
     let mut set = ObjSet::empty();

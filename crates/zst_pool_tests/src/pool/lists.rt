@@ -1,6 +1,5 @@
 // What is told of the lists of bookmarks, which no command writes yet and the program asks for nowhere.
-ghost use Rattle.std.specs.Prelude.{◌≡◌, ◌≤◌, IfOk, OnOk};
-ghost use Rattle.zst_block.specs.Blocks.{FitsDisk};
+ghost use Rattle.std.specs.Prelude.{◌≡◌, ◌≤◌, IfOk};
 ghost use Rattle.zst_dir.specs.Rows.{IsBookmarkRow};
 
 use crate::pools::{NOW, SMALL, pool_on, step_on, with_lines};
@@ -78,9 +77,7 @@ fn a_bookmark_that_is_not_there_is_told(rt: HostRuntime) -> Result<(), TestRefus
 
 // Writes the list of one run, and tells the tree of its one leaf.
 fn write_list(rt: &impl Abort, alloc: Global, io: &mut Io<'_, MemDisk>) -> Result<Tree, TestRefusal>
-    requires fits { FitsDisk (⟦<MemDisk as Disk>⟧.state io.old.disk.now).size io.old.space }
     ensures levels { IfOk result (λ tree. tree.levels ≡ 0) }
-    ensures fits { OnOk result (FitsDisk (⟦<MemDisk as Disk>⟧.state io.new.disk.now).size io.new.space) }
     ensures same { io.new.disk.ghost_name ≡ io.old.disk.ghost_name }
 {
     let bytes = encode_list(alloc, &[REDACTED])?;

@@ -1,5 +1,6 @@
 // What a refused command took of a pool that stays open.
 ghost use Rattle.std.specs.Prelude.{◌≡◌, false};
+ghost use Rattle.zst_block.specs.IoStates.{disk_of};
 ghost use Rattle.zst_image.specs.Commits.{Ready};
 
 use crate::pools::{SMALL, created, pool_on, step_in, steps_on};
@@ -19,8 +20,8 @@ fn small(alloc: Global) -> Result<MemDisk, TestRefusal> {
 
 // Checks that a write to block 2 is refused: 16 sectors are wanted, and 4 are free.
 fn check_full(rt: &impl Abort, alloc: Global, pool: &mut Pool<'_, MemDisk>)
-    requires ready { pool.old.io.failed ≡ false → Ready (⟦<MemDisk as Disk>⟧.state pool.old.io.disk.now) pool.old.kept.body }
-    ensures ready { pool.new.io.failed ≡ false → Ready (⟦<MemDisk as Disk>⟧.state pool.new.io.disk.now) pool.new.kept.body }
+    requires ready { pool.old.io.failed ≡ false → Ready (disk_of pool.old.io) pool.old.kept.body }
+    ensures ready { pool.new.io.failed ≡ false → Ready (disk_of pool.new.io) pool.new.kept.body }
     ensures same { pool.new.io.disk.ghost_name ≡ pool.old.io.disk.ghost_name }
 {
     let answer = step_in(alloc, pool, "write here tank/a 1 2 01");

@@ -1,5 +1,6 @@
 // A receive that isn't kept, beside commands on the pool that stays open.
 ghost use Rattle.std.specs.Prelude.{◌≡◌, false, IfOk, None, OnOk};
+ghost use Rattle.zst_block.specs.IoStates.{disk_of};
 ghost use Rattle.zst_dir.specs.Rows.{HasSnapshot, IsPartialRow};
 ghost use Rattle.zst_image.specs.Commits.{Ready};
 ghost use Rattle.zst_model.specs.pools.Pool.{IsStated};
@@ -73,8 +74,8 @@ fn put_begun(
     alloc: Global,
     pool: &mut Pool<'_, MemDisk>,
 ) -> Result<(), TestRefusal>
-    requires works { CanCommit (⟦<MemDisk as Disk>⟧.state pool.old.io.disk.now) pool.old.io.space pool.old.kept.body }
-    ensures ready { pool.new.io.failed ≡ false → Ready (⟦<MemDisk as Disk>⟧.state pool.new.io.disk.now) pool.new.kept.body }
+    requires works { CanCommit (disk_of pool.old.io) pool.old.io.space pool.old.kept.body }
+    ensures ready { pool.new.io.failed ≡ false → Ready (disk_of pool.new.io) pool.new.kept.body }
     ensures same { pool.new.io.disk.ghost_name ≡ pool.old.io.disk.ghost_name }
 {
     let partial = begun("tank/b@t")?;
@@ -85,8 +86,8 @@ fn put_begun(
 
 // Leaves out the partial state of tank/b.
 fn drop_begun(pool: &mut Pool<'_, MemDisk>) -> Result<(), TestRefusal>
-    requires ready { pool.old.io.failed ≡ false → Ready (⟦<MemDisk as Disk>⟧.state pool.old.io.disk.now) pool.old.kept.body }
-    ensures ready { pool.new.io.failed ≡ false → Ready (⟦<MemDisk as Disk>⟧.state pool.new.io.disk.now) pool.new.kept.body }
+    requires ready { pool.old.io.failed ≡ false → Ready (disk_of pool.old.io) pool.old.kept.body }
+    ensures ready { pool.new.io.failed ≡ false → Ready (disk_of pool.new.io) pool.new.kept.body }
     ensures same { pool.new.io.disk.ghost_name ≡ pool.old.io.disk.ghost_name }
 {
     pool.drop_partial(&DatasetName::parse("tank/b").map_err(PlanFault::from)?);
@@ -107,8 +108,8 @@ fn check_answer(
     line: &str,
     want: &str,
 )
-    requires ready { pool.old.io.failed ≡ false → Ready (⟦<MemDisk as Disk>⟧.state pool.old.io.disk.now) pool.old.kept.body }
-    ensures ready { pool.new.io.failed ≡ false → Ready (⟦<MemDisk as Disk>⟧.state pool.new.io.disk.now) pool.new.kept.body }
+    requires ready { pool.old.io.failed ≡ false → Ready (disk_of pool.old.io) pool.old.kept.body }
+    ensures ready { pool.new.io.failed ≡ false → Ready (disk_of pool.new.io) pool.new.kept.body }
     ensures same { pool.new.io.disk.ghost_name ≡ pool.old.io.disk.ghost_name }
 {
     let reply = match step_in(alloc, pool, line) {
@@ -128,8 +129,8 @@ fn check_refused(
     line: &str,
     want: &str,
 )
-    requires ready { pool.old.io.failed ≡ false → Ready (⟦<MemDisk as Disk>⟧.state pool.old.io.disk.now) pool.old.kept.body }
-    ensures ready { pool.new.io.failed ≡ false → Ready (⟦<MemDisk as Disk>⟧.state pool.new.io.disk.now) pool.new.kept.body }
+    requires ready { pool.old.io.failed ≡ false → Ready (disk_of pool.old.io) pool.old.kept.body }
+    ensures ready { pool.new.io.failed ≡ false → Ready (disk_of pool.new.io) pool.new.kept.body }
     ensures same { pool.new.io.disk.ghost_name ≡ pool.old.io.disk.ghost_name }
 {
     match step_in(alloc, pool, line) {

@@ -1,6 +1,5 @@
 // Sends, taken in pieces.
 ghost use Rattle.std.specs.Prelude.{◌≡◌};
-ghost use Rattle.zst_block.specs.Blocks.{FitsDisk};
 ghost use Rattle.zst_send.specs.Sends.{SendFits};
 
 use crate::refusals::TestRefusal;
@@ -46,9 +45,7 @@ pub(crate) fn take_rest<D: Disk>(
     bytes: &mut Vec<u8>,
 ) -> Result<(), TestRefusal>
     requires send { SendFits send.old }
-    requires fits { FitsDisk (D.state pool.old.io.disk.now).size pool.old.io.space }
     ensures send { SendFits send.new }
-    ensures fits { FitsDisk (D.state pool.new.io.disk.now).size pool.new.io.space }
     ensures same { pool.new.io.disk.ghost_name ≡ pool.old.io.disk.ghost_name }
 {
     let mut piece = vec![in alloc; 0; size]?;

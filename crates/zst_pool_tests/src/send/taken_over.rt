@@ -1,6 +1,5 @@
 // Sends in which a call of the disk fails.
 ghost use Rattle.std.specs.Prelude.{◌≡◌};
-ghost use Rattle.zst_block.specs.Blocks.{FitsDisk};
 ghost use Rattle.zst_send.specs.Sends.{SendFits};
 
 use super::sends::take_rest;
@@ -22,7 +21,6 @@ fn check_failed(
     at: (u64, usize),
 )
     requires send { SendFits send.old }
-    requires fits { FitsDisk (⟦<MemDisk as Disk>⟧.state pool.old.io.disk.now).size pool.old.io.space }
     ensures send { SendFits send.new }
     ensures same { pool.new.io.disk.ghost_name ≡ pool.old.io.disk.ghost_name }
 {

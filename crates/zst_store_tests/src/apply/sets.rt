@@ -1,6 +1,5 @@
 // Sets on disks in memory, and what records make of them.
 ghost use Rattle.std.specs.Prelude.{◌≡◌};
-ghost use Rattle.zst_block.specs.Blocks.{FitsDisk};
 ghost use Rattle.zst_apply.specs.AppliedRecords.{IsOfStream};
 
 use std::process::Abort;
@@ -25,8 +24,6 @@ pub(super) fn give<D: Disk>(
     flags: u32,
 ) -> Result<(), ObjFault>
     requires head { IsOfStream head.now }
-    requires fits { FitsDisk (D.state io.old.disk.now).size io.old.space }
-    ensures fits { FitsDisk (D.state io.new.disk.now).size io.new.space }
     ensures same { io.new.disk.ghost_name ≡ io.old.disk.ghost_name }
 {
     let bytes = [byte; 1536];
@@ -50,8 +47,6 @@ pub(super) fn accept<D: Disk>(
     byte: u8,
 )
     requires head { IsOfStream head.now }
-    requires fits { FitsDisk (D.state io.old.disk.now).size io.old.space }
-    ensures fits { FitsDisk (D.state io.new.disk.now).size io.new.space }
     ensures same { io.new.disk.ghost_name ≡ io.old.disk.ghost_name }
 {
     let answer = give(rt, io, set, head, byte, SPILL_BLOCK);
@@ -67,8 +62,6 @@ pub(super) fn refuse<D: Disk>(
     want: ObjFault,
 )
     requires head { IsOfStream head.now }
-    requires fits { FitsDisk (D.state io.old.disk.now).size io.old.space }
-    ensures fits { FitsDisk (D.state io.new.disk.now).size io.new.space }
     ensures same { io.new.disk.ghost_name ≡ io.old.disk.ghost_name }
 {
     let old = *set;
@@ -85,8 +78,6 @@ pub(super) fn check_index<D: Disk>(
     want: Result<Cell, ObjFault>,
     byte: u8,
 )
-    requires fits { FitsDisk (D.state io.old.disk.now).size io.old.space }
-    ensures fits { FitsDisk (D.state io.new.disk.now).size io.new.space }
     ensures same { io.new.disk.ghost_name ≡ io.old.disk.ghost_name }
 {
     let mut into = [0xee; 512];
@@ -98,16 +89,12 @@ pub(super) fn check_index<D: Disk>(
 }
 
 pub(super) fn hole<D: Disk>(rt: &impl Abort, io: &mut Io<'_, D>, set: &ObjSet, index: u64)
-    requires fits { FitsDisk (D.state io.old.disk.now).size io.old.space }
-    ensures fits { FitsDisk (D.state io.new.disk.now).size io.new.space }
     ensures same { io.new.disk.ghost_name ≡ io.old.disk.ghost_name }
 {
     check_index(rt, io, set, index, Ok(Cell::Hole), 0);
 }
 
 pub(super) fn data<D: Disk>(rt: &impl Abort, io: &mut Io<'_, D>, set: &ObjSet, index: u64, byte: u8)
-    requires fits { FitsDisk (D.state io.old.disk.now).size io.old.space }
-    ensures fits { FitsDisk (D.state io.new.disk.now).size io.new.space }
     ensures same { io.new.disk.ghost_name ≡ io.old.disk.ghost_name }
 {
     check_index(rt, io, set, index, Ok(Cell::Data), byte);
@@ -116,8 +103,6 @@ pub(super) fn data<D: Disk>(rt: &impl Abort, io: &mut Io<'_, D>, set: &ObjSet, i
 // What is told of object 1: its block size, the length of its bonus, the first byte of that, and
 // whether it has a spill block.
 pub(super) fn told<D: Disk>(io: &mut Io<'_, D>, set: &ObjSet) -> Option<(u32, u32, u8, bool)>
-    requires fits { FitsDisk (D.state io.old.disk.now).size io.old.space }
-    ensures fits { FitsDisk (D.state io.new.disk.now).size io.new.space }
     ensures same { io.new.disk.ghost_name ≡ io.old.disk.ghost_name }
 {
     match set.attr(io, 1) {

@@ -1,6 +1,5 @@
 // Object sets on a disk in memory.
 ghost use Rattle.std.specs.Prelude.{◌≡◌};
-ghost use Rattle.zst_block.specs.Blocks.{FitsDisk};
 ghost use Rattle.zst_model.specs.states.State.{IsHead};
 
 use zst_block::Io;
@@ -24,8 +23,6 @@ pub(super) fn file() -> ObjectHead
 // An object with 300 blocks that stand 128 apart, each written by a change of its own, and the first
 // once more: changes 2 to 303.
 pub(super) fn scattered<D: Disk>(io: &mut Io<'_, D>) -> Result<ObjSet, ObjFault>
-    requires fits { FitsDisk (D.state io.old.disk.now).size io.old.space }
-    ensures fits { FitsDisk (D.state io.new.disk.now).size io.new.space }
     ensures same { io.new.disk.ghost_name ≡ io.old.disk.ghost_name }
 {
     let mut set = ObjSet::empty();

@@ -1,6 +1,5 @@
 // Walks, and what they tell.
 ghost use Rattle.std.specs.Prelude.{◌≡◌, ◌<◌};
-ghost use Rattle.zst_block.specs.Blocks.{FitsDisk};
 
 use std::alloc::{AllocError, Global};
 use std::marker::Brand;
@@ -24,8 +23,6 @@ fn counted<D: Disk, L: Ledger>(
     requires name { blank.name ≡ L.name }
     requires parts { blank.parts ≡ L.parts }
     requires some { 0 < blank.parts }
-    requires fits { FitsDisk (D.state io.old.disk.now).size io.old.space }
-    ensures fits { FitsDisk (D.state io.new.disk.now).size io.new.space }
     ensures same { io.new.disk.ghost_name ≡ io.old.disk.ghost_name }
 {
     let mut steps = Steps::<L>::new(blank);
@@ -43,8 +40,6 @@ pub(super) fn next<D: Disk>(
     withheld: &List,
     at: Place,
 ) -> Result<Option<WalkEntry>, BlockFault>
-    requires fits { FitsDisk (D.state io.old.disk.now).size io.old.space }
-    ensures fits { FitsDisk (D.state io.new.disk.now).size io.new.space }
     ensures same { io.new.disk.ghost_name ≡ io.old.disk.ghost_name }
 {
     counted::<D, Brand>(io, set, from, listed, withheld, at, Blank::new(1))
@@ -127,8 +122,6 @@ pub(super) fn walk<D: Disk>(
     withheld: &List,
     count: usize,
 ) -> Result<(Vec<WalkAnswer>, u64), AllocError>
-    requires fits { FitsDisk (D.state io.old.disk.now).size io.old.space }
-    ensures fits { FitsDisk (D.state io.new.disk.now).size io.new.space }
     ensures same { io.new.disk.ghost_name ≡ io.old.disk.ghost_name }
 {
     let calls = io.disk.calls();

@@ -1,7 +1,7 @@
 use Rattle.std.proofs.Common.{◌≡◌, ◌<◌, Option, Some, None, Result, IfOk, IfSome}
 use Rattle.std.specs.Option.{ok_or}
 use Rattle.std.proofs.lemmas.Result.{err_from_is_err_and}
-use Rattle.zst_block.specs.Blocks.{Has}
+use Rattle.zst_block.specs.IoStates.{blocks_of}
 use Rattle.zst_dnode.specs.Dnode.{DnodeFits}
 use Rattle.zst_dnode.specs.declared.dnode.Dnode.{Dnode}
 use Rattle.zst_model.proofs.Sizes.{block_size_over_none}
@@ -17,7 +17,7 @@ sized (Some dnode) fault result is fits = rw is (block_size_over_none dnode.bloc
 pub returns-in_err-attr-clause-found : goal.returns-in_err-attr-clause-found
 returns-in_err-attr-clause-found g c = λ state honest holds.
     let p = err_from_is_err_and c.from_residual.result c.from_residual.ensures.1 in
-    rw (p.1, p.2) (disk_there (Has (g.D.Disk.state c.attr.new.io.disk.now).seen c.attr.new.io.space) state c.args.object _ (c.in_err-attr.ensures.found state honest holds))
+    rw (p.1, p.2) (disk_there (blocks_of c.attr.new.io) state c.args.object _ (c.in_err-attr.ensures.found state honest holds))
 
 pub returns-clause-size : goal.returns-clause-size
 returns-clause-size g c = sized c.in_ok-attr.field-0 _ c.ok_or.result c.ok_or.ensures.value c.in_ok-attr.ensures.ranges

@@ -37,94 +37,106 @@ cut_inside other more is = is
 pub put_object-requires-clause-object : goal.put_object-requires-clause-object
 put_object-requires-clause-object g c = over_none c.in-Object.object (stated c.in-Object.object ((rw c.in-Object.is at c.requires.record).1.object_fits))
 
-pub write_block-requires-clause-object : goal.write_block-requires-clause-object
-write_block-requires-clause-object g c = over_none c.in-Write.object (stated c.in-Write.object ((rw c.in-Write.is at c.requires.record).1.object_fits))
+pub write_block-requires : goal.write_block-requires
+write_block-requires g c = record { object = over_none c.in-Write.object (stated c.in-Write.object ((rw c.in-Write.is at c.requires.record).1.object_fits)) }
 
-pub fill_range-requires-clause-object : goal.fill_range-requires-clause-object
-fill_range-requires-clause-object g c = over_none c.in-Free.object (stated c.in-Free.object ((rw c.in-Free.is at c.requires.record).1.object_fits))
+pub fill_range-requires : goal.fill_range-requires
+fill_range-requires g c = record { object = over_none c.in-Free.object (stated c.in-Free.object ((rw c.in-Free.is at c.requires.record).1.object_fits)) }
 
 pub put_spill-requires-clause-object : goal.put_spill-requires-clause-object
 put_spill-requires-clause-object g c = over_none c.in-Spill.object (stated c.in-Spill.object ((rw c.in-Spill.is at c.requires.record).1.object_fits))
 
-pub fill_range-requires-in-Redact-clause-object : goal.fill_range-requires-in-Redact-clause-object
-fill_range-requires-in-Redact-clause-object g c = over_none c.in-Redact.object (stated c.in-Redact.object ((rw c.in-Redact.is at c.requires.record).1.object_fits))
+pub fill_range-requires-in-Redact : goal.fill_range-requires-in-Redact
+fill_range-requires-in-Redact g c = record { object = over_none c.in-Redact.object (stated c.in-Redact.object ((rw c.in-Redact.is at c.requires.record).1.object_fits)) }
 
-pub returns-in-Object-clause-changed : goal.returns-in-Object-clause-changed
-returns-in-Object-clause-changed g c =
-    let k = c.in-Object.object in
-    let less = under_bound k (stated k ((rw c.in-Object.is at c.requires.record).1.object_fits)) in
-    let head : ObjectHead = record { type_ = c.in-Object.type_; bonus_type = c.in-Object.bonus_type; block_size = c.in-Object.block_size } in
-    let bonus = take c.in-Object.bonus_len c.args.covered.now.payload.now in
-    let put = c.put_object.ensures in
-    let result = c.put_object.result in
-    rw (c.in-Object.is, sym c.keeps_spill.ensures) (record_changed (At k (Put head bonus c.keeps_spill.result c.in-Object.max_block)) result
-    (changed_by (At k (Put head bonus c.keeps_spill.result c.in-Object.max_block)) (object_put c.args.number k head bonus c.keeps_spill.result) result
-    (λ index state honest holds. put_received c.args.number index k head bonus c.keeps_spill.result c.in-Object.max_block state less)
-    put.changed put.tight
-    (record {
-      limits = inside quantities.Object number_bound (k + 1) result (below k less) put.limits;
-      never_redacted = put.unredacted;
-      damaged = λ honest. slots_told _ _ c.args.set.now result (put.damaged honest);
-      kept = put.kept;
-      levels = fits_then _ _ result put.kept put.levels;
-      works = put.works;
-    }))
-    (Works-block put.works))
+pub returns-in-Object : goal.returns-in-Object
+returns-in-Object g c = record {
+  changed =
+      let k = c.in-Object.object in
+      let less = under_bound k (stated k ((rw c.in-Object.is at c.requires.record).1.object_fits)) in
+      let head : ObjectHead = record { type_ = c.in-Object.type_; bonus_type = c.in-Object.bonus_type; block_size = c.in-Object.block_size } in
+      let bonus = take c.in-Object.bonus_len c.args.covered.now.payload.now in
+      let put = c.put_object.ensures in
+      let result = c.put_object.result in
+      rw (c.in-Object.is, sym c.keeps_spill.ensures) (record_changed (At k (Put head bonus c.keeps_spill.result c.in-Object.max_block)) result
+      (changed_by (At k (Put head bonus c.keeps_spill.result c.in-Object.max_block)) (object_put c.args.number k head bonus c.keeps_spill.result) result
+      (λ index state honest holds. put_received c.args.number index k head bonus c.keeps_spill.result c.in-Object.max_block state less)
+      put.changed put.tight
+      (record {
+        limits = inside quantities.Object number_bound (k + 1) result (below k less) put.limits;
+        never_redacted = put.unredacted;
+        damaged = λ honest. slots_told _ _ c.args.set.now result (put.damaged honest);
+        kept = put.kept;
+        levels = fits_then _ _ result put.kept put.levels;
+        works = put.works;
+      }))
+      (Works-block put.works));
+}
 
-pub returns-in-FreeObjects-clause-changed : goal.returns-in-FreeObjects-clause-changed
-returns-in-FreeObjects-clause-changed g c =
-    let first = c.in-FreeObjects.first in
-    let count = c.in-FreeObjects.count in
-    let numbers = c.cut-numbers in
-    let within_numbers = cut_inside numbers.result.first numbers.result.count numbers.ensures.inside in
-    let freed = c.free_objects.ensures in
-    let result = c.free_objects.result in
-    rw c.in-FreeObjects.is (record_changed (FreeObjects first count) result
-    (changed_by (FreeObjects first count) (objects_freed c.args.number numbers.result.first numbers.result.count) result
-    (λ index state honest holds. freed_received c.args.number index first count numbers.result.first numbers.result.count state holds.lawful within_numbers (cut_same first count numbers.result.first numbers.result.count numbers.ensures.same))
-    freed.changed (λ state honest tight dated. freed.tight state honest tight)
-    (record {
-      limits = inside quantities.Object number_bound (numbers.result.first + numbers.result.count) result within_numbers freed.limits;
-      never_redacted = freed.unredacted;
-      damaged = λ honest. slots_told _ _ c.args.set.now result (freed.damaged honest);
-      kept = freed.kept;
-      levels = freed.levels;
-      works = freed.works;
-    }))
-    (Works-block freed.works))
+pub returns-in-FreeObjects : goal.returns-in-FreeObjects
+returns-in-FreeObjects g c = record {
+  changed =
+      let first = c.in-FreeObjects.first in
+      let count = c.in-FreeObjects.count in
+      let numbers = c.cut-numbers in
+      let within_numbers = cut_inside numbers.result.first numbers.result.count numbers.ensures.inside in
+      let freed = c.free_objects.ensures in
+      let result = c.free_objects.result in
+      rw c.in-FreeObjects.is (record_changed (FreeObjects first count) result
+      (changed_by (FreeObjects first count) (objects_freed c.args.number numbers.result.first numbers.result.count) result
+      (λ index state honest holds. freed_received c.args.number index first count numbers.result.first numbers.result.count state holds.lawful within_numbers (cut_same first count numbers.result.first numbers.result.count numbers.ensures.same))
+      freed.changed (λ state honest tight dated. freed.tight state honest tight)
+      (record {
+        limits = inside quantities.Object number_bound (numbers.result.first + numbers.result.count) result within_numbers freed.limits;
+        never_redacted = freed.unredacted;
+        damaged = λ honest. slots_told _ _ c.args.set.now result (freed.damaged honest);
+        kept = freed.kept;
+        levels = freed.levels;
+        works = freed.works;
+      }))
+      (Works-block freed.works));
+}
 
-pub returns-in-Write-clause-changed : goal.returns-in-Write-clause-changed
-returns-in-Write-clause-changed g c =
-    let did = c.write_block.ensures.changed c.in-Write.type_ in
-    rw c.in-Write.is (record_changed (At c.in-Write.object (Write c.in-Write.offset c.in-Write.type_ c.args.covered.now.payload.now)) c.write_block.result did
-    (works_sized (rw c.in-Write.is at c.requires.payload) did.keeps.works))
+pub returns-in-Write : goal.returns-in-Write
+returns-in-Write g c = record {
+  changed =
+      let did = c.write_block.ensures.changed c.in-Write.type_ in
+      rw c.in-Write.is (record_changed (At c.in-Write.object (Write c.in-Write.offset c.in-Write.type_ c.args.covered.now.payload.now)) c.write_block.result did
+      (works_sized (rw c.in-Write.is at c.requires.payload) did.keeps.works));
+}
 
-pub returns-in-Free-clause-changed : goal.returns-in-Free-clause-changed
-returns-in-Free-clause-changed g c =
-    let did = c.fill_range.ensures.changed in
-    rw c.in-Free.is (record_changed (At c.in-Free.object (free_change c.in-Free.offset c.in-Free.length)) c.fill_range.result did (Works-block did.keeps.works))
+pub returns-in-Free : goal.returns-in-Free
+returns-in-Free g c = record {
+  changed =
+      let did = c.fill_range.ensures.changed in
+      rw c.in-Free.is (record_changed (At c.in-Free.object (free_change c.in-Free.offset c.in-Free.length)) c.fill_range.result did (Works-block did.keeps.works));
+}
 
-pub returns-in-Spill-clause-changed : goal.returns-in-Spill-clause-changed
-returns-in-Spill-clause-changed g c =
-    let k = c.in-Spill.object in
-    let bytes = c.args.covered.now.payload.now in
-    let put = c.put_spill.ensures in
-    let result = c.put_spill.result in
-    rw c.in-Spill.is (record_changed (At k (Spill bytes)) result
-    (changed_by (At k (Spill bytes)) (spill_put c.args.number k bytes) result
-    (λ index state honest holds. spill_received c.args.number index k bytes state)
-    put.changed put.tight
-    (record {
-      limits = no_limit result put.limits;
-      never_redacted = put.unredacted;
-      damaged = λ honest. slots_told _ _ c.args.set.now result (put.damaged honest);
-      kept = put.kept;
-      levels = fits_then _ _ result put.kept put.levels;
-      works = put.works;
-    }))
-    (works_sized (rw c.in-Spill.is at c.requires.payload) put.works))
+pub returns-in-Spill : goal.returns-in-Spill
+returns-in-Spill g c = record {
+  changed =
+      let k = c.in-Spill.object in
+      let bytes = c.args.covered.now.payload.now in
+      let put = c.put_spill.ensures in
+      let result = c.put_spill.result in
+      rw c.in-Spill.is (record_changed (At k (Spill bytes)) result
+      (changed_by (At k (Spill bytes)) (spill_put c.args.number k bytes) result
+      (λ index state honest holds. spill_received c.args.number index k bytes state)
+      put.changed put.tight
+      (record {
+        limits = no_limit result put.limits;
+        never_redacted = put.unredacted;
+        damaged = λ honest. slots_told _ _ c.args.set.now result (put.damaged honest);
+        kept = put.kept;
+        levels = fits_then _ _ result put.kept put.levels;
+        works = put.works;
+      }))
+      (works_sized (rw c.in-Spill.is at c.requires.payload) put.works));
+}
 
-pub returns-in-Redact-clause-changed : goal.returns-in-Redact-clause-changed
-returns-in-Redact-clause-changed g c =
-    let did = c.fill_range-in-Redact.ensures.changed in
-    rw c.in-Redact.is (record_changed (At c.in-Redact.object (Redact c.in-Redact.offset c.in-Redact.length)) c.fill_range-in-Redact.result did (Works-block did.keeps.works))
+pub returns-in-Redact : goal.returns-in-Redact
+returns-in-Redact g c = record {
+  changed =
+      let did = c.fill_range-in-Redact.ensures.changed in
+      rw c.in-Redact.is (record_changed (At c.in-Redact.object (Redact c.in-Redact.offset c.in-Redact.length)) c.fill_range-in-Redact.result did (Works-block did.keeps.works));
+}

@@ -12,24 +12,24 @@ use Rattle.zst_extents.proofs.TakenWorks.{TakesAtMost-full, Works-left, Works-sp
 use Rattle.zst_extents.proofs.writes.write_extents.Goals as goal
 
 pub take_blocks-requires : goal.take_blocks-requires
-take_blocks-requires g c = rw c.in_ok-left.ensures c.requires.fits.extents
+take_blocks-requires g c = rw c.in_ok-left.ensures c.args.io.now.fits.extents
 
 pub returns-in_err-left-clause-works : goal.returns-in_err-left-clause-works
 returns-in_err-left-clause-works g c =
     let p = err_from_is_err_and c.from_residual.result c.from_residual.ensures.1 in
-    rw (p.1, p.2) (Works-looks c.requires.fits (Looks-none _ _ _))
+    rw (p.1, p.2) (Works-looks (Looks-none _))
 
 pub returns-in-Err-clause-works : goal.returns-in-Err-clause-works
 returns-in-Err-clause-works g c =
     let blocks = c.blocks_for-blocks.ensures ∙ ap (λ (e : List Extent). extent_blocks (length e)) c.extents.ensures in
     let full = rw c.in_ok-left.ensures at c.in-Err.ensures.full in
-    rw c.from.ensures (Works-more (omega (arith, blocks)) (Works-space c.requires.fits (rw c.in_ok-left.ensures at c.take_blocks.ensures.fewer) c.take_blocks.ensures.kept (rw c.in_ok-left.ensures at c.take_blocks.ensures.takes)
+    rw c.from.ensures (Works-more (omega (arith, blocks)) (Works-space (rw c.in_ok-left.ensures at c.take_blocks.ensures.fewer) (rw c.in_ok-left.ensures at c.take_blocks.ensures.takes)
     (λ need largest is. let need_is : c.in-Err.full.need ≡ need = cc in let largest_is : c.in-Err.full.largest ≡ largest = cc in rw (need_is, largest_is) at full) refl (λ is. absurd (cc))))
 
 pub returns-in_err-bytes-clause-works : goal.returns-in_err-bytes-clause-works
 returns-in_err-bytes-clause-works g c =
     let p = err_from_is_err_and c.from_residual-in_err-bytes.result c.from_residual-in_err-bytes.ensures.1 in
-    rw (p.1, p.2) (Works-looks c.requires.fits (Looks-none _ _ _))
+    rw (p.1, p.2) (Works-looks (Looks-none _))
 
 pub returns-then-is_empty-clause-there : goal.returns-then-is_empty-clause-there
 returns-then-is_empty-clause-there g c =
@@ -47,7 +47,7 @@ returns-then-is_empty-clause-after g c =
 pub returns-then-is_empty-clause-works : goal.returns-then-is_empty-clause-works
 returns-then-is_empty-clause-works g c =
     let blocks = c.blocks_for-blocks.ensures ∙ ap (λ (e : List Extent). extent_blocks (length e)) c.extents.ensures in
-    Works-more (omega (arith, blocks)) (Works-space {stop = None} c.requires.fits (rw c.in_ok-left.ensures at c.take_blocks.ensures.fewer) c.take_blocks.ensures.kept (rw c.in_ok-left.ensures at c.take_blocks.ensures.takes) (λ need largest is. absurd (cc)) refl (λ is. absurd (cc)))
+    Works-more (omega (arith, blocks)) (Works-space {stop = None} (rw c.in_ok-left.ensures at c.take_blocks.ensures.fewer) (rw c.in_ok-left.ensures at c.take_blocks.ensures.takes) (λ need largest is. absurd (cc)) refl (λ is. absurd (cc)))
 
 pub write_leaves-requires-clause-small : goal.write_leaves-requires-clause-small
 write_leaves-requires-clause-small g c =
@@ -105,6 +105,4 @@ returns-clause-works g c =
     let le = few_blocks c.in_ok-tree.tree.levels (length c.deref.result.now) (length c.args.io.now.space.free) (length c.take_blocks.new.space.free) c.in_ok-tree.ensures.there.least some long less in
     let fewer = fewer_behind c.blocks_for-blocks.result _ c.args.io.now.space c.write_leaves.new.io.space c.take_blocks.new.space is c.in_ok-tree.ensures.after (omega (arith, le, blocks)) in
     let taken = rw c.in_ok-left.ensures at c.take_blocks.ensures.takes in
-    Works-left c.in_ok-tree.ensures.works fewer
-    (record { extents = c.take_blocks.ensures.kept; sectors = omega (arith, taken.sectors, c.requires.fits.sectors, c.in_ok-tree.ensures.works.fills.size) })
-    (TakesAtMost-full (16 * c.blocks_for-blocks.result) _ _ _ taken (omega (arith, blocks)))
+    Works-left c.in_ok-tree.ensures.works fewer (TakesAtMost-full (16 * c.blocks_for-blocks.result) _ _ _ taken (omega (arith, blocks)))

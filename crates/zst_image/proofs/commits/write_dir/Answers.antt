@@ -2,9 +2,10 @@ use Rattle.std.proofs.Common.{rules, ◌<◌, ℕ, length, List, sym, subst}
 use Rattle.zst_image.proofs.Directories.{DirStands-bytes, IsDir-some}
 use Rattle.zst_image.proofs.commits.write_dir.Goals as goal
 
-pub write_bytes-requires-clause-some : goal.write_bytes-requires-clause-some
-write_bytes-requires-clause-some g c =
-    subst (λ (l : List ℕ). 0 < length l) (sym c.deref.ensures.value) (IsDir-some c.args.dir.now c.in_ok-bytes.bytes.items c.in_ok-bytes.ensures)
+pub write_bytes-requires : goal.write_bytes-requires
+write_bytes-requires g c = record {
+  some = subst (λ (l : List ℕ). 0 < length l) (sym c.deref.ensures.value) (IsDir-some c.args.dir.now c.in_ok-bytes.bytes.items c.in_ok-bytes.ensures);
+}
 
 pub returns-clause-there : goal.returns-clause-there
 returns-clause-there g c =

@@ -1,9 +1,10 @@
 use Rattle.std.specs.Prelude.{Vec, Err}
 use Rattle.std.specs.declared.alloc.Global.{Global}
-use Rattle.std.proofs.Common.{rules, ◌≡◌, ◌∙◌, ℕ, [], refl, ap, subst}
+use Rattle.std.proofs.Common.{rules, ◌≡◌, ◌∙◌, ℕ, List, [], refl, sym, ap, subst}
 use Rattle.zst_outside.specs.Images.{DiskState}
 use Rattle.zst_space.specs.FreeSectors.{FreeSectors}
 use Rattle.zst_block.specs.Blocks.{Has}
+use Rattle.zst_block.specs.IoStates.{IsHonest, disk_of}
 use Rattle.zst_leaves.specs.Damage.{TellsText}
 use Rattle.zst_leaves.specs.Leaves.{HasLeaves, stop_of_leaves}
 use Rattle.zst_leaves.specs.declared.fault.LeavesFault.{LeavesFault}
@@ -11,28 +12,40 @@ use Rattle.zst_image.specs.Reads.{free_by}
 use Rattle.zst_image.proofs.Causes.{leaves_cause, leaves_load, leaves_read, tells_leaves}
 use Rattle.zst_image.proofs.pool_reads.read_bytes.Goals as goal
 
+-- what stands on a disk over its free sectors stands on the same disk over the same sectors
+on_same : (P : List ℕ → FreeSectors → Type 0) (old new : DiskState) (space left : FreeSectors) → new ≡ old → left ≡ space → P old.seen space → P new.seen left
+on_same P old new space left disk sectors is = subst (λ (d : DiskState). P d.seen left) (sym disk) (subst (P old.seen) (sym sectors) is)
+
+pub new-io-requires : goal.new-io-requires
+new-io-requires g c =
+    let space : c.new-space.result ≡ free_by c.args.body.now = rw (c.new-space.ensures, c.new.ensures.items) refl in
+    rw space (record { extents = record { end = c.requires.end.1; extents = c.requires.end.0 }; sectors = c.requires.sectors })
+
 pub returns-in-Ok-clause-there : goal.returns-in-Ok-clause-there
 returns-in-Ok-clause-there g c = λ text told has long.
-    let here : (g.D.Disk.state c.read_leaves-read.new.io.disk.now).honest = search (rules, told) in
+    let here : IsHonest c.read_leaves-read.new.io = search (rules, told) in
     let space : c.new-space.result ≡ free_by c.args.body.now = rw (c.new-space.ensures, c.new.ensures.items) refl in
-    c.in-Ok.ensures.there text here (rw (c.new-io.ensures.disk, c.new-io.ensures.space, space) has) long
+    c.in-Ok.ensures.there text here (on_same (λ (seen : List ℕ) (left : FreeSectors). HasLeaves (Has seen left) c.args.body.now.dir_levels c.args.body.now.dir_root text) (g.D.Disk.state c.args.disk.now) (disk_of c.new-io.result) (free_by c.args.body.now) c.new-io.result.space
+    (ap g.D.Disk.state c.new-io.ensures.disk) (c.new-io.ensures.space ∙ space) has) long
 
 pub returns-in-Ok-clause-only : goal.returns-in-Ok-clause-only
 returns-in-Ok-clause-only g c = λ told.
-    let here : (g.D.Disk.state c.read_leaves-read.new.io.disk.now).honest = search (rules, told) in
+    let here : IsHonest c.read_leaves-read.new.io = search (rules, told) in
     let space : c.new-space.result ≡ free_by c.args.body.now = rw (c.new-space.ensures, c.new.ensures.items) refl in
     let none : c.new-io.result.space.free ≡ [] = rw (c.new-io.ensures.space, space) refl in
-    rw (c.new-io.ensures.disk, c.new-io.ensures.space, space) at (c.in-Ok.ensures.stands here none)
+    on_same (λ (seen : List ℕ) (left : FreeSectors). HasLeaves (Has seen left) c.args.body.now.dir_levels c.args.body.now.dir_root c.in-Ok.bytes.items) (disk_of c.new-io.result) (g.D.Disk.state c.args.disk.now) c.new-io.result.space (free_by c.args.body.now)
+    (sym (ap g.D.Disk.state c.new-io.ensures.disk)) (sym (c.new-io.ensures.space ∙ space)) (c.in-Ok.ensures.stands here none)
 
 pub of_leaves-requires : goal.of_leaves-requires
 of_leaves-requires g c = λ need largest is. c.in-Err.ensures.looks.never_full need largest (ap (λ (f : LeavesFault). stop_of_leaves {T = Vec ℕ Global} (Err f)) is)
 
 pub returns-in-Err-clause-there : goal.returns-in-Err-clause-there
 returns-in-Err-clause-there g c = λ text told has long.
-    let here : (g.D.Disk.state c.read_leaves-read.new.io.disk.now).honest = search (rules, told) in
+    let here : IsHonest c.read_leaves-read.new.io = search (rules, told) in
     let space : c.new-space.result ≡ free_by c.args.body.now = rw (c.new-space.ensures, c.new.ensures.items) refl in
     leaves_read (Vec ℕ Global) text (λ read. read.items) c.in-Err.fault c.of_leaves.result c.of_leaves.ensures
-    (c.in-Err.ensures.there text here (rw (c.new-io.ensures.disk, c.new-io.ensures.space, space) has) long)
+    (c.in-Err.ensures.there text here (on_same (λ (seen : List ℕ) (left : FreeSectors). HasLeaves (Has seen left) c.args.body.now.dir_levels c.args.body.now.dir_root text) (g.D.Disk.state c.args.disk.now) (disk_of c.new-io.result) (free_by c.args.body.now) c.new-io.result.space
+    (ap g.D.Disk.state c.new-io.ensures.disk) (c.new-io.ensures.space ∙ space) has) long)
 
 pub returns-in-Err-clause-fault : goal.returns-in-Err-clause-fault
 returns-in-Err-clause-fault g c = leaves_load c.in-Err.fault c.of_leaves.result c.of_leaves.ensures
@@ -44,7 +57,7 @@ returns-in-Err-clause-cause g c =
 
 pub returns-in-Err-clause-damaged : goal.returns-in-Err-clause-damaged
 returns-in-Err-clause-damaged g c = λ told.
-    let here : (g.D.Disk.state c.read_leaves-read.new.io.disk.now).honest = search (rules, told) in
+    let here : IsHonest c.read_leaves-read.new.io = search (rules, told) in
     let space : c.new-space.result ≡ free_by c.args.body.now = rw (c.new-space.ensures, c.new.ensures.items) refl in
     let body = c.args.body.now in
     let disk = g.D.Disk.state c.args.disk.now in

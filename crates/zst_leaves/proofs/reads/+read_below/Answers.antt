@@ -46,10 +46,8 @@ pub loop-k-init : goal.loop-k-init
 loop-k-init g t c = record {
   only = λ honest. gathered_none _ (c.args.level - 1) c.replace-node.result c.args.count c.args.text.now.items;
   long = omega arith;
-  looks = Looks-none _ _ _;
+  looks = Looks-none _;
   calls = omega arith;
-  fit = c.in_ok-load_named.ensures.kept_fit;
-  same = refl;
 }
 
 pub returns-in_err-read_below-clause-there : goal.returns-in_err-read_below-clause-there
@@ -58,8 +56,8 @@ returns-in_err-read_below-clause-there g t c = λ leaves honest below long.
     let all = over_of _ c.args.level c.args.ptr leaves (omega arith) (omega arith) below in
     let same : c.replace-node.result ≡ all.node = c.replace-node.ensures.value ∙ c.in_ok-load_named.ensures.there all.node was_honest all.over.kind_is all.over.level_is all.over.there all.over.long in
     let here : c.child_at-child.result ≡ child all.node c.loop-k.k = c.child_at-child.ensures.child ∙ ap (λ (node : List ℕ). child node c.loop-k.k) same in
-    let loaded = kept_looks _ _ _ _ _ _ _ c.in_ok-load_named.ensures.looks in
-    let kept = kept_looks _ _ _ _ _ _ _ c.loop-k.invariant.looks in
+    let loaded = kept_looks c.in_ok-load_named.ensures.looks in
+    let kept = kept_looks c.loop-k.invariant.looks in
     let piece = part (bytes_below (c.args.level - 1)) leaves c.loop-k.k in
     let stands = LeavesBelow-grows _ _ kept (c.args.level - 1) (child all.node c.loop-k.k) piece (LeavesBelow-grows _ _ loaded (c.args.level - 1) (child all.node c.loop-k.k) piece (all.parts c.loop-k.k (omega arith))) in
     let size : length piece ≡ c.length_of.result = length-part (bytes_below (c.args.level - 1)) leaves c.loop-k.k ∙ ap (λ (n : ℕ). part_length (bytes_below (c.args.level - 1)) n c.loop-k.k) long ∙ sym c.length_of.ensures in
@@ -84,8 +82,6 @@ loop-k-preserved g t c =
       long = omega (arith, c.in_ok-read_below.ensures.long, c.length_of.ensures, c.loop-k.invariant.long, front_more (bytes_below (c.args.level - 1)) c.args.count c.loop-k.k);
       looks = Looks-then c.loop-k.invariant.looks c.in_ok-read_below.ensures.looks;
       calls = omega (arith, more, next, c.loop-k.invariant.calls);
-      fit = c.in_ok-read_below.ensures.kept_fit;
-      same = c.in_ok-read_below.ensures.same ∙ c.loop-k.invariant.same;
     }
 
 pub returns-clause-only : goal.returns-clause-only

@@ -13,8 +13,8 @@ use Rattle.zst_leaves.proofs.writes.+write_below.Goals as goal
 pub returns-then-is_empty-clause-below : goal.returns-then-is_empty-clause-below
 returns-then-is_empty-clause-below g t c = hole_below _ c.args.level c.hole.result c.args.bytes.now (search rules) c.hole.ensures
 
-pub write_leaf-requires-clause-room : goal.write_leaf-requires-clause-room
-write_leaf-requires-clause-room g t c = leaf_room c.args.level (length c.args.bytes.now) (omega arith) c.requires.room
+pub write_leaf-requires : goal.write_leaf-requires
+write_leaf-requires g t c = record { room = leaf_room c.args.level (length c.args.bytes.now) (omega arith) c.requires.room }
 
 pub returns-then-level-eq0-clause-below : goal.returns-then-level-eq0-clause-below
 returns-then-level-eq0-clause-below g t c = IfOk-weaker c.write_leaf.result _ _ (λ ptr leaf. leaf_below _ c.args.level ptr c.args.bytes.now (omega arith) (search rules) leaf) c.write_leaf.ensures.leaf
@@ -48,19 +48,18 @@ pub loop-k-preserved : goal.loop-k-preserved
 loop-k-preserved g t c =
     let more = next_blocks (c.args.level - 1) c.loop-k.k c.args.bytes.now c.part_of.result.now c.part_of.ensures.part in
     record {
-      children = child_more _ _ (numbered_kept c.args.number _ _ _ _ (kept_works _ _ _ _ _ _ _ _ _ c.in_ok-child.ensures.works)) (c.args.level - 1) (bytes_below (c.args.level - 1)) c.args.bytes.now c.loop-k.node c.put_child.new.node c.loop-k.k c.in_ok-child.child
+      children = child_more _ _ (numbered_kept c.args.number _ _ _ _ (kept_works c.in_ok-child.ensures.works)) (c.args.level - 1) (bytes_below (c.args.level - 1)) c.args.bytes.now c.loop-k.node c.put_child.new.node c.loop-k.k c.in_ok-child.child
           (omega arith) c.put_child.ensures.puts c.loop-k.invariant.children (rw c.part_of.ensures.part at c.in_ok-child.ensures.below);
       works = Works-more (omega (arith, more)) (Works-then c.loop-k.invariant.works c.in_ok-child.ensures.works);
       after = blocks_then _ _ _ _ _ c.loop-k.invariant.after c.in_ok-child.ensures.after ∙ ap (λ (n : ℕ). without_blocks n c.args.io.now.space) more;
       calls = omega (arith, more, c.loop-k.invariant.calls, c.in_ok-child.ensures.calls);
-      same = search rules;
     }
 
 pub returns-clause-below : goal.returns-clause-below
 returns-clause-below g t c =
     IfOk-weaker c.save_over.result _ _
     (λ ptr over. over_below _ c.args.level ptr c.args.bytes.now c.loop-k.node (omega arith) (search rules) over
-    (λ k less. LeavesBelow-grows _ _ (numbered_kept c.args.number _ _ _ _ (kept_works _ _ _ _ _ _ _ _ _ c.save_over.ensures.works)) _ _ _ (c.loop-k.invariant.children k (omega arith)))) c.save_over.ensures.over
+    (λ k less. LeavesBelow-grows _ _ (numbered_kept c.args.number _ _ _ _ (kept_works c.save_over.ensures.works)) _ _ _ (c.loop-k.invariant.children k (omega arith)))) c.save_over.ensures.over
 
 pub returns-clause-works : goal.returns-clause-works
 returns-clause-works g t c =
@@ -91,7 +90,6 @@ loop-k-init g t c = record {
   works = search rules;
   after = sym (blocks_none_taken c.args.io.now.space) ∙ ap (λ (n : ℕ). without_blocks n c.args.io.now.space) (sym (before_none (c.args.level - 1) (length c.args.bytes.now)));
   calls = omega arith;
-  same = refl;
 }
 
 pub returns-clause-after : goal.returns-clause-after

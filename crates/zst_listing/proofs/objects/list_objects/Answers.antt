@@ -1,11 +1,9 @@
-use Rattle.std.proofs.Common.{rules, ℕ, ◌+◌, Bool, List, ◌++◌, refl, sym, ap, ◌∙◌, subst, arith}
-use Rattle.std.specs.Prelude.{None, Option}
+use Rattle.std.proofs.Common.{rules, ℕ, ◌+◌, List, ◌++◌, ap, ◌∙◌, arith}
+use Rattle.std.specs.Prelude.{None}
 use Rattle.std.proofs.lemmas.Result.{err_from_is_err_and}
 use Rattle.zst_space.specs.FreeSectors.{FreeSectors}
-use Rattle.zst_outside.specs.Images.{DiskState}
-use Rattle.zst_block.specs.Blocks.{FitsDisk, Has}
-use Rattle.zst_block.specs.IoCalls.{Looks}
-use Rattle.zst_block.specs.declared.fault.BlockFault.{BlockFault}
+use Rattle.zst_block.specs.Blocks.{Has}
+use Rattle.zst_block.specs.IoStates.{blocks_of}
 use Rattle.zst_block.proofs.IoCallLemmas.{Looks-none, Looks-then}
 use Rattle.zst_objset.specs.Sets.{SetHolds}
 use Rattle.zst_objset.proofs.LeafLaws.{look_on}
@@ -13,18 +11,12 @@ use Rattle.zst_listing.proofs.DnodeLines.{line_added, walk_ends}
 use Rattle.zst_listing.proofs.ObjectWalk.{all_lines, lines_from, next_small, number_there}
 use Rattle.zst_listing.proofs.objects.list_objects.Goals as goal
 
--- a space that fits the disk still does after a call that only reads
-still_fits : (old : DiskState) (space : FreeSectors) (failed : Bool) (new : DiskState) (less : FreeSectors) (fails : Bool) (stop : Option BlockFault) → Looks old space failed new less fails stop → FitsDisk old.size space → FitsDisk new.size less
-still_fits old space failed new less fails stop looks fits = subst (FitsDisk new.size) (sym looks.space) (subst (λ (n : ℕ). FitsDisk n space) (sym looks.reads.size) fits)
-
 pub loop-lines-init : goal.loop-lines-init
 loop-lines-init g c = record {
   some = omega arith;
   number = number_there;
   told = λ state honest holds. ap (λ (l : List (List ℕ)). l ++ lines_from state 1) c.new-lines.ensures.items ∙ all_lines state;
-  looks = Looks-none _ _ _;
-  fits = c.requires.fits;
-  same = refl;
+  looks = Looks-none _;
 }
 
 pub overflow_add-from : goal.overflow_add-from
@@ -41,24 +33,22 @@ loop-lines-preserved g c =
       some = omega arith;
       number = let less = ranges.1 in omega arith;
       told = λ state honest holds.
-          let kept = look_on (λ (seen : List ℕ) (space : FreeSectors). SetHolds (Has seen space) c.args.set.now state) _ _ _ _ _ _ _ was.looks holds in
+          let kept = look_on (λ (seen : List ℕ) (space : FreeSectors). SetHolds (Has seen space) c.args.set.now state) was.looks holds in
           let found = rw c.in-Some.is at (c.in_ok-number.ensures.found state honest kept) in
           ap (λ (l : List (List ℕ)). l ++ lines_from state (c.in-Some.number + 1)) c.in_ok-push_line.ensures
           ∙ line_added _ _ state c.loop-lines.lines.items c.loop-lines.from c.in-Some.number c.in-Some.dnode found ranges.2 ranges.1 (was.told state (looks.reads.honest honest) holds);
       looks = Looks-then {stop = None} was.looks looks;
-      fits = still_fits _ _ _ _ _ _ None looks was.fits;
-      same = c.in_ok-number.ensures.same ∙ was.same;
     }
 
 pub returns-in_err-number-clause-told : goal.returns-in_err-number-clause-told
 returns-in_err-number-clause-told g c = λ state honest holds.
     let p = err_from_is_err_and c.from_residual.result c.from_residual.ensures.1 in
-    let kept = look_on (λ (seen : List ℕ) (space : FreeSectors). SetHolds (Has seen space) c.args.set.now state) _ _ _ _ _ _ _ c.loop-lines.invariant.looks holds in
+    let kept = look_on (λ (seen : List ℕ) (space : FreeSectors). SetHolds (Has seen space) c.args.set.now state) c.loop-lines.invariant.looks holds in
     rw (p.1, p.2) (c.in_err-number.ensures.found state honest kept)
 
 pub returns-clause-told : goal.returns-clause-told
 returns-clause-told g c = λ state honest holds.
     let was = c.loop-lines.invariant in
-    let kept = look_on (λ (seen : List ℕ) (space : FreeSectors). SetHolds (Has seen space) c.args.set.now state) _ _ _ _ _ _ _ was.looks holds in
+    let kept = look_on (λ (seen : List ℕ) (space : FreeSectors). SetHolds (Has seen space) c.args.set.now state) was.looks holds in
     let found = rw c.in_default.is at (c.in_ok-number.ensures.found state honest kept) in
-    c.new.ensures ∙ walk_ends (Has (g.D.Disk.state c.next_object.new.io.disk.now).seen c.next_object.new.io.space) state c.loop-lines.lines.items c.loop-lines.from found (was.told state (c.in_ok-number.ensures.looks.reads.honest honest) holds)
+    c.new.ensures ∙ walk_ends (blocks_of c.next_object.new.io) state c.loop-lines.lines.items c.loop-lines.from found (was.told state (c.in_ok-number.ensures.looks.reads.honest honest) holds)

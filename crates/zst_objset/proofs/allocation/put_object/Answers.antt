@@ -1,4 +1,4 @@
-use Rattle.std.proofs.Common.{◌∙◌, arith, ℕ, ◌+◌, List}
+use Rattle.std.proofs.Common.{arith, ℕ, ◌+◌, List}
 use Rattle.zst_space.specs.FreeSectors.{FreeSectors}
 use Rattle.zst_block.specs.Blocks.{Has}
 use Rattle.zst_block.proofs.IoCallLemmas.{Works-looks, Works-after, Works-more}
@@ -33,7 +33,7 @@ pub returns-clause-changed : goal.returns-clause-changed
 returns-clause-changed g c = λ state honest holds.
     let was_honest = c.put_dnode.ensures.works.fills.honest honest in
     let mid = g.D.Disk.state c.dnode_at.new.io.disk.now in
-    let grown = look_on (λ (seen : List ℕ) (space : FreeSectors). SetHolds (Has seen space) c.args.set.now state) _ _ _ _ _ _ _ c.in-Ok.ensures.looks holds in
+    let grown = look_on (λ (seen : List ℕ) (space : FreeSectors). SetHolds (Has seen space) c.args.set.now state) c.in-Ok.ensures.looks holds in
     let makes = c.made_dnode.ensures.made mid.seen c.dnode_at.new.io.space c.args.object state (is_number_at c.args.object (omega arith) (omega arith)) (c.in-Ok.ensures.found state was_honest holds) in
     let change = Put c.args.head c.args.bonus.now c.args.keep_spill 0 in
     rw (in_numbers-within (c.args.object + 1) (changed c.args.number (At c.args.object change) state) (omega arith)) (c.put_dnode.ensures.changed c.args.number change state honest grown makes)
@@ -43,11 +43,11 @@ returns-in-Err-clause-damaged g c = λ honest. fault_spared _ _ _ c.args.set.now
 
 pub returns-clause-damaged : goal.returns-clause-damaged
 returns-clause-damaged g c = λ honest.
-    set_after _ _ _ _ (fills_looks _ _ _ _ _ _ _ c.in-Ok.ensures.looks) c.args.set.now c.put_dnode.result (c.put_dnode.ensures.damaged honest)
+    set_after _ _ _ _ (fills_looks c.in-Ok.ensures.looks) c.args.set.now c.put_dnode.result (c.put_dnode.ensures.damaged honest)
 
 pub returns-clause-within : goal.returns-clause-within
 returns-clause-within g c = λ honest.
-    within_after _ _ _ _ (fills_looks _ _ _ _ _ _ _ c.in-Ok.ensures.looks) c.args.set.now _ c.put_dnode.new.set c.put_dnode.result (c.put_dnode.ensures.within honest)
+    within_after _ _ _ _ (fills_looks c.in-Ok.ensures.looks) c.args.set.now _ c.put_dnode.new.set c.put_dnode.result (c.put_dnode.ensures.within honest)
 
 pub returns-clause-works : goal.returns-clause-works
 returns-clause-works g c = Works-after c.in-Ok.ensures.looks (Works-more (omega arith) c.put_dnode.ensures.works)
@@ -69,7 +69,7 @@ pub returns-clause-tight : goal.returns-clause-tight
 returns-clause-tight g c = λ state honest tight dated.
     let was_honest = c.put_dnode.ensures.works.fills.honest honest in
     let mid = g.D.Disk.state c.dnode_at.new.io.disk.now in
-    let grown = look_on (λ (seen : List ℕ) (space : FreeSectors). SetIsTight (Has seen space) c.args.set.now state) _ _ _ _ _ _ _ c.in-Ok.ensures.looks tight in
+    let grown = look_on (λ (seen : List ℕ) (space : FreeSectors). SetIsTight (Has seen space) c.args.set.now state) c.in-Ok.ensures.looks tight in
     let makes = c.made_dnode.ensures.made mid.seen c.dnode_at.new.io.space c.args.object state (is_number_at c.args.object (omega arith) (omega arith)) (c.in-Ok.ensures.found state was_honest tight.holds) in
     let change = Put c.args.head c.args.bonus.now c.args.keep_spill 0 in
     let early = c.made_dnode.ensures.dated (found_dated c.args.number state c.args.object _ dated (c.in-Ok.ensures.tight state was_honest tight)) in
@@ -90,14 +90,8 @@ returns-then-object-ge-NUMBER_BOUND-clause-kept g c = refl
 pub returns-then-object-ge-NUMBER_BOUND-clause-levels : goal.returns-then-object-ge-NUMBER_BOUND-clause-levels
 returns-then-object-ge-NUMBER_BOUND-clause-levels g c = tt
 
-pub returns-then-object-ge-NUMBER_BOUND-clause-same : goal.returns-then-object-ge-NUMBER_BOUND-clause-same
-returns-then-object-ge-NUMBER_BOUND-clause-same g c = refl
-
-pub dnode_at-requires-clause-object : goal.dnode_at-requires-clause-object
-dnode_at-requires-clause-object g c = c.requires.object
-
-pub dnode_at-requires-clause-fits : goal.dnode_at-requires-clause-fits
-dnode_at-requires-clause-fits g c = c.requires.fits
+pub dnode_at-requires : goal.dnode_at-requires
+dnode_at-requires g c = record { object = c.requires.object }
 
 pub returns-in-Err-clause-limits : goal.returns-in-Err-clause-limits
 returns-in-Err-clause-limits g c = tt
@@ -115,10 +109,7 @@ pub returns-in-Err-clause-levels : goal.returns-in-Err-clause-levels
 returns-in-Err-clause-levels g c = tt
 
 pub returns-in-Err-clause-works : goal.returns-in-Err-clause-works
-returns-in-Err-clause-works g c = Works-looks c.requires.fits c.in-Err.ensures.looks
-
-pub returns-in-Err-clause-same : goal.returns-in-Err-clause-same
-returns-in-Err-clause-same g c = c.in-Err.ensures.same
+returns-in-Err-clause-works g c = Works-looks c.in-Err.ensures.looks
 
 pub made_dnode-requires-clause-head : goal.made_dnode-requires-clause-head
 made_dnode-requires-clause-head g c = c.requires.head
@@ -129,9 +120,6 @@ made_dnode-requires-clause-bonus g c = c.requires.bonus
 pub made_dnode-requires-clause-ranges : goal.made_dnode-requires-clause-ranges
 made_dnode-requires-clause-ranges g c = c.in-Ok.ensures.ranges
 
-pub put_dnode-requires-clause-fits : goal.put_dnode-requires-clause-fits
-put_dnode-requires-clause-fits g c = c.in-Ok.ensures.kept_fit
-
 pub returns-clause-unredacted : goal.returns-clause-unredacted
 returns-clause-unredacted g c = c.put_dnode.ensures.unredacted
 
@@ -140,6 +128,3 @@ returns-clause-kept g c = c.put_dnode.ensures.kept
 
 pub returns-clause-levels : goal.returns-clause-levels
 returns-clause-levels g c = c.put_dnode.ensures.levels
-
-pub returns-clause-same : goal.returns-clause-same
-returns-clause-same g c = c.put_dnode.ensures.same ∙ c.in-Ok.ensures.same

@@ -7,11 +7,8 @@ returns-in-Err-clause-found g c = λ snap honest holds. disk_fault c.in-Err.faul
 pub returns-in-Ok-Some-clause-tight : goal.returns-in-Ok-Some-clause-tight
 returns-in-Ok-Some-clause-tight g c = λ snap honest tight. rw c.in-Ok-Some.field-0-is at (c.in-Ok-Some.ensures.tight snap honest tight)
 
-pub dnode_at-requires-clause-object : goal.dnode_at-requires-clause-object
-dnode_at-requires-clause-object g c = c.requires.object
-
-pub dnode_at-requires-clause-fits : goal.dnode_at-requires-clause-fits
-dnode_at-requires-clause-fits g c = c.requires.fits
+pub dnode_at-requires : goal.dnode_at-requires
+dnode_at-requires g c = record { object = c.requires.object }
 
 pub returns-in-Ok-Some-clause-looks : goal.returns-in-Ok-Some-clause-looks
 returns-in-Ok-Some-clause-looks g c = c.in-Ok-Some.ensures.looks
@@ -19,35 +16,17 @@ returns-in-Ok-Some-clause-looks g c = c.in-Ok-Some.ensures.looks
 pub returns-in-Ok-Some-clause-calls : goal.returns-in-Ok-Some-clause-calls
 returns-in-Ok-Some-clause-calls g c = c.in-Ok-Some.ensures.calls
 
-pub returns-in-Ok-Some-clause-kept_fit : goal.returns-in-Ok-Some-clause-kept_fit
-returns-in-Ok-Some-clause-kept_fit g c = c.in-Ok-Some.ensures.kept_fit
-
-pub returns-in-Ok-Some-clause-same : goal.returns-in-Ok-Some-clause-same
-returns-in-Ok-Some-clause-same g c = c.in-Ok-Some.ensures.same
-
 pub returns-in-Ok-None-clause-looks : goal.returns-in-Ok-None-clause-looks
 returns-in-Ok-None-clause-looks g c = c.in-Ok-None.ensures.looks
 
 pub returns-in-Ok-None-clause-calls : goal.returns-in-Ok-None-clause-calls
 returns-in-Ok-None-clause-calls g c = c.in-Ok-None.ensures.calls
 
-pub returns-in-Ok-None-clause-kept_fit : goal.returns-in-Ok-None-clause-kept_fit
-returns-in-Ok-None-clause-kept_fit g c = c.in-Ok-None.ensures.kept_fit
-
-pub returns-in-Ok-None-clause-same : goal.returns-in-Ok-None-clause-same
-returns-in-Ok-None-clause-same g c = c.in-Ok-None.ensures.same
-
 pub returns-in-Err-clause-looks : goal.returns-in-Err-clause-looks
 returns-in-Err-clause-looks g c = c.in-Err.ensures.looks
 
 pub returns-in-Err-clause-calls : goal.returns-in-Err-clause-calls
 returns-in-Err-clause-calls g c = c.in-Err.ensures.calls
-
-pub returns-in-Err-clause-kept_fit : goal.returns-in-Err-clause-kept_fit
-returns-in-Err-clause-kept_fit g c = c.in-Err.ensures.kept_fit
-
-pub returns-in-Err-clause-same : goal.returns-in-Err-clause-same
-returns-in-Err-clause-same g c = c.in-Err.ensures.same
 
 pub returns-in-Ok-Some-clause-limits : goal.returns-in-Ok-Some-clause-limits
 returns-in-Ok-Some-clause-limits g c = tt

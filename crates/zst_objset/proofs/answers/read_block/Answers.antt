@@ -1,6 +1,7 @@
-use Rattle.std.proofs.Common.{◌∙◌, ℕ, List, [], length, arith, subst, sym}
+use Rattle.std.proofs.Common.{ℕ, List, [], length, arith, subst, sym}
 use Rattle.zst_space.specs.FreeSectors.{FreeSectors}
 use Rattle.zst_block.specs.Blocks.{Has}
+use Rattle.zst_block.specs.IoStates.{blocks_of}
 use Rattle.zst_block.specs.declared.ptr.Ptr.{Ptr}
 use Rattle.zst_block.proofs.IoCallLemmas.{Looks-then}
 use Rattle.zst_model.specs.states.State.{BlockFits, index_bound}
@@ -17,7 +18,7 @@ use Rattle.zst_objset.proofs.LimitLaws.{if_no_limit, no_limit}
 use Rattle.zst_objset.proofs.answers.read_block.Goals as goal
 
 pub returns-in-Err-clause-read : goal.returns-in-Err-clause-read
-returns-in-Err-clause-read g c = λ snap honest holds long. not_there (Has (g.D.Disk.state c.object_there.new.io.disk.now).seen c.object_there.new.io.space) snap c.args.object c.args.index [] c.in-Err.fault (c.in-Err.ensures.found snap honest holds)
+returns-in-Err-clause-read g c = λ snap honest holds long. not_there (blocks_of c.object_there.new.io) snap c.args.object c.args.index [] c.in-Err.fault (c.in-Err.ensures.found snap honest holds)
 
 pub returns-then-index-ge-INDEX_BOUND-clause-read : goal.returns-then-index-ge-INDEX_BOUND-clause-read
 returns-then-index-ge-INDEX_BOUND-clause-read g c = λ snap honest holds long.
@@ -33,7 +34,7 @@ returns-in-Err-leaf_at-clause-looks g c = Looks-then c.in-Ok.ensures.looks c.in-
 pub returns-in-Err-leaf_at-clause-read : goal.returns-in-Err-leaf_at-clause-read
 returns-in-Err-leaf_at-clause-read g c = λ snap honest holds long.
     let there = c.in-Ok.ensures.found snap (c.in-Err-leaf_at.ensures.looks.reads.honest honest) holds in
-    let tree = subst (λ (t : Tree). TreeIs (Has (g.D.Disk.state c.object_there.new.io.disk.now).seen c.object_there.new.io.space) t there.map) (sym c.tree_of.ensures) there.is.tree in
+    let tree = subst (λ (t : Tree). TreeIs (blocks_of c.object_there.new.io) t there.map) (sym c.tree_of.ensures) there.is.tree in
     Refuses-disk (found_at c.args.object c.args.index snap) (faults.Block c.in-Err-leaf_at.fault) (disk_fault c.in-Err-leaf_at.fault (c.in-Err-leaf_at.ensures.shows there.map honest tree) c.in-Err-leaf_at.ensures.looks.never_full)
 
 pub returns-in-Ok-leaf_at-clause-read : goal.returns-in-Ok-leaf_at-clause-read
@@ -41,26 +42,20 @@ unfolding index_bound
 returns-in-Ok-leaf_at-clause-read g c = λ snap honest holds long.
     let was = c.read_leaf.ensures.looks.reads.honest honest in
     let there = c.in-Ok.ensures.found snap (c.in-Ok-leaf_at.ensures.looks.reads.honest was) holds in
-    let tree = subst (λ (t : Tree). TreeIs (Has (g.D.Disk.state c.object_there.new.io.disk.now).seen c.object_there.new.io.space) t there.map) (sym c.tree_of.ensures) there.is.tree in
+    let tree = subst (λ (t : Tree). TreeIs (blocks_of c.object_there.new.io) t there.map) (sym c.tree_of.ensures) there.is.tree in
     let same = c.in-Ok-leaf_at.ensures.shows there.map was tree in
     let block = there.object.blocks c.args.index in
-    let at : BlockIs (Has (g.D.Disk.state c.object_there.new.io.disk.now).seen c.object_there.new.io.space) c.in-Ok-leaf_at.ptr block =
-    subst (λ (ptr : Ptr). BlockIs (Has (g.D.Disk.state c.object_there.new.io.disk.now).seen c.object_there.new.io.space) ptr block) (sym same) (there.is.blocks c.args.index (omega arith)) in
-    let on = look_on (λ (seen : List ℕ) (space : FreeSectors). BlockIs (Has seen space) c.in-Ok-leaf_at.ptr block) _ _ _ _ _ _ _ c.in-Ok-leaf_at.ensures.looks at in
+    let at : BlockIs (blocks_of c.object_there.new.io) c.in-Ok-leaf_at.ptr block =
+    subst (λ (ptr : Ptr). BlockIs (blocks_of c.object_there.new.io) ptr block) (sym same) (there.is.blocks c.args.index (omega arith)) in
+    let on = look_on (λ (seen : List ℕ) (space : FreeSectors). BlockIs (Has seen space) c.in-Ok-leaf_at.ptr block) c.in-Ok-leaf_at.ensures.looks at in
     let fits : BlockFits (length c.args.into.now) block = subst (λ (n : ℕ). BlockFits n block) (sym (long there.object there.there)) ((object_of (snap.state c.args.object) there.object there.there (holds.lawful.objects c.args.object)).fits c.args.index) in
     rw (found_there snap c.args.object c.args.index there.object there.there) (c.read_leaf.ensures.read block honest on fits)
 
-pub object_there-requires-clause-object : goal.object_there-requires-clause-object
-object_there-requires-clause-object g c = c.requires.object
-
-pub object_there-requires-clause-fits : goal.object_there-requires-clause-fits
-object_there-requires-clause-fits g c = c.requires.fits
+pub object_there-requires : goal.object_there-requires
+object_there-requires g c = record { object = c.requires.object }
 
 pub returns-in-Err-clause-looks : goal.returns-in-Err-clause-looks
 returns-in-Err-clause-looks g c = c.in-Err.ensures.looks
-
-pub returns-in-Err-clause-same : goal.returns-in-Err-clause-same
-returns-in-Err-clause-same g c = c.in-Err.ensures.same
 
 pub returns-in-Err-clause-calls : goal.returns-in-Err-clause-calls
 returns-in-Err-clause-calls g c = calls_more _ _ c.in-Err.ensures.calls
@@ -71,32 +66,17 @@ returns-then-index-ge-INDEX_BOUND-clause-damaged g c = λ honest. tt
 pub returns-then-index-ge-INDEX_BOUND-clause-looks : goal.returns-then-index-ge-INDEX_BOUND-clause-looks
 returns-then-index-ge-INDEX_BOUND-clause-looks g c = c.in-Ok.ensures.looks
 
-pub returns-then-index-ge-INDEX_BOUND-clause-same : goal.returns-then-index-ge-INDEX_BOUND-clause-same
-returns-then-index-ge-INDEX_BOUND-clause-same g c = c.in-Ok.ensures.same
-
 pub returns-then-index-ge-INDEX_BOUND-clause-calls : goal.returns-then-index-ge-INDEX_BOUND-clause-calls
 returns-then-index-ge-INDEX_BOUND-clause-calls g c = calls_more _ _ c.in-Ok.ensures.calls
 
-pub leaf_at-requires-clause-fits : goal.leaf_at-requires-clause-fits
-leaf_at-requires-clause-fits g c = c.in-Ok.ensures.kept_fit
-
-pub read_leaf-requires-clause-fits : goal.read_leaf-requires-clause-fits
-read_leaf-requires-clause-fits g c = c.in-Ok-leaf_at.ensures.kept_fit
-
 pub returns-in-Ok-leaf_at-clause-calls : goal.returns-in-Ok-leaf_at-clause-calls
 returns-in-Ok-leaf_at-clause-calls g c = calls_through _ _ _ _ c.in-Ok.ensures.calls c.in-Ok-leaf_at.ensures.calls c.read_leaf.ensures.calls
-
-pub returns-in-Ok-leaf_at-clause-same : goal.returns-in-Ok-leaf_at-clause-same
-returns-in-Ok-leaf_at-clause-same g c = c.read_leaf.ensures.same ∙ (c.in-Ok-leaf_at.ensures.same ∙ c.in-Ok.ensures.same)
 
 pub returns-in-Err-leaf_at-clause-limits : goal.returns-in-Err-leaf_at-clause-limits
 returns-in-Err-leaf_at-clause-limits g c = tt
 
 pub returns-in-Err-leaf_at-clause-calls : goal.returns-in-Err-leaf_at-clause-calls
 returns-in-Err-leaf_at-clause-calls g c = calls_to_leaf _ _ _ c.in-Ok.ensures.calls c.in-Err-leaf_at.ensures.calls
-
-pub returns-in-Err-leaf_at-clause-same : goal.returns-in-Err-leaf_at-clause-same
-returns-in-Err-leaf_at-clause-same g c = c.in-Err-leaf_at.ensures.same ∙ c.in-Ok.ensures.same
 
 pub returns-in-Err-clause-limits : goal.returns-in-Err-clause-limits
 returns-in-Err-clause-limits g c = no_limit quantities.Block index_bound (c.args.index + 1) c.in-Err.fault c.in-Err.ensures.limits

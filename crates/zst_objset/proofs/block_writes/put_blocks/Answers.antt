@@ -1,6 +1,6 @@
 use Rattle.std.proofs.Common.{◌∙◌, arith, length, sym}
 use Rattle.std.proofs.lemmas.Result.{err_from_is_err_and}
-use Rattle.zst_block.specs.Blocks.{Has}
+use Rattle.zst_block.specs.IoStates.{blocks_of}
 use Rattle.zst_block.proofs.BlocksLaws.{KeepsBlocks-fills}
 use Rattle.zst_block.proofs.IoCallLemmas.{Works-block, Works-then}
 use Rattle.zst_tree.specs.Damage.{NamesNode}
@@ -22,8 +22,8 @@ returns-in_err-set_all-clause-works g c =
 
 pub returns-clause-puts : goal.returns-clause-puts
 returns-clause-puts g c = λ map honest is.
-    let mid = Has (g.D.Disk.state c.write_each.new.io.disk.now).seen c.write_each.new.io.space in
-    let new = Has (g.D.Disk.state c.set_all.new.io.disk.now).seen c.set_all.new.io.space in
+    let mid = blocks_of c.write_each.new.io in
+    let new = blocks_of c.set_all.new.io in
     let so_far : AreSoFar mid c.args.number c.args.size c.args.index c.args.bytes.now c.write_each.new.into (length c.write_each.new.into) = rw c.in_ok-write_each.ensures.long c.in_ok-write_each.ensures.written in
     record {
       leaves = c.write_each.new.into;

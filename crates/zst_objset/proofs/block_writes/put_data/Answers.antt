@@ -1,4 +1,4 @@
-use Rattle.std.proofs.Common.{◌∙◌, ap}
+use Rattle.std.proofs.Common.{ap}
 use Rattle.std.proofs.lemmas.Result.{err_from_is_err_and}
 use Rattle.zst_block.specs.declared.ptr.Ptr.{Ptr}
 use Rattle.zst_block.proofs.BlocksLaws.{KeepsBlocks-fills}
@@ -13,7 +13,7 @@ use Rattle.zst_objset.proofs.block_writes.put_data.Goals as goal
 pub returns-in_err-set-clause-puts : goal.returns-in_err-set-clause-puts
 returns-in_err-set-clause-puts g c = λ map honest is.
     let p = err_from_is_err_and c.from_residual-in_err-set.result c.from_residual-in_err-set.ensures.1 in
-    rw (p.1, p.2) (c.in_err-set.ensures.puts map (with_one map c.args.index c.in_ok-block.block) honest (TreeIs-grows _ _ c.in_ok-block.ensures.kept c.args.tree map is) (Puts-one map c.args.index c.in_ok-block.block))
+    rw (p.1, p.2) (c.in_err-set.ensures.puts map (with_one map c.args.index c.in_ok-block.block) honest (TreeIs-grows _ _ (KeepsBlocks-fills _ _ _ _ c.in_ok-block.ensures.works.fills) c.args.tree map is) (Puts-one map c.args.index c.in_ok-block.block))
 
 pub returns-in_err-set-clause-works : goal.returns-in_err-set-clause-works
 returns-in_err-set-clause-works g c =
@@ -27,7 +27,7 @@ returns-clause-puts g c = λ map honest is. record {
   date = ap (λ (ptr : Ptr). ptr.number) c.in_ok-block.ensures.pointer;
   map = with_one map c.args.index c.in_ok-block.block;
   puts = Puts-one map c.args.index c.in_ok-block.block;
-  tree_is = c.in_ok-set.ensures.puts map (with_one map c.args.index c.in_ok-block.block) honest (TreeIs-grows _ _ c.in_ok-block.ensures.kept c.args.tree map is) (Puts-one map c.args.index c.in_ok-block.block);
+  tree_is = c.in_ok-set.ensures.puts map (with_one map c.args.index c.in_ok-block.block) honest (TreeIs-grows _ _ (KeepsBlocks-fills _ _ _ _ c.in_ok-block.ensures.works.fills) c.args.tree map is) (Puts-one map c.args.index c.in_ok-block.block);
 }
 
 pub returns-clause-works : goal.returns-clause-works
@@ -50,7 +50,7 @@ returns-in_err-set-clause-damaged g c = λ honest.
 pub returns-clause-dated : goal.returns-clause-dated
 returns-clause-dated g c = λ map honest is dated.
     let date : c.in_ok-block.block.number ≡ c.args.number = ap (λ (ptr : Ptr). ptr.number) c.in_ok-block.ensures.pointer in
-    c.in_ok-set.ensures.dated c.args.number map honest (TreeIs-grows _ _ c.in_ok-block.ensures.kept c.args.tree map is) dated (omega (arith, date))
+    c.in_ok-set.ensures.dated c.args.number map honest (TreeIs-grows _ _ (KeepsBlocks-fills _ _ _ _ c.in_ok-block.ensures.works.fills) c.args.tree map is) dated (omega (arith, date))
 
 pub write-requires-clause-some : goal.write-requires-clause-some
 write-requires-clause-some g c = c.requires.some
@@ -61,9 +61,6 @@ write-requires-clause-whole g c = c.requires.whole
 pub write-requires-clause-small : goal.write-requires-clause-small
 write-requires-clause-small g c = c.requires.small
 
-pub write-requires-clause-fits : goal.write-requires-clause-fits
-write-requires-clause-fits g c = c.requires.fits
-
 pub returns-in_err-block-clause-levels : goal.returns-in_err-block-clause-levels
 returns-in_err-block-clause-levels g c =
     let p = err_from_is_err_and c.from_residual.result c.from_residual.ensures.1 in
@@ -73,9 +70,6 @@ pub returns-in_err-block-clause-root : goal.returns-in_err-block-clause-root
 returns-in_err-block-clause-root g c =
     let p = err_from_is_err_and c.from_residual.result c.from_residual.ensures.1 in
     rw p.1 tt
-
-pub returns-in_err-block-clause-same : goal.returns-in_err-block-clause-same
-returns-in_err-block-clause-same g c = c.in_err-block.ensures.same
 
 pub returns-in_err-block-clause-dated : goal.returns-in_err-block-clause-dated
 returns-in_err-block-clause-dated g c = λ map honest tree dated.
@@ -88,9 +82,6 @@ set-requires-clause-levels g c = c.requires.levels
 pub set-requires-clause-index : goal.set-requires-clause-index
 set-requires-clause-index g c = c.requires.index
 
-pub set-requires-clause-fits : goal.set-requires-clause-fits
-set-requires-clause-fits g c = c.in_ok-block.ensures.works.fits
-
 pub returns-in_err-set-clause-levels : goal.returns-in_err-set-clause-levels
 returns-in_err-set-clause-levels g c =
     let p = err_from_is_err_and c.from_residual-in_err-set.result c.from_residual-in_err-set.ensures.1 in
@@ -100,9 +91,6 @@ pub returns-in_err-set-clause-root : goal.returns-in_err-set-clause-root
 returns-in_err-set-clause-root g c =
     let p = err_from_is_err_and c.from_residual-in_err-set.result c.from_residual-in_err-set.ensures.1 in
     rw p.1 tt
-
-pub returns-in_err-set-clause-same : goal.returns-in_err-set-clause-same
-returns-in_err-set-clause-same g c = c.in_err-set.ensures.same ∙ c.in_ok-block.ensures.same
 
 pub returns-in_err-set-clause-dated : goal.returns-in_err-set-clause-dated
 returns-in_err-set-clause-dated g c = λ map honest tree dated.
@@ -114,6 +102,3 @@ returns-clause-levels g c = c.in_ok-set.ensures.levels
 
 pub returns-clause-damaged : goal.returns-clause-damaged
 returns-clause-damaged g c = λ honest. tt
-
-pub returns-clause-same : goal.returns-clause-same
-returns-clause-same g c = c.in_ok-set.ensures.same ∙ c.in_ok-block.ensures.same

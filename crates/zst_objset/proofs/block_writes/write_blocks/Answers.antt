@@ -1,6 +1,7 @@
 use Rattle.std.proofs.Common.{◌≡◌, ◌≢◌, ◌∙◌, Err, Result, arith, ap, refl, sym, subst}
-use Rattle.zst_block.specs.Blocks.{Has, KeepsBlocks}
-use Rattle.zst_block.proofs.BlocksLaws.{FillsFree-then, KeepsBlocks-fills}
+use Rattle.zst_block.specs.Blocks.{KeepsBlocks}
+use Rattle.zst_block.specs.IoStates.{blocks_of}
+use Rattle.zst_block.proofs.BlocksLaws.{KeepsBlocks-fills}
 use Rattle.zst_block.proofs.IoCallLemmas.{Works-after, Works-block, Works-looks, Works-more, Works-then}
 use Rattle.zst_dnode.specs.Dnode.{DnodeFits}
 use Rattle.zst_dnode.specs.declared.dnode.Dnode.{Dnode}
@@ -9,7 +10,6 @@ use Rattle.zst_model.specs.states.DatedState.{DatedState}
 use Rattle.zst_tree.specs.Damage.{NamesNode}
 use Rattle.zst_tree.specs.Indices.{TreeIs}
 use Rattle.zst_tree.specs.declared.tree.Tree.{Tree}
-use Rattle.zst_tree.proofs.LaterDamage.{fills_looks}
 use Rattle.zst_objset.specs.Answers.{Changes}
 use Rattle.zst_objset.specs.Sets.{SetHolds}
 use Rattle.zst_objset.specs.TightSets.{SetIsTight}
@@ -25,7 +25,7 @@ use Rattle.zst_objset.proofs.block_writes.write_blocks.Goals as goal
 
 pub returns-in-Err-clause-changed : goal.returns-in-Err-clause-changed
 returns-in-Err-clause-changed g c = λ state honest holds.
-    no_blocks_there (Has (g.D.Disk.state c.object_there.new.io.disk.now).seen c.object_there.new.io.space) c.args.number c.args.object c.args.size c.args.count c.args.index c.args.bytes.now state c.in-Err.fault c.requires.some (c.in-Err.ensures.found state honest holds)
+    no_blocks_there (blocks_of c.object_there.new.io) c.args.number c.args.object c.args.size c.args.count c.args.index c.args.bytes.now state c.in-Err.fault c.requires.some (c.in-Err.ensures.found state honest holds)
 
 pub returns-in-Err-clause-damaged : goal.returns-in-Err-clause-damaged
 returns-in-Err-clause-damaged g c = λ honest.
@@ -34,14 +34,14 @@ returns-in-Err-clause-damaged g c = λ honest.
 pub returns-then-dnode-size-clause-changed : goal.returns-then-dnode-size-clause-changed
 returns-then-dnode-size-clause-changed g c = λ state honest holds.
     let differs : c.args.size ≢ c.in-Ok.dnode.block_size = omega (arith, c.if-dnode-size.true) in
-    blocks_differ (Has (g.D.Disk.state c.object_there.new.io.disk.now).seen c.object_there.new.io.space) c.args.number c.args.object c.args.size c.args.count c.args.index c.args.bytes.now state c.in-Ok.dnode (c.in-Ok.ensures.found state honest holds) holds.lawful differs c.requires.some c.requires.long
+    blocks_differ (blocks_of c.object_there.new.io) c.args.number c.args.object c.args.size c.args.count c.args.index c.args.bytes.now state c.in-Ok.dnode (c.in-Ok.ensures.found state honest holds) holds.lawful differs c.requires.some c.requires.long
 
 pub put_blocks-outcome-requires-clause-whole : goal.put_blocks-outcome-requires-clause-whole
 put_blocks-outcome-requires-clause-whole g c = block_whole _ c.requires.size
 
 pub returns-in-Err-outcome-clause-changed : goal.returns-in-Err-outcome-clause-changed
 returns-in-Err-outcome-clause-changed g c = λ state honest holds.
-    let has = Has (g.D.Disk.state c.object_there.new.io.disk.now).seen c.object_there.new.io.space in
+    let has = blocks_of c.object_there.new.io in
     let there = c.in-Ok.ensures.found state (c.in-Err-outcome.ensures.works.fills.honest honest) holds in
     let made = all_accepted has c.args.number c.args.object c.args.size c.args.count c.args.index c.args.bytes.now state c.in-Ok.dnode c.applied_is_state.ensures (is_number_at c.args.object c.requires.object c.in-Ok.ensures.bound) (omega (arith, c.if-dnode-size.false))
     c.requires.some holds.lawful holds.bounded there (may_write c.args.size c.args.index c.args.count c.args.bytes.now c.requires.long c.requires.even c.requires.inside) in
@@ -52,7 +52,7 @@ returns-in-Err-outcome-clause-damaged g c = λ honest.
     let old = g.D.Disk.state c.args.io.now.disk.now in
     let stands = c.in-Ok.ensures.stands (c.in-Err-outcome.ensures.works.fills.honest honest) in
     tree_told old c.args.io.now.space c.args.set.now NamesNode c.in-Ok.dnode stands c.in-Err-outcome.fault
-    (told_before (λ space seen. NamesNode) c.in-Ok.dnode.levels c.in-Ok.dnode.root _ _ _ _ _ _ _ c.in-Ok.ensures.looks _
+    (told_before (λ space seen. NamesNode) c.in-Ok.dnode.levels c.in-Ok.dnode.root c.in-Ok.ensures.looks _
     (rw c.tree_of.ensures at (c.in-Err-outcome.ensures.damaged honest)))
 
 pub returns-in-Err-outcome-clause-works : goal.returns-in-Err-outcome-clause-works
@@ -67,19 +67,17 @@ put_there-requires-clause-dnode g c =
 
 pub returns-clause-changed : goal.returns-clause-changed
 returns-clause-changed g c = λ state honest holds.
-    let old = g.D.Disk.state c.args.io.now.disk.now in
     let mid = g.D.Disk.state c.object_there.new.io.disk.now in
     let new = g.D.Disk.state c.put_blocks-outcome.new.io.disk.now in
-    let last = g.D.Disk.state c.put_there.new.io.disk.now in
     let was_put = c.put_there.ensures.works.fills.honest honest in
     let there = c.in-Ok.ensures.found state (c.in-Ok-outcome.ensures.works.fills.honest was_put) holds in
-    let had : TreeIs (Has mid.seen c.object_there.new.io.space) c.tree_of.result there.map = subst (λ (tree : Tree). TreeIs (Has mid.seen c.object_there.new.io.space) tree there.map) (sym c.tree_of.ensures) there.is.tree in
+    let had : TreeIs (blocks_of c.object_there.new.io) c.tree_of.result there.map = subst (λ (tree : Tree). TreeIs (blocks_of c.object_there.new.io) tree there.map) (sym c.tree_of.ensures) there.is.tree in
     let putting : KeepsBlocks mid.seen c.object_there.new.io.space new.seen c.put_blocks-outcome.new.io.space = KeepsBlocks-fills _ _ _ _ c.in-Ok-outcome.ensures.works.fills in
-    let grown = SetHolds-grows (Has old.seen c.args.io.now.space) (Has new.seen c.put_blocks-outcome.new.io.space) (keeps_on _ _ _ _ _ _ _ _ _ c.in-Ok.ensures.looks c.in-Ok-outcome.ensures.works.fills) c.args.set.now state holds in
-    let ends = blocks_end (Has new.seen c.put_blocks-outcome.new.io.space) c.args.number c.args.object c.args.size c.args.count c.args.index c.args.bytes.now state c.in-Ok.dnode _ there.map c.in-Ok-outcome.tree c.applied_is_state.ensures
-    (is_number_at c.args.object c.requires.object c.in-Ok.ensures.bound) (omega (arith, c.if-dnode-size.false)) c.requires.some (run_begins_over (Has mid.seen c.object_there.new.io.space) (Has new.seen c.put_blocks-outcome.new.io.space) putting state c.args.object c.in-Ok.dnode holds.lawful holds.bounded there)
+    let grown = SetHolds-grows (blocks_of c.args.io.now) (blocks_of c.put_blocks-outcome.new.io) (keeps_on c.in-Ok.ensures.looks c.in-Ok-outcome.ensures.works.fills) c.args.set.now state holds in
+    let ends = blocks_end (blocks_of c.put_blocks-outcome.new.io) c.args.number c.args.object c.args.size c.args.count c.args.index c.args.bytes.now state c.in-Ok.dnode _ there.map c.in-Ok-outcome.tree c.applied_is_state.ensures
+    (is_number_at c.args.object c.requires.object c.in-Ok.ensures.bound) (omega (arith, c.if-dnode-size.false)) c.requires.some (run_begins_over (blocks_of c.object_there.new.io) (blocks_of c.put_blocks-outcome.new.io) putting state c.args.object c.in-Ok.dnode holds.lawful holds.bounded there)
     (may_write c.args.size c.args.index c.args.count c.args.bytes.now c.requires.long c.requires.even c.requires.inside) (c.in-Ok-outcome.ensures.puts there.map was_put had) (c.with_tree.ensures.made ∙ ap (with_tree c.in-Ok.dnode c.in-Ok-outcome.tree) c.max-end.ensures) in
-    subst (λ (definition : Result DatedState Refusal). Changes (SetHolds (Has last.seen c.put_there.new.io.space) c.put_there.new.set) definition c.put_there.result) (sym ends.is)
+    subst (λ (definition : Result DatedState Refusal). Changes (SetHolds (blocks_of c.put_there.new.io) c.put_there.new.set) definition c.put_there.result) (sym ends.is)
     (c.put_there.ensures.changed state ends.now honest grown ends.puts)
 
 pub returns-clause-tight : goal.returns-clause-tight
@@ -87,18 +85,17 @@ returns-clause-tight g c = λ state honest tight dated.
     let old = g.D.Disk.state c.args.io.now.disk.now in
     let mid = g.D.Disk.state c.object_there.new.io.disk.now in
     let new = g.D.Disk.state c.put_blocks-outcome.new.io.disk.now in
-    let last = g.D.Disk.state c.put_there.new.io.disk.now in
     let was_put = c.put_there.ensures.works.fills.honest honest in
     let there = c.in-Ok.ensures.found state (c.in-Ok-outcome.ensures.works.fills.honest was_put) tight.holds in
-    let had : TreeIs (Has mid.seen c.object_there.new.io.space) c.tree_of.result there.map = subst (λ (tree : Tree). TreeIs (Has mid.seen c.object_there.new.io.space) tree there.map) (sym c.tree_of.ensures) there.is.tree in
+    let had : TreeIs (blocks_of c.object_there.new.io) c.tree_of.result there.map = subst (λ (tree : Tree). TreeIs (blocks_of c.object_there.new.io) tree there.map) (sym c.tree_of.ensures) there.is.tree in
     let putting : KeepsBlocks mid.seen c.object_there.new.io.space new.seen c.put_blocks-outcome.new.io.space = KeepsBlocks-fills _ _ _ _ c.in-Ok-outcome.ensures.works.fills in
-    let grown = tight_grows c.args.set.now old.seen c.args.io.now.space new.seen c.put_blocks-outcome.new.io.space state (keeps_on _ _ _ _ _ _ _ _ _ c.in-Ok.ensures.looks c.in-Ok-outcome.ensures.works.fills) tight in
+    let grown = tight_grows c.args.set.now old.seen c.args.io.now.space new.seen c.put_blocks-outcome.new.io.space state (keeps_on c.in-Ok.ensures.looks c.in-Ok-outcome.ensures.works.fills) tight in
     let was = c.in-Ok.ensures.tight state (c.in-Ok-outcome.ensures.works.fills.honest was_put) tight in
     let early = c.in-Ok-outcome.ensures.dated there.map was_put had (rw c.tree_of.ensures (tree_early c.args.number c.args.object state c.in-Ok.dnode dated was)) in
-    let ends = blocks_end (Has new.seen c.put_blocks-outcome.new.io.space) c.args.number c.args.object c.args.size c.args.count c.args.index c.args.bytes.now state c.in-Ok.dnode _ there.map c.in-Ok-outcome.tree c.applied_is_state.ensures
-    (is_number_at c.args.object c.requires.object c.in-Ok.ensures.bound) (omega (arith, c.if-dnode-size.false)) c.requires.some (run_begins_over (Has mid.seen c.object_there.new.io.space) (Has new.seen c.put_blocks-outcome.new.io.space) putting state c.args.object c.in-Ok.dnode tight.holds.lawful tight.holds.bounded there)
+    let ends = blocks_end (blocks_of c.put_blocks-outcome.new.io) c.args.number c.args.object c.args.size c.args.count c.args.index c.args.bytes.now state c.in-Ok.dnode _ there.map c.in-Ok-outcome.tree c.applied_is_state.ensures
+    (is_number_at c.args.object c.requires.object c.in-Ok.ensures.bound) (omega (arith, c.if-dnode-size.false)) c.requires.some (run_begins_over (blocks_of c.object_there.new.io) (blocks_of c.put_blocks-outcome.new.io) putting state c.args.object c.in-Ok.dnode tight.holds.lawful tight.holds.bounded there)
     (may_write c.args.size c.args.index c.args.count c.args.bytes.now c.requires.long c.requires.even c.requires.inside) (c.in-Ok-outcome.ensures.puts there.map was_put had) (c.with_tree.ensures.made ∙ ap (with_tree c.in-Ok.dnode c.in-Ok-outcome.tree) c.max-end.ensures) in
-    subst (λ (definition : Result DatedState Refusal). Changes (SetIsTight (Has last.seen c.put_there.new.io.space) c.put_there.new.set) definition c.put_there.result) (sym ends.is)
+    subst (λ (definition : Result DatedState Refusal). Changes (SetIsTight (blocks_of c.put_there.new.io) c.put_there.new.set) definition c.put_there.result) (sym ends.is)
     (c.put_there.ensures.tight state ends.now honest grown ends.puts (ends.tight dated was early))
 
 pub returns-in-Err-clause-tight : goal.returns-in-Err-clause-tight
@@ -112,17 +109,14 @@ returns-in-Err-outcome-clause-tight g c = λ state honest tight dated. returns-i
 
 pub returns-clause-damaged : goal.returns-clause-damaged
 returns-clause-damaged g c = λ honest.
-    let filled = FillsFree-then _ _ _ _ _ _ (fills_looks _ _ _ _ _ _ _ c.in-Ok.ensures.looks) c.in-Ok-outcome.ensures.works.fills in
+    let filled = (Works-after c.in-Ok.ensures.looks c.in-Ok-outcome.ensures.works).fills in
     object_told _ _ NamesNode c.args.set.now c.put_there.result (set_after _ _ _ _ filled c.args.set.now c.put_there.result (c.put_there.ensures.damaged honest))
 
 pub returns-clause-works : goal.returns-clause-works
 returns-clause-works g c = Works-after c.in-Ok.ensures.looks (Works-more (omega arith) (Works-then c.in-Ok-outcome.ensures.works (Works-block c.put_there.ensures.works)))
 
-pub object_there-requires-clause-object : goal.object_there-requires-clause-object
-object_there-requires-clause-object g c = c.requires.object
-
-pub object_there-requires-clause-fits : goal.object_there-requires-clause-fits
-object_there-requires-clause-fits g c = c.requires.fits
+pub object_there-requires : goal.object_there-requires
+object_there-requires g c = record { object = c.requires.object }
 
 pub returns-in-Err-clause-kept : goal.returns-in-Err-clause-kept
 returns-in-Err-clause-kept g c = refl
@@ -149,16 +143,7 @@ pub returns-in-Err-clause-unredacted : goal.returns-in-Err-clause-unredacted
 returns-in-Err-clause-unredacted g c = c.in-Err.ensures.unredacted
 
 pub returns-in-Err-clause-works : goal.returns-in-Err-clause-works
-returns-in-Err-clause-works g c = Works-looks c.requires.fits c.in-Err.ensures.looks
-
-pub returns-in-Err-clause-same : goal.returns-in-Err-clause-same
-returns-in-Err-clause-same g c = c.in-Err.ensures.same
-
-pub returns-then-dnode-size-clause-same : goal.returns-then-dnode-size-clause-same
-returns-then-dnode-size-clause-same g c = c.in-Ok.ensures.same
-
-pub returns-in-Err-outcome-clause-same : goal.returns-in-Err-outcome-clause-same
-returns-in-Err-outcome-clause-same g c = c.in-Err-outcome.ensures.same ∙ c.in-Ok.ensures.same
+returns-in-Err-clause-works g c = Works-looks c.in-Err.ensures.looks
 
 pub returns-in-Err-outcome-clause-limits : goal.returns-in-Err-outcome-clause-limits
 returns-in-Err-outcome-clause-limits g c = tt
@@ -166,14 +151,8 @@ returns-in-Err-outcome-clause-limits g c = tt
 pub returns-in-Err-outcome-clause-unredacted : goal.returns-in-Err-outcome-clause-unredacted
 returns-in-Err-outcome-clause-unredacted g c = tt
 
-pub put_blocks-outcome-requires-clause-fits : goal.put_blocks-outcome-requires-clause-fits
-put_blocks-outcome-requires-clause-fits g c = c.in-Ok.ensures.kept_fit
-
 pub put_there-requires-clause-object : goal.put_there-requires-clause-object
 put_there-requires-clause-object g c = (c.requires.object, c.in-Ok.ensures.bound)
-
-pub put_there-requires-clause-fits : goal.put_there-requires-clause-fits
-put_there-requires-clause-fits g c = c.in-Ok-outcome.ensures.works.fits
 
 pub returns-clause-limits : goal.returns-clause-limits
 returns-clause-limits g c = c.put_there.ensures.limits
@@ -186,6 +165,3 @@ returns-clause-kept g c = c.put_there.ensures.kept
 
 pub returns-clause-levels : goal.returns-clause-levels
 returns-clause-levels g c = c.put_there.ensures.levels
-
-pub returns-clause-same : goal.returns-clause-same
-returns-clause-same g c = c.put_there.ensures.same ∙ (c.in-Ok-outcome.ensures.same ∙ c.in-Ok.ensures.same)

@@ -1,8 +1,9 @@
 use Rattle.std.proofs.Common.{ℕ, ◌*◌, ◌/◌, ◌+◌, ◌-◌, ◌≡◌, ◌∙◌, ◌<◌, ap, refl, arith, ◌≤◌, take, drop, length, subst, List, rules}
 use Rattle.std.proofs.lemmas.Result.{err_from_is_err_and}
 use Rattle.std.proofs.Math.Nat.{mul-le-mul_right}
-use Rattle.zst_block.specs.Blocks.{Has}
+use Rattle.zst_block.specs.IoStates.{blocks_of}
 use Rattle.zst_block.specs.declared.ptr.Ptr.{Ptr}
+use Rattle.zst_block.proofs.BlocksLaws.{KeepsBlocks-fills}
 use Rattle.zst_block.proofs.IoCallLemmas.{Works-more, Works-then}
 use Rattle.zst_objset.proofs.RunLaws.{block_is, block_long, so_far_more}
 use Rattle.zst_objset.proofs.block_writes.write_each.Goals as goal
@@ -22,15 +23,13 @@ pub loop-k-preserved : goal.loop-k-preserved
 loop-k-preserved g c =
     let inside : c.loop-k.k < length c.args.into.now = omega (arith, c.loop-k-test.true, c.loop-k.invariant.long) in
     let is = sectors c.loop-k.k c.args.size (length c.args.into.now) c.args.bytes.now inside c.requires.long in
-    let new = g.D.Disk.state c.write.new.io.disk.now in
     record {
-      written = so_far_more _ (Has new.seen c.write.new.io.space) c.in_ok-ptr.ensures.kept c.args.number c.args.size c.args.index c.args.bytes.now c.loop-k.into c.loop-k.k _ (omega (arith, inside, c.loop-k.invariant.long)) c.loop-k.invariant.written
+      written = so_far_more _ (blocks_of c.write.new.io) (KeepsBlocks-fills _ _ _ _ c.in_ok-ptr.ensures.works.fills) c.args.number c.args.size c.args.index c.args.bytes.now c.loop-k.into c.loop-k.k _ (omega (arith, inside, c.loop-k.invariant.long)) c.loop-k.invariant.written
           (record {
             index_is = refl;
-            block = (ap (λ (ptr : Ptr). ptr.kind) c.in_ok-ptr.ensures.pointer, subst (Has new.seen c.write.new.io.space c.in_ok-ptr.ptr) (block_is c.loop-k.k c.args.size c.args.bytes.now) c.in_ok-ptr.ensures.wrote);
+            block = (ap (λ (ptr : Ptr). ptr.kind) c.in_ok-ptr.ensures.pointer, subst (blocks_of c.write.new.io c.in_ok-ptr.ptr) (block_is c.loop-k.k c.args.size c.args.bytes.now) c.in_ok-ptr.ensures.wrote);
             dated = ap (λ (ptr : Ptr). ptr.number) c.in_ok-ptr.ensures.pointer;
           });
       long = search rules;
       works = Works-more (omega arith) (Works-then c.loop-k.invariant.works (rw is at c.in_ok-ptr.ensures.works));
-      same = search rules;
     }

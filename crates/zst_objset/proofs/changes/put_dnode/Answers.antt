@@ -1,5 +1,5 @@
 use Rattle.std.proofs.Common.{Result, subst, sym}
-use Rattle.zst_block.specs.Blocks.{Has}
+use Rattle.zst_block.specs.IoStates.{blocks_of}
 use Rattle.zst_model.specs.declared.refusals.refusal.Refusal.{Refusal}
 use Rattle.zst_model.specs.states.DatedState.{DatedState}
 use Rattle.zst_objset.specs.Answers.{Changes}
@@ -11,18 +11,14 @@ use Rattle.zst_objset.proofs.changes.put_dnode.Goals as goal
 
 pub returns-clause-changed : goal.returns-clause-changed
 returns-clause-changed g c = λ number change state honest holds makes.
-    let old = g.D.Disk.state c.args.io.now.disk.now in
-    let new = g.D.Disk.state c.put_there.new.io.disk.now in
-    let does = makes_dnode (Has old.seen c.args.io.now.space) number c.args.object change state c.args.dnode holds.lawful holds.bounded c.applied_is_state.ensures makes in
-    subst (λ (definition : Result DatedState Refusal). Changes (SetHolds (Has new.seen c.put_there.new.io.space) c.put_there.new.set) definition c.put_there.result) (sym does.0)
+    let does = makes_dnode (blocks_of c.args.io.now) number c.args.object change state c.args.dnode holds.lawful holds.bounded c.applied_is_state.ensures makes in
+    subst (λ (definition : Result DatedState Refusal). Changes (SetHolds (blocks_of c.put_there.new.io) c.put_there.new.set) definition c.put_there.result) (sym does.0)
     (c.put_there.ensures.changed state (changed_to number c.args.object change state makes.object) honest holds does.1)
 
 pub returns-clause-tight : goal.returns-clause-tight
 returns-clause-tight g c = λ number change state honest tight makes dnode_tight.
-    let old = g.D.Disk.state c.args.io.now.disk.now in
-    let new = g.D.Disk.state c.put_there.new.io.disk.now in
-    let does = makes_dnode (Has old.seen c.args.io.now.space) number c.args.object change state c.args.dnode tight.holds.lawful tight.holds.bounded c.applied_is_state.ensures makes in
-    subst (λ (definition : Result DatedState Refusal). Changes (SetIsTight (Has new.seen c.put_there.new.io.space) c.put_there.new.set) definition c.put_there.result) (sym does.0)
+    let does = makes_dnode (blocks_of c.args.io.now) number c.args.object change state c.args.dnode tight.holds.lawful tight.holds.bounded c.applied_is_state.ensures makes in
+    subst (λ (definition : Result DatedState Refusal). Changes (SetIsTight (blocks_of c.put_there.new.io) c.put_there.new.set) definition c.put_there.result) (sym does.0)
     (c.put_there.ensures.tight state (changed_to number c.args.object change state makes.object) honest tight does.1 (change_tight number c.args.object change state makes.object c.args.dnode dnode_tight))
 
 pub put_there-requires-clause-object : goal.put_there-requires-clause-object
@@ -30,9 +26,6 @@ put_there-requires-clause-object g c = c.requires.object
 
 pub put_there-requires-clause-dnode : goal.put_there-requires-clause-dnode
 put_there-requires-clause-dnode g c = c.requires.dnode
-
-pub put_there-requires-clause-fits : goal.put_there-requires-clause-fits
-put_there-requires-clause-fits g c = c.requires.fits
 
 pub returns-clause-limits : goal.returns-clause-limits
 returns-clause-limits g c = c.put_there.ensures.limits
@@ -54,6 +47,3 @@ returns-clause-levels g c = c.put_there.ensures.levels
 
 pub returns-clause-works : goal.returns-clause-works
 returns-clause-works g c = c.put_there.ensures.works
-
-pub returns-clause-same : goal.returns-clause-same
-returns-clause-same g c = c.put_there.ensures.same

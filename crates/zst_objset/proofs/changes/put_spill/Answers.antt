@@ -1,7 +1,8 @@
 use Rattle.std.proofs.Common.{refl, ◌≡◌, arith, ap, subst, sym, ◌∙◌, true}
-use Rattle.zst_block.specs.Blocks.{Has, KeepsBlocks}
+use Rattle.zst_block.specs.Blocks.{KeepsBlocks}
+use Rattle.zst_block.specs.IoStates.{blocks_of}
 use Rattle.zst_block.specs.declared.ptr.Ptr.{Ptr}
-use Rattle.zst_block.proofs.BlocksLaws.{FillsFree-then, KeepsBlocks-fills}
+use Rattle.zst_block.proofs.BlocksLaws.{KeepsBlocks-fills}
 use Rattle.zst_block.proofs.IoCallLemmas.{Works-looks, Works-after, Works-block, Works-more, Works-then}
 use Rattle.zst_model.specs.declared.states.item.Change.TheVariants.{Spill}
 use Rattle.zst_model.specs.states.State.{is_spill_size}
@@ -10,7 +11,6 @@ use Rattle.zst_dnode.specs.Dnode.{DnodeFits}
 use Rattle.zst_dnode.specs.declared.dnode.Dnode.{Dnode}
 use Rattle.zst_objset.proofs.LeafLaws.{is_number_at, keeps_on}
 use Rattle.zst_objset.proofs.SetGrowth.{IsThere-grows, SetHolds-grows}
-use Rattle.zst_tree.proofs.LaterDamage.{fills_looks}
 use Rattle.zst_objset.proofs.DamageLaws.{set_after, set_spared}
 use Rattle.std.proofs.Common.{inl, ◌≤◌}
 use Rattle.zst_dnode.specs.declared.slot.Slot.TheVariants.{There}
@@ -29,7 +29,7 @@ write-requires-clause-small g c = spill_small _ c.requires.spill
 
 pub returns-in-Err-clause-changed : goal.returns-in-Err-clause-changed
 returns-in-Err-clause-changed g c = λ state honest holds.
-    change_not_there (Has (g.D.Disk.state c.object_there.new.io.disk.now).seen c.object_there.new.io.space) c.args.number c.args.object (Spill c.args.bytes.now) state c.in-Err.fault (no_spill c.args.bytes.now) (c.in-Err.ensures.found state honest holds)
+    change_not_there (blocks_of c.object_there.new.io) c.args.number c.args.object (Spill c.args.bytes.now) state c.in-Err.fault (no_spill c.args.bytes.now) (c.in-Err.ensures.found state honest holds)
 
 pub returns-in-Err-write-clause-changed : goal.returns-in-Err-write-clause-changed
 returns-in-Err-write-clause-changed g c = λ state honest holds.
@@ -47,13 +47,12 @@ returns-clause-changed g c = λ state honest holds.
     let was_written = c.put_dnode.ensures.works.fills.honest honest in
     let wrote = c.in-Ok-write.ensures in
     let there = c.in-Ok.ensures.found state (wrote.works.fills.honest was_written) holds in
-    let old = g.D.Disk.state c.args.io.now.disk.now in
     let mid = g.D.Disk.state c.object_there.new.io.disk.now in
     let new = g.D.Disk.state c.write.new.io.disk.now in
-    let has = Has new.seen c.write.new.io.space in
+    let has = blocks_of c.write.new.io in
     let writing : KeepsBlocks mid.seen c.object_there.new.io.space new.seen c.write.new.io.space = KeepsBlocks-fills _ _ _ _ wrote.works.fills in
-    let grown = SetHolds-grows (Has old.seen c.args.io.now.space) has (keeps_on _ _ _ _ _ _ _ _ _ c.in-Ok.ensures.looks wrote.works.fills) c.args.set.now state holds in
-    let here = IsThere-grows (Has mid.seen c.object_there.new.io.space) has writing state c.args.object c.in-Ok.dnode there in
+    let grown = SetHolds-grows (blocks_of c.args.io.now) has (keeps_on c.in-Ok.ensures.looks wrote.works.fills) c.args.set.now state holds in
+    let here = IsThere-grows (blocks_of c.object_there.new.io) has writing state c.args.object c.in-Ok.dnode there in
     let kind = ap (λ (ptr : Ptr). ptr.kind) wrote.pointer in
     let size : is_spill_size c.in-Ok-write.ptr.length ≡ true = ap (λ (ptr : Ptr). is_spill_size ptr.length) wrote.pointer ∙ c.requires.spill in
     let made = c.with_spill.ensures in
@@ -74,7 +73,7 @@ returns-in-Err-clause-damaged g c = λ honest. set_spared _ _ _ c.args.set.now D
 
 pub returns-clause-damaged : goal.returns-clause-damaged
 returns-clause-damaged g c = λ honest.
-    let filled = FillsFree-then _ _ _ _ _ _ (fills_looks _ _ _ _ _ _ _ c.in-Ok.ensures.looks) c.in-Ok-write.ensures.works.fills in
+    let filled = (Works-after c.in-Ok.ensures.looks c.in-Ok-write.ensures.works).fills in
     set_after _ _ _ _ filled c.args.set.now c.put_dnode.result (c.put_dnode.ensures.damaged honest)
 
 pub returns-in-Err-clause-tight : goal.returns-in-Err-clause-tight
@@ -91,10 +90,10 @@ returns-clause-tight g c = λ state honest tight dated.
     let old = g.D.Disk.state c.args.io.now.disk.now in
     let mid = g.D.Disk.state c.object_there.new.io.disk.now in
     let new = g.D.Disk.state c.write.new.io.disk.now in
-    let has = Has new.seen c.write.new.io.space in
+    let has = blocks_of c.write.new.io in
     let writing : KeepsBlocks mid.seen c.object_there.new.io.space new.seen c.write.new.io.space = KeepsBlocks-fills _ _ _ _ wrote.works.fills in
-    let grown = tight_grows c.args.set.now old.seen c.args.io.now.space new.seen c.write.new.io.space state (keeps_on _ _ _ _ _ _ _ _ _ c.in-Ok.ensures.looks wrote.works.fills) tight in
-    let here = IsThere-grows (Has mid.seen c.object_there.new.io.space) has writing state c.args.object c.in-Ok.dnode there in
+    let grown = tight_grows c.args.set.now old.seen c.args.io.now.space new.seen c.write.new.io.space state (keeps_on c.in-Ok.ensures.looks wrote.works.fills) tight in
+    let here = IsThere-grows (blocks_of c.object_there.new.io) has writing state c.args.object c.in-Ok.dnode there in
     let kind = ap (λ (ptr : Ptr). ptr.kind) wrote.pointer in
     let size : is_spill_size c.in-Ok-write.ptr.length ≡ true = ap (λ (ptr : Ptr). is_spill_size ptr.length) wrote.pointer ∙ c.requires.spill in
     let made = c.with_spill.ensures in
@@ -105,11 +104,8 @@ returns-clause-tight g c = λ state honest tight dated.
     let early = subst (λ (dnode : Dnode). date_in (There dnode) ≤ c.args.number) (sym made.made) (omega (arith, was)) in
     c.put_dnode.ensures.tight c.args.number (Spill c.args.bytes.now) state honest grown makes (inl early)
 
-pub object_there-requires-clause-object : goal.object_there-requires-clause-object
-object_there-requires-clause-object g c = c.requires.object
-
-pub object_there-requires-clause-fits : goal.object_there-requires-clause-fits
-object_there-requires-clause-fits g c = c.requires.fits
+pub object_there-requires : goal.object_there-requires
+object_there-requires g c = record { object = c.requires.object }
 
 pub returns-in-Err-clause-limits : goal.returns-in-Err-clause-limits
 returns-in-Err-clause-limits g c = c.in-Err.ensures.limits
@@ -124,13 +120,7 @@ pub returns-in-Err-clause-levels : goal.returns-in-Err-clause-levels
 returns-in-Err-clause-levels g c = tt
 
 pub returns-in-Err-clause-works : goal.returns-in-Err-clause-works
-returns-in-Err-clause-works g c = Works-looks c.requires.fits c.in-Err.ensures.looks
-
-pub returns-in-Err-clause-same : goal.returns-in-Err-clause-same
-returns-in-Err-clause-same g c = c.in-Err.ensures.same
-
-pub write-requires-clause-fits : goal.write-requires-clause-fits
-write-requires-clause-fits g c = c.in-Ok.ensures.kept_fit
+returns-in-Err-clause-works g c = Works-looks c.in-Err.ensures.looks
 
 pub returns-in-Err-write-clause-limits : goal.returns-in-Err-write-clause-limits
 returns-in-Err-write-clause-limits g c = tt
@@ -144,14 +134,8 @@ returns-in-Err-write-clause-kept g c = refl
 pub returns-in-Err-write-clause-levels : goal.returns-in-Err-write-clause-levels
 returns-in-Err-write-clause-levels g c = tt
 
-pub returns-in-Err-write-clause-same : goal.returns-in-Err-write-clause-same
-returns-in-Err-write-clause-same g c = c.in-Err-write.ensures.same ∙ c.in-Ok.ensures.same
-
 pub put_dnode-requires-clause-object : goal.put_dnode-requires-clause-object
 put_dnode-requires-clause-object g c = (c.requires.object, c.in-Ok.ensures.bound)
-
-pub put_dnode-requires-clause-fits : goal.put_dnode-requires-clause-fits
-put_dnode-requires-clause-fits g c = c.in-Ok-write.ensures.works.fits
 
 pub returns-clause-limits : goal.returns-clause-limits
 returns-clause-limits g c = c.put_dnode.ensures.limits
@@ -164,6 +148,3 @@ returns-clause-kept g c = c.put_dnode.ensures.kept
 
 pub returns-clause-levels : goal.returns-clause-levels
 returns-clause-levels g c = c.put_dnode.ensures.levels
-
-pub returns-clause-same : goal.returns-clause-same
-returns-clause-same g c = c.put_dnode.ensures.same ∙ (c.in-Ok-write.ensures.same ∙ c.in-Ok.ensures.same)

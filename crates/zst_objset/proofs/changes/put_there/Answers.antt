@@ -26,9 +26,6 @@ put_in_leaf-requires-clause-first g c = c.requires.object.0
 pub put_in_leaf-requires-clause-slot : goal.put_in_leaf-requires-clause-slot
 put_in_leaf-requires-clause-slot g c = c.requires.dnode
 
-pub put_in_leaf-requires-clause-fits : goal.put_in_leaf-requires-clause-fits
-put_in_leaf-requires-clause-fits g c = c.requires.fits
-
 pub returns-in-Ok-clause-limits : goal.returns-in-Ok-clause-limits
 returns-in-Ok-clause-limits g c = tt
 
@@ -50,9 +47,6 @@ returns-in-Ok-clause-levels g c = c.in-Ok.ensures.levels
 pub returns-in-Ok-clause-works : goal.returns-in-Ok-clause-works
 returns-in-Ok-clause-works g c = c.in-Ok.ensures.works
 
-pub returns-in-Ok-clause-same : goal.returns-in-Ok-clause-same
-returns-in-Ok-clause-same g c = c.in-Ok.ensures.same
-
 pub returns-in-Err-clause-limits : goal.returns-in-Err-clause-limits
 returns-in-Err-clause-limits g c = tt
 
@@ -73,6 +67,3 @@ returns-in-Err-clause-levels g c = tt
 
 pub returns-in-Err-clause-works : goal.returns-in-Err-clause-works
 returns-in-Err-clause-works g c = c.in-Err.ensures.works
-
-pub returns-in-Err-clause-same : goal.returns-in-Err-clause-same
-returns-in-Err-clause-same g c = c.in-Err.ensures.same

@@ -1,7 +1,7 @@
 use Rattle.zst_objset.proofs.FreeLaws.{freed_puts}
 use Rattle.zst_objset.proofs.TightLaws.{freed_tight}
 use Rattle.std.proofs.Common.{subst, sym}
-use Rattle.zst_block.specs.Blocks.{Has}
+use Rattle.zst_block.specs.IoStates.{blocks_of}
 use Rattle.zst_objset.specs.TightSets.{SetIsTight}
 use Rattle.zst_objset.proofs.FreeLaws.{freed-none}
 use Rattle.zst_objset.proofs.freed_numbers.free_in_leaf.Goals as goal
@@ -20,4 +20,4 @@ returns-clause-tight g c = λ state honest tight.
 
 pub returns-then-first-below-clause-tight : goal.returns-then-first-below-clause-tight
 returns-then-first-below-clause-tight g c = λ state honest tight.
-    subst (SetIsTight (Has (g.D.Disk.state c.args.io.now.disk.now).seen c.args.io.now.space) c.args.set) (sym (freed-none c.args.number c.args.first c.args.below state c.if-first-below.true)) tight
+    subst (SetIsTight (blocks_of c.args.io.now) c.args.set) (sym (freed-none c.args.number c.args.first c.args.below state c.if-first-below.true)) tight

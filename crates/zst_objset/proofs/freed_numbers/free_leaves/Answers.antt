@@ -7,7 +7,7 @@ use Rattle.std.proofs.Common.{refl}
 use Rattle.zst_objset.proofs.DamageLaws.{changed_within}
 use Rattle.zst_objset.proofs.TightLaws.{holes_tight}
 use Rattle.std.proofs.Common.{subst, sym}
-use Rattle.zst_block.specs.Blocks.{Has}
+use Rattle.zst_block.specs.IoStates.{blocks_of}
 use Rattle.zst_objset.specs.TightSets.{SetIsTight}
 use Rattle.zst_objset.proofs.FreeLaws.{freed-none}
 use Rattle.zst_objset.proofs.freed_numbers.free_leaves.Goals as goal
@@ -45,16 +45,13 @@ returns-clause-tight g c = λ state honest tight.
 
 pub returns-then-first-below-clause-tight : goal.returns-then-first-below-clause-tight
 returns-then-first-below-clause-tight g c = λ state honest tight.
-    subst (SetIsTight (Has (g.D.Disk.state c.args.io.now.disk.now).seen c.args.io.now.space) c.args.set) (sym (freed-none c.args.number (16 * c.args.first) (16 * c.args.below) state (omega (arith, c.if-first-below.true)))) tight
+    subst (SetIsTight (blocks_of c.args.io.now) c.args.set) (sym (freed-none c.args.number (16 * c.args.first) (16 * c.args.below) state (omega (arith, c.if-first-below.true)))) tight
 
 pub returns-then-first-below-clause-damaged : goal.returns-then-first-below-clause-damaged
 returns-then-first-below-clause-damaged g c = λ honest. tt
 
 pub returns-then-first-below-clause-levels : goal.returns-then-first-below-clause-levels
 returns-then-first-below-clause-levels g c = λ fits. fits
-
-pub returns-then-first-below-clause-same : goal.returns-then-first-below-clause-same
-returns-then-first-below-clause-same g c = refl
 
 pub returns-then-set-gt7-clause-tight : goal.returns-then-set-gt7-clause-tight
 returns-then-set-gt7-clause-tight g c = λ state honest tight. tt
@@ -64,12 +61,6 @@ returns-then-set-gt7-clause-within g c = λ honest. tt
 
 pub returns-then-set-gt7-clause-levels : goal.returns-then-set-gt7-clause-levels
 returns-then-set-gt7-clause-levels g c = λ fits. tt
-
-pub returns-then-set-gt7-clause-same : goal.returns-then-set-gt7-clause-same
-returns-then-set-gt7-clause-same g c = refl
-
-pub punch-requires-clause-fits : goal.punch-requires-clause-fits
-punch-requires-clause-fits g c = c.requires.fits
 
 pub returns-in_err-punch-clause-tight : goal.returns-in_err-punch-clause-tight
 returns-in_err-punch-clause-tight g c = λ state honest tight.
@@ -91,9 +82,6 @@ returns-in_err-punch-clause-works g c =
     let p = err_from_is_err_and c.from_residual.result c.from_residual.ensures.1 in
     rw (p.1, p.2) c.in_err-punch.ensures.works
 
-pub returns-in_err-punch-clause-same : goal.returns-in_err-punch-clause-same
-returns-in_err-punch-clause-same g c = c.in_err-punch.ensures.same
-
 pub returns-clause-damaged : goal.returns-clause-damaged
 returns-clause-damaged g c = λ honest. tt
 
@@ -102,6 +90,3 @@ returns-clause-works g c = c.in_ok-punch.ensures.works
 
 pub returns-clause-levels : goal.returns-clause-levels
 returns-clause-levels g c = λ fits. c.set_over.ensures.fits
-
-pub returns-clause-same : goal.returns-clause-same
-returns-clause-same g c = c.in_ok-punch.ensures.same

@@ -37,14 +37,8 @@ returns-then-saturating_add-gt-NUMBER_BOUND-clause-kept g c = refl
 pub returns-then-saturating_add-gt-NUMBER_BOUND-clause-levels : goal.returns-then-saturating_add-gt-NUMBER_BOUND-clause-levels
 returns-then-saturating_add-gt-NUMBER_BOUND-clause-levels g c = λ fits. fits
 
-pub returns-then-saturating_add-gt-NUMBER_BOUND-clause-same : goal.returns-then-saturating_add-gt-NUMBER_BOUND-clause-same
-returns-then-saturating_add-gt-NUMBER_BOUND-clause-same g c = refl
-
 pub free_range-requires-clause-first : goal.free_range-requires-clause-first
 free_range-requires-clause-first g c = c.requires.first
-
-pub free_range-requires-clause-fits : goal.free_range-requires-clause-fits
-free_range-requires-clause-fits g c = c.requires.fits
 
 pub returns-in-Ok-clause-limits : goal.returns-in-Ok-clause-limits
 returns-in-Ok-clause-limits g c = tt
@@ -64,9 +58,6 @@ returns-in-Ok-clause-levels g c = c.in-Ok.ensures.levels
 pub returns-in-Ok-clause-works : goal.returns-in-Ok-clause-works
 returns-in-Ok-clause-works g c = Works-more (omega arith) c.in-Ok.ensures.works
 
-pub returns-in-Ok-clause-same : goal.returns-in-Ok-clause-same
-returns-in-Ok-clause-same g c = c.in-Ok.ensures.same
-
 pub returns-in-Err-clause-limits : goal.returns-in-Err-clause-limits
 returns-in-Err-clause-limits g c = tt
 
@@ -84,6 +75,3 @@ returns-in-Err-clause-levels g c = λ fits. fits
 
 pub returns-in-Err-clause-works : goal.returns-in-Err-clause-works
 returns-in-Err-clause-works g c = Works-more (omega arith) c.in-Err.ensures.works
-
-pub returns-in-Err-clause-same : goal.returns-in-Err-clause-same
-returns-in-Err-clause-same g c = c.in-Err.ensures.same

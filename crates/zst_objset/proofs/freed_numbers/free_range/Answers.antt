@@ -1,7 +1,6 @@
-use Rattle.std.proofs.Common.{◌∙◌, ◌*◌, ◌/◌, arith, subst}
+use Rattle.std.proofs.Common.{◌*◌, ◌/◌, arith, subst}
 use Rattle.std.proofs.lemmas.Result.{err_from_is_err_and}
-use Rattle.zst_block.specs.Blocks.{Has}
-use Rattle.zst_block.proofs.BlocksLaws.{FillsFree-then}
+use Rattle.zst_block.specs.IoStates.{blocks_of}
 use Rattle.zst_block.proofs.IoCallLemmas.{Works-more, Works-then}
 use Rattle.zst_model.specs.states.DatedState.{DatedState}
 use Rattle.zst_tree.specs.Indices.{Delivers}
@@ -33,7 +32,7 @@ returns-clause-frees g c = λ state honest holds.
     let was_made = c.free_in_leaf-3.ensures.works.fills.honest honest in
     let begun = c.in_ok-begun.ensures.frees state (c.in_ok-made.ensures.works.fills.honest was_made) holds in
     let made = c.in_ok-made.ensures.frees _ was_made begun in
-    subst (λ (after : DatedState). Delivers (λ set. SetHolds (Has (g.D.Disk.state c.free_in_leaf-3.new.io.disk.now).seen c.free_in_leaf-3.new.io.space) set after) c.free_in_leaf-3.result)
+    subst (λ (after : DatedState). Delivers (λ set. SetHolds (blocks_of c.free_in_leaf-3.new.io) set after) c.free_in_leaf-3.result)
     (freed-parts c.args.number c.args.first (16 * c.div_ceil-whole.result) (16 * (c.args.below / 16)) c.args.below state (omega arith) (omega arith) (omega arith))
     (c.free_in_leaf-3.ensures.frees _ honest made)
 
@@ -51,7 +50,7 @@ returns-clause-damaged g c = λ honest.
     let begun = c.in_ok-begun.ensures in
     let made = c.in_ok-made.ensures in
     let was_made = c.free_in_leaf-3.ensures.works.fills.honest honest in
-    let filled = FillsFree-then _ _ _ _ _ _ begun.works.fills made.works.fills in
+    let filled = (Works-then begun.works made.works).fills in
     let within = set_within _ _ _ c.args.set _ c.in_ok-begun.begun _ c.in_ok-made.made begun.works.fills.size (begun.within (made.works.fills.honest was_made)) (made.within was_made) in
     result_within _ _ _ c.args.set _ c.in_ok-made.made filled.size within c.free_in_leaf-3.result (c.free_in_leaf-3.ensures.damaged honest)
 
@@ -60,7 +59,7 @@ returns-clause-tight g c = λ state honest tight.
     let was_made = c.free_in_leaf-3.ensures.works.fills.honest honest in
     let begun = c.in_ok-begun.ensures.tight state (c.in_ok-made.ensures.works.fills.honest was_made) tight in
     let made = c.in_ok-made.ensures.tight _ was_made begun in
-    subst (λ (after : DatedState). IfOk c.free_in_leaf-3.result (λ set. SetIsTight (Has (g.D.Disk.state c.free_in_leaf-3.new.io.disk.now).seen c.free_in_leaf-3.new.io.space) set after))
+    subst (λ (after : DatedState). IfOk c.free_in_leaf-3.result (λ set. SetIsTight (blocks_of c.free_in_leaf-3.new.io) set after))
     (freed-parts c.args.number c.args.first (16 * c.div_ceil-whole.result) (16 * (c.args.below / 16)) c.args.below state (omega arith) (omega arith) (omega arith))
     (c.free_in_leaf-3.ensures.tight _ honest made)
 
@@ -72,9 +71,6 @@ free_in_leaf-requires-clause-order g c = c.requires.order
 
 pub free_in_leaf-requires-clause-bound : goal.free_in_leaf-requires-clause-bound
 free_in_leaf-requires-clause-bound g c = c.requires.bound
-
-pub free_in_leaf-requires-clause-fits : goal.free_in_leaf-requires-clause-fits
-free_in_leaf-requires-clause-fits g c = c.requires.fits
 
 pub returns-then-last-whole-clause-frees : goal.returns-then-last-whole-clause-frees
 returns-then-last-whole-clause-frees g c = c.free_in_leaf.ensures.frees
@@ -88,17 +84,11 @@ returns-then-last-whole-clause-damaged g c = c.free_in_leaf.ensures.damaged
 pub returns-then-last-whole-clause-levels : goal.returns-then-last-whole-clause-levels
 returns-then-last-whole-clause-levels g c = c.free_in_leaf.ensures.levels
 
-pub returns-then-last-whole-clause-same : goal.returns-then-last-whole-clause-same
-returns-then-last-whole-clause-same g c = c.free_in_leaf.ensures.same
-
 pub returns-then-last-whole-clause-works : goal.returns-then-last-whole-clause-works
 returns-then-last-whole-clause-works g c = Works-more (omega arith) c.free_in_leaf.ensures.works
 
 pub free_in_leaf-requires-2-clause-first : goal.free_in_leaf-requires-2-clause-first
 free_in_leaf-requires-2-clause-first g c = c.requires.first
-
-pub free_in_leaf-requires-2-clause-fits : goal.free_in_leaf-requires-2-clause-fits
-free_in_leaf-requires-2-clause-fits g c = c.requires.fits
 
 pub returns-in_err-begun-clause-tight : goal.returns-in_err-begun-clause-tight
 returns-in_err-begun-clause-tight g c = λ state honest tight.
@@ -120,12 +110,6 @@ returns-in_err-begun-clause-works g c =
     let p = err_from_is_err_and c.from_residual.result c.from_residual.ensures.1 in
     rw (p.1, p.2) (Works-more (omega arith) c.in_err-begun.ensures.works)
 
-pub returns-in_err-begun-clause-same : goal.returns-in_err-begun-clause-same
-returns-in_err-begun-clause-same g c = c.in_err-begun.ensures.same
-
-pub free_leaves-requires-clause-fits : goal.free_leaves-requires-clause-fits
-free_leaves-requires-clause-fits g c = c.in_ok-begun.ensures.works.fits
-
 pub returns-in_err-made-clause-tight : goal.returns-in_err-made-clause-tight
 returns-in_err-made-clause-tight g c = λ state honest tight.
     let p = err_from_is_err_and c.from_residual-in_err-made.result c.from_residual-in_err-made.ensures.1 in
@@ -136,14 +120,5 @@ returns-in_err-made-clause-levels g c = λ fits.
     let p = err_from_is_err_and c.from_residual-in_err-made.result c.from_residual-in_err-made.ensures.1 in
     rw p.1 tt
 
-pub returns-in_err-made-clause-same : goal.returns-in_err-made-clause-same
-returns-in_err-made-clause-same g c = c.in_err-made.ensures.same ∙ c.in_ok-begun.ensures.same
-
-pub free_in_leaf-requires-3-clause-fits : goal.free_in_leaf-requires-3-clause-fits
-free_in_leaf-requires-3-clause-fits g c = c.in_ok-made.ensures.works.fits
-
 pub free_in_leaf-requires-3-clause-bound : goal.free_in_leaf-requires-3-clause-bound
 free_in_leaf-requires-3-clause-bound g c = c.requires.bound
-
-pub returns-clause-same : goal.returns-clause-same
-returns-clause-same g c = c.free_in_leaf-3.ensures.same ∙ (c.in_ok-made.ensures.same ∙ c.in_ok-begun.ensures.same)

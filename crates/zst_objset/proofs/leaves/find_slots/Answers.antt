@@ -1,7 +1,8 @@
-use Rattle.std.proofs.Common.{◌∙◌, refl, subst, sym, ℕ, List}
+use Rattle.std.proofs.Common.{subst, sym, ℕ, List}
 use Rattle.std.proofs.lemmas.Result.{err_from_is_err_and}
 use Rattle.zst_space.specs.FreeSectors.{FreeSectors}
 use Rattle.zst_block.specs.Blocks.{Has}
+use Rattle.zst_block.specs.IoStates.{blocks_of}
 use Rattle.zst_block.specs.declared.ptr.Ptr.{Ptr}
 use Rattle.zst_objset.specs.Sets.{HasSlots, LeafIs}
 use Rattle.zst_objset.proofs.LeafLaws.{calls_then, look_on, look_back, within_one_more}
@@ -20,27 +21,27 @@ returns-in_err-load_slots-clause-slots g c = λ snap honest holds.
     let p = err_from_is_err_and c.from_residual-in_err-load_slots.result c.from_residual-in_err-load_slots.ensures.1 in
     let found = c.in_ok-was.ensures in
     let same = found.shows holds.map (c.load_slots.ensures.looks.reads.honest honest) holds.tree in
-    let leaf = look_on (λ (seen : List ℕ) (space : FreeSectors). LeafIs (Has seen space) snap c.args.leaf c.in_ok-was.was') _ _ _ _ _ _ _ found.looks
-    (subst (λ (ptr : Ptr). LeafIs (Has (g.D.Disk.state c.args.io.now.disk.now).seen c.args.io.now.space) snap c.args.leaf ptr) (sym same) (holds.leaves c.args.leaf c.requires.leaf)) in
+    let leaf = look_on (λ (seen : List ℕ) (space : FreeSectors). LeafIs (Has seen space) snap c.args.leaf c.in_ok-was.was') found.looks
+    (subst (λ (ptr : Ptr). LeafIs (blocks_of c.args.io.now) snap c.args.leaf ptr) (sym same) (holds.leaves c.args.leaf c.requires.leaf)) in
     rw (p.1, p.2) (c.in_err-load_slots.ensures.slots snap honest leaf)
 
 pub returns-clause-slots : goal.returns-clause-slots
 returns-clause-slots g c = λ snap honest holds.
     let found = c.in_ok-was.ensures in
     let same = found.shows holds.map (c.load_slots.ensures.looks.reads.honest honest) holds.tree in
-    let leaf = look_on (λ (seen : List ℕ) (space : FreeSectors). LeafIs (Has seen space) snap c.args.leaf c.in_ok-was.was') _ _ _ _ _ _ _ found.looks
-    (subst (λ (ptr : Ptr). LeafIs (Has (g.D.Disk.state c.args.io.now.disk.now).seen c.args.io.now.space) snap c.args.leaf ptr) (sym same) (holds.leaves c.args.leaf c.requires.leaf)) in
-    look_back (λ (seen : List ℕ) (space : FreeSectors). HasSlots (Has seen space) snap c.args.leaf c.load_slots.new.io.node) _ _ _ _ _ _ _ found.looks
+    let leaf = look_on (λ (seen : List ℕ) (space : FreeSectors). LeafIs (Has seen space) snap c.args.leaf c.in_ok-was.was') found.looks
+    (subst (λ (ptr : Ptr). LeafIs (blocks_of c.args.io.now) snap c.args.leaf ptr) (sym same) (holds.leaves c.args.leaf c.requires.leaf)) in
+    look_back (λ (seen : List ℕ) (space : FreeSectors). HasSlots (Has seen space) snap c.args.leaf c.load_slots.new.io.node) found.looks
     (c.in_ok-load_slots.ensures.slots snap honest leaf)
 
 pub returns-clause-tight : goal.returns-clause-tight
 returns-clause-tight g c = λ snap honest tight.
     let found = c.in_ok-was.ensures in
-    let has = Has (g.D.Disk.state c.args.io.now.disk.now).seen c.args.io.now.space in
+    let has = blocks_of c.args.io.now in
     let same = found.shows tight.holds.map (c.load_slots.ensures.looks.reads.honest honest) tight.holds.tree in
-    let leaf = look_on (λ (seen : List ℕ) (space : FreeSectors). LeafIs (Has seen space) snap c.args.leaf c.in_ok-was.was') _ _ _ _ _ _ _ found.looks
+    let leaf = look_on (λ (seen : List ℕ) (space : FreeSectors). LeafIs (Has seen space) snap c.args.leaf c.in_ok-was.was') found.looks
     (subst (λ (ptr : Ptr). LeafIs has snap c.args.leaf ptr) (sym same) (tight.holds.leaves c.args.leaf c.requires.leaf)) in
-    let leaf_tight = look_on (λ (seen : List ℕ) (space : FreeSectors). IsTightLeaf (Has seen space) snap c.args.leaf c.in_ok-was.was') _ _ _ _ _ _ _ found.looks
+    let leaf_tight = look_on (λ (seen : List ℕ) (space : FreeSectors). IsTightLeaf (Has seen space) snap c.args.leaf c.in_ok-was.was') found.looks
     (subst (λ (ptr : Ptr). IsTightLeaf has snap c.args.leaf ptr) (sym same) (tight.tight c.args.leaf c.requires.leaf)) in
     loaded_tight _ _ snap c.args.leaf c.in_ok-was.was' _ leaf leaf_tight (c.in_ok-load_slots.ensures.slots snap honest leaf) (c.in_ok-load_slots.ensures.loaded honest)
 
@@ -56,23 +57,11 @@ returns-then-set-gt7-clause-loaded g c = λ honest. tt
 pub returns-then-set-gt7-clause-tight : goal.returns-then-set-gt7-clause-tight
 returns-then-set-gt7-clause-tight g c = λ snap honest tight. tt
 
-pub returns-then-set-gt7-clause-kept_fit : goal.returns-then-set-gt7-clause-kept_fit
-returns-then-set-gt7-clause-kept_fit g c = c.requires.fits
-
-pub returns-then-set-gt7-clause-same : goal.returns-then-set-gt7-clause-same
-returns-then-set-gt7-clause-same g c = refl
-
 pub leaf_at-requires-clause-index : goal.leaf_at-requires-clause-index
 leaf_at-requires-clause-index g c = c.requires.leaf
 
-pub leaf_at-requires-clause-fits : goal.leaf_at-requires-clause-fits
-leaf_at-requires-clause-fits g c = c.requires.fits
-
-pub load_slots-requires-clause-leaf : goal.load_slots-requires-clause-leaf
-load_slots-requires-clause-leaf g c = c.requires.leaf
-
-pub load_slots-requires-clause-fits : goal.load_slots-requires-clause-fits
-load_slots-requires-clause-fits g c = c.in_ok-was.ensures.kept_fit
+pub load_slots-requires : goal.load_slots-requires
+load_slots-requires g c = record { leaf = c.requires.leaf }
 
 pub returns-in_err-was-clause-levels : goal.returns-in_err-was-clause-levels
 returns-in_err-was-clause-levels g c =
@@ -119,12 +108,6 @@ returns-in_err-was-clause-looks g c =
     let p = err_from_is_err_and c.from_residual.result c.from_residual.ensures.1 in
     rw (p.1, p.2) c.in_err-was.ensures.looks
 
-pub returns-in_err-was-clause-kept_fit : goal.returns-in_err-was-clause-kept_fit
-returns-in_err-was-clause-kept_fit g c = c.in_err-was.ensures.kept_fit
-
-pub returns-in_err-was-clause-same : goal.returns-in_err-was-clause-same
-returns-in_err-was-clause-same g c = c.in_err-was.ensures.same
-
 pub returns-in_err-was-clause-calls : goal.returns-in_err-was-clause-calls
 returns-in_err-was-clause-calls g c = within_one_more _ _ c.in_err-was.ensures.calls
 
@@ -136,12 +119,6 @@ returns-in_err-load_slots-clause-looks g c =
 pub returns-in_err-load_slots-clause-calls : goal.returns-in_err-load_slots-clause-calls
 returns-in_err-load_slots-clause-calls g c = calls_then _ _ _ c.in_ok-was.ensures.calls c.in_err-load_slots.ensures.calls
 
-pub returns-in_err-load_slots-clause-kept_fit : goal.returns-in_err-load_slots-clause-kept_fit
-returns-in_err-load_slots-clause-kept_fit g c = c.in_err-load_slots.ensures.kept_fit
-
-pub returns-in_err-load_slots-clause-same : goal.returns-in_err-load_slots-clause-same
-returns-in_err-load_slots-clause-same g c = c.in_err-load_slots.ensures.same ∙ c.in_ok-was.ensures.same
-
 pub returns-clause-damaged : goal.returns-clause-damaged
 returns-clause-damaged g c = λ honest. tt
 
@@ -150,12 +127,6 @@ returns-clause-looks g c = Looks-then c.in_ok-was.ensures.looks c.in_ok-load_slo
 
 pub returns-clause-calls : goal.returns-clause-calls
 returns-clause-calls g c = calls_then _ _ _ c.in_ok-was.ensures.calls c.in_ok-load_slots.ensures.calls
-
-pub returns-clause-kept_fit : goal.returns-clause-kept_fit
-returns-clause-kept_fit g c = c.in_ok-load_slots.ensures.kept_fit
-
-pub returns-clause-same : goal.returns-clause-same
-returns-clause-same g c = c.in_ok-load_slots.ensures.same ∙ c.in_ok-was.ensures.same
 
 pub returns-clause-hangs : goal.returns-clause-hangs
 returns-clause-hangs g c = λ honest. c.in_ok-was.ensures.hangs (c.in_ok-load_slots.ensures.looks.reads.honest honest)

@@ -1,6 +1,6 @@
 use Rattle.zst_block.proofs.IoCallLemmas.{Looks-none}
-use Rattle.std.proofs.Common.{refl, ◌≡◌, inl, arith, subst, sym, ℕ}
-use Rattle.zst_block.specs.Blocks.{Has}
+use Rattle.std.proofs.Common.{◌≡◌, inl, arith, subst, sym, ℕ}
+use Rattle.zst_block.specs.IoStates.{blocks_of}
 use Rattle.zst_objset.specs.Dnodes.{outside}
 use Rattle.zst_objset.specs.Sets.{HasSlots, HasSlotsIn, LeafIn, LeafIs}
 use Rattle.zst_objset.proofs.DamageLaws.{AreAbsent-all, AreAbsent-first}
@@ -10,7 +10,7 @@ use Rattle.zst_objset.proofs.leaves.load_slots.Goals as goal
 
 pub returns-then-leaf-eq0-clause-slots : goal.returns-then-leaf-eq0-clause-slots
 returns-then-leaf-eq0-clause-slots g c = λ snap honest is.
-    let has = Has (g.D.Disk.state c.args.io.now.disk.now).seen c.args.io.now.space in
+    let has = blocks_of c.args.io.now in
     let all = c.put_slots.ensures in
     let first = c.put_slots-then-leaf-eq0.ensures in
     let zero_is : c.args.leaf ≡ 0 = omega arith in
@@ -38,35 +38,17 @@ returns-then-ptr-ne0-clause-looks g c = c.load.ensures.looks
 pub returns-then-ptr-ne0-clause-calls : goal.returns-then-ptr-ne0-clause-calls
 returns-then-ptr-ne0-clause-calls g c = c.load.ensures.calls
 
-pub returns-then-ptr-ne0-clause-kept_fit : goal.returns-then-ptr-ne0-clause-kept_fit
-returns-then-ptr-ne0-clause-kept_fit g c = c.load.ensures.kept_fit
-
-pub returns-then-ptr-ne0-clause-same : goal.returns-then-ptr-ne0-clause-same
-returns-then-ptr-ne0-clause-same g c = c.load.ensures.same
-
 pub returns-then-leaf-eq0-clause-damaged : goal.returns-then-leaf-eq0-clause-damaged
 returns-then-leaf-eq0-clause-damaged g c = λ honest. tt
 
 pub returns-then-leaf-eq0-clause-looks : goal.returns-then-leaf-eq0-clause-looks
-returns-then-leaf-eq0-clause-looks g c = Looks-none _ _ _
-
-pub returns-then-leaf-eq0-clause-kept_fit : goal.returns-then-leaf-eq0-clause-kept_fit
-returns-then-leaf-eq0-clause-kept_fit g c = c.requires.fits
-
-pub returns-then-leaf-eq0-clause-same : goal.returns-then-leaf-eq0-clause-same
-returns-then-leaf-eq0-clause-same g c = refl
+returns-then-leaf-eq0-clause-looks g c = Looks-none _
 
 pub returns-else-leaf-eq0-clause-damaged : goal.returns-else-leaf-eq0-clause-damaged
 returns-else-leaf-eq0-clause-damaged g c = λ honest. tt
 
 pub returns-else-leaf-eq0-clause-looks : goal.returns-else-leaf-eq0-clause-looks
-returns-else-leaf-eq0-clause-looks g c = Looks-none _ _ _
-
-pub returns-else-leaf-eq0-clause-kept_fit : goal.returns-else-leaf-eq0-clause-kept_fit
-returns-else-leaf-eq0-clause-kept_fit g c = c.requires.fits
-
-pub returns-else-leaf-eq0-clause-same : goal.returns-else-leaf-eq0-clause-same
-returns-else-leaf-eq0-clause-same g c = refl
+returns-else-leaf-eq0-clause-looks g c = Looks-none _
 
 pub returns-then-leaf-eq0-clause-calls : goal.returns-then-leaf-eq0-clause-calls
 returns-then-leaf-eq0-clause-calls g c = same_calls _
@@ -74,12 +56,9 @@ returns-then-leaf-eq0-clause-calls g c = same_calls _
 pub returns-else-leaf-eq0-clause-calls : goal.returns-else-leaf-eq0-clause-calls
 returns-else-leaf-eq0-clause-calls g c = same_calls _
 
-pub load-requires : goal.load-requires
-load-requires g c = record { fits = c.requires.fits }
-
 pub returns-then-leaf-eq0-clause-slots_in : goal.returns-then-leaf-eq0-clause-slots_in
 returns-then-leaf-eq0-clause-slots_in g c = λ snap pairs honest is.
-    let has = Has (g.D.Disk.state c.args.io.now.disk.now).seen c.args.io.now.space in
+    let has = blocks_of c.args.io.now in
     let all = c.put_slots.ensures in
     let first = c.put_slots-then-leaf-eq0.ensures in
     let zero_is : c.args.leaf ≡ 0 = omega arith in

@@ -1,5 +1,4 @@
 use Rattle.std.proofs.lemmas.Result.{err_from_is_err_and}
-use Rattle.std.proofs.Common.{refl}
 use Rattle.zst_objset.proofs.leaves.save_slots.Goals as goal
 
 pub returns-in-None-clause-names : goal.returns-in-None-clause-names
@@ -29,9 +28,6 @@ returns-in-None-clause-wrote g c = tt
 pub returns-in-None-clause-some : goal.returns-in-None-clause-some
 returns-in-None-clause-some g c = tt
 
-pub returns-in-None-clause-same : goal.returns-in-None-clause-same
-returns-in-None-clause-same g c = refl
-
 pub returns-in_ok-ptr-in-Some-clause-damaged : goal.returns-in_ok-ptr-in-Some-clause-damaged
 returns-in_ok-ptr-in-Some-clause-damaged g c = tt
 
@@ -40,11 +36,5 @@ returns-in_err-ptr-in-Some-clause-works g c =
     let p = err_from_is_err_and c.from_residual.result c.from_residual.ensures.1 in
     rw (p.1, p.2) c.in_err-ptr-in-Some.ensures.works
 
-pub returns-in_err-ptr-in-Some-clause-same : goal.returns-in_err-ptr-in-Some-clause-same
-returns-in_err-ptr-in-Some-clause-same g c = c.in_err-ptr-in-Some.ensures.same
-
 pub returns-in_ok-ptr-in-Some-clause-works : goal.returns-in_ok-ptr-in-Some-clause-works
 returns-in_ok-ptr-in-Some-clause-works g c = c.in_ok-ptr-in-Some.ensures.works
-
-pub returns-in_ok-ptr-in-Some-clause-same : goal.returns-in_ok-ptr-in-Some-clause-same
-returns-in_ok-ptr-in-Some-clause-same g c = c.in_ok-ptr-in-Some.ensures.same

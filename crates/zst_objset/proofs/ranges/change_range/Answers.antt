@@ -1,7 +1,6 @@
-use Rattle.std.proofs.Common.{◌+◌, ◌∙◌, arith, sym}
+use Rattle.std.proofs.Common.{◌+◌, arith, sym}
 use Rattle.std.proofs.lemmas.Result.{err_from_is_err_and}
-use Rattle.zst_block.specs.Blocks.{Has}
-use Rattle.zst_block.proofs.BlocksLaws.{FillsFree-then}
+use Rattle.zst_block.specs.IoStates.{blocks_of}
 use Rattle.zst_block.proofs.IoCallLemmas.{Works-after, Works-looks, Works-more, Works-then}
 use Rattle.zst_objset.specs.Ranges.{IsRightNode, change_of}
 use Rattle.zst_objset.proofs.IndicesChanged.{Changes-indices, change_refused, in_range, indices_not_there, past_indices}
@@ -12,7 +11,6 @@ use Rattle.zst_objset.proofs.SpillLaws.{stops}
 use Rattle.std.proofs.Common.{Err}
 use Rattle.zst_dnode.specs.declared.dnode.Dnode.{Dnode}
 use Rattle.zst_block.specs.Blocks.{SparesTaken}
-use Rattle.zst_tree.proofs.LaterDamage.{fills_looks}
 use Rattle.zst_objset.proofs.DamageLaws.{told_before, object_told, set_after, set_spared, tree_told}
 use Rattle.zst_model.specs.states.State.{index_bound}
 use Rattle.zst_model.specs.declared.refusals.faults.Quantity.TheVariants as quantities
@@ -24,7 +22,7 @@ use Rattle.zst_objset.proofs.ranges.change_range.Goals as goal
 pub returns-in_err-dnode-clause-changed : goal.returns-in_err-dnode-clause-changed
 returns-in_err-dnode-clause-changed g c = λ state honest holds.
     let p = err_from_is_err_and c.from_residual.result c.from_residual.ensures.1 in
-    rw (p.1, p.2) (indices_not_there c.args.number c.args.object (c.args.first + c.args.count) (change_of c.args.change c.args.first c.args.count (state.state c.args.object)) state (Has (g.D.Disk.state c.object_there.new.io.disk.now).seen c.object_there.new.io.space) _ (no_change c.args.change _ _ _) (c.in_err-dnode.ensures.found state honest holds))
+    rw (p.1, p.2) (indices_not_there c.args.number c.args.object (c.args.first + c.args.count) (change_of c.args.change c.args.first c.args.count (state.state c.args.object)) state (blocks_of c.object_there.new.io) _ (no_change c.args.change _ _ _) (c.in_err-dnode.ensures.found state honest holds))
 
 pub returns-in_err-check_change-clause-changed : goal.returns-in_err-check_change-clause-changed
 returns-in_err-check_change-clause-changed g c = λ state honest holds.
@@ -58,13 +56,11 @@ returns-clause-works g c = Works-after c.in_ok-dnode.ensures.looks (Works-more (
 
 pub returns-clause-changed : goal.returns-clause-changed
 returns-clause-changed g c = λ state honest holds.
-    let old = g.D.Disk.state c.args.io.now.disk.now in
-    let new = g.D.Disk.state c.range_changed.new.io.disk.now in
     let made = c.in_ok-made.ensures in
     let was_made = c.put_dnode.ensures.works.fills.honest honest in
     let there = c.in_ok-dnode.ensures.found state (made.works.fills.honest was_made) holds in
     let number = is_number_at c.args.object (omega arith) (omega (arith, c.in_ok-dnode.ensures.bound)) in
-    let grown = SetHolds-grows (Has old.seen c.args.io.now.space) (Has new.seen c.range_changed.new.io.space) (keeps_on _ _ _ _ _ _ _ _ _ c.in_ok-dnode.ensures.looks made.works.fills) c.args.set.now state holds in
+    let grown = SetHolds-grows (blocks_of c.args.io.now) (blocks_of c.range_changed.new.io) (keeps_on c.in_ok-dnode.ensures.looks made.works.fills) c.args.set.now state holds in
     Changes-indices (c.args.first + c.args.count) _ _ _ c.in_ok-check_range.ensures.inside
     (c.put_dnode.ensures.changed c.args.number (change_of c.args.change c.args.first c.args.count (state.state c.args.object)) state honest grown (made.made c.args.object state was_made number holds.lawful there))
 
@@ -79,12 +75,12 @@ returns-in_err-made-clause-damaged g c = λ honest.
     let old = g.D.Disk.state c.args.io.now.disk.now in
     let stands = c.in_ok-dnode.ensures.stands (c.in_err-made.ensures.works.fills.honest honest) in
     rw (p.1, p.2) (tree_told old c.args.io.now.space c.args.set.now (IsRightNode c.args.change (SparesTaken c.args.io.now.space old.seen)) c.in_ok-dnode.dnode stands _
-    (told_before (λ space seen. IsRightNode c.args.change (SparesTaken space seen)) c.in_ok-dnode.dnode.levels c.in_ok-dnode.dnode.root _ _ _ _ _ _ _ c.in_ok-dnode.ensures.looks _
+    (told_before (λ space seen. IsRightNode c.args.change (SparesTaken space seen)) c.in_ok-dnode.dnode.levels c.in_ok-dnode.dnode.root c.in_ok-dnode.ensures.looks _
     (c.in_err-made.ensures.damaged honest)))
 
 pub returns-clause-damaged : goal.returns-clause-damaged
 returns-clause-damaged g c = λ honest.
-    let filled = FillsFree-then _ _ _ _ _ _ (fills_looks _ _ _ _ _ _ _ c.in_ok-dnode.ensures.looks) c.in_ok-made.ensures.works.fills in
+    let filled = (Works-after c.in_ok-dnode.ensures.looks c.in_ok-made.ensures.works).fills in
     object_told _ _ _ c.args.set.now c.put_dnode.result (set_after _ _ _ _ filled c.args.set.now c.put_dnode.result (c.put_dnode.ensures.damaged honest))
 
 pub returns-in_err-dnode-clause-limits : goal.returns-in_err-dnode-clause-limits
@@ -133,7 +129,7 @@ returns-clause-tight g c = λ state honest tight dated.
     let was_made = c.put_dnode.ensures.works.fills.honest honest in
     let there = c.in_ok-dnode.ensures.found state (made.works.fills.honest was_made) tight.holds in
     let number = is_number_at c.args.object (omega arith) (omega (arith, c.in_ok-dnode.ensures.bound)) in
-    let grown = tight_grows c.args.set.now old.seen c.args.io.now.space new.seen c.range_changed.new.io.space state (keeps_on _ _ _ _ _ _ _ _ _ c.in_ok-dnode.ensures.looks made.works.fills) tight in
+    let grown = tight_grows c.args.set.now old.seen c.args.io.now.space new.seen c.range_changed.new.io.space state (keeps_on c.in_ok-dnode.ensures.looks made.works.fills) tight in
     let was = c.in_ok-dnode.ensures.tight state (made.works.fills.honest was_made) tight in
     Changes-indices (c.args.first + c.args.count) _ _ _ c.in_ok-check_range.ensures.inside
     (c.put_dnode.ensures.tight c.args.number (change_of c.args.change c.args.first c.args.count (state.state c.args.object)) state honest grown (made.made c.args.object state was_made number tight.holds.lawful there)
@@ -149,11 +145,8 @@ returns-in_err-check_range-clause-unredacted g c =
     let p = err_from_is_err_and c.from_residual-in_err-check_range.result c.from_residual-in_err-check_range.ensures.1 in
     rw (p.1, p.2) c.in_err-check_range.ensures.unredacted
 
-pub object_there-requires-clause-object : goal.object_there-requires-clause-object
-object_there-requires-clause-object g c = c.requires.object
-
-pub object_there-requires-clause-fits : goal.object_there-requires-clause-fits
-object_there-requires-clause-fits g c = c.requires.fits
+pub object_there-requires : goal.object_there-requires
+object_there-requires g c = record { object = c.requires.object }
 
 pub returns-in_err-dnode-clause-kept : goal.returns-in_err-dnode-clause-kept
 returns-in_err-dnode-clause-kept g c =
@@ -195,26 +188,20 @@ returns-in_err-made-clause-levels g c =
     let p = err_from_is_err_and c.from_residual-in_err-made.result c.from_residual-in_err-made.ensures.1 in
     rw p.1 tt
 
-pub returns-in_err-check_change-clause-same : goal.returns-in_err-check_change-clause-same
-returns-in_err-check_change-clause-same g c = c.in_ok-dnode.ensures.same
-
 pub returns-in_err-check_change-clause-works : goal.returns-in_err-check_change-clause-works
 returns-in_err-check_change-clause-works g c =
     let p = err_from_is_err_and c.from_residual-in_err-check_change.result c.from_residual-in_err-check_change.ensures.1 in
-    rw (p.1, p.2) (Works-looks c.requires.fits c.in_ok-dnode.ensures.looks)
+    rw (p.1, p.2) (Works-looks c.in_ok-dnode.ensures.looks)
 
 pub returns-in_err-check_change-clause-damaged : goal.returns-in_err-check_change-clause-damaged
 returns-in_err-check_change-clause-damaged g c = λ honest.
     let p = err_from_is_err_and c.from_residual-in_err-check_change.result c.from_residual-in_err-check_change.ensures.1 in
     rw (p.1, p.2) tt
 
-pub returns-in_err-check_range-clause-same : goal.returns-in_err-check_range-clause-same
-returns-in_err-check_range-clause-same g c = c.in_ok-dnode.ensures.same
-
 pub returns-in_err-check_range-clause-works : goal.returns-in_err-check_range-clause-works
 returns-in_err-check_range-clause-works g c =
     let p = err_from_is_err_and c.from_residual-in_err-check_range.result c.from_residual-in_err-check_range.ensures.1 in
-    rw (p.1, p.2, c.in_err-check_range.ensures.past.0) (Works-looks c.requires.fits c.in_ok-dnode.ensures.looks)
+    rw (p.1, p.2, c.in_err-check_range.ensures.past.0) (Works-looks c.in_ok-dnode.ensures.looks)
 
 pub returns-in_err-check_range-clause-damaged : goal.returns-in_err-check_range-clause-damaged
 returns-in_err-check_range-clause-damaged g c = λ honest.
@@ -229,13 +216,7 @@ returns-in_err-check_change-clause-limits g c =
 pub returns-in_err-dnode-clause-works : goal.returns-in_err-dnode-clause-works
 returns-in_err-dnode-clause-works g c =
     let p = err_from_is_err_and c.from_residual.result c.from_residual.ensures.1 in
-    rw (p.1, p.2) (Works-looks c.requires.fits c.in_err-dnode.ensures.looks)
-
-pub returns-in_err-dnode-clause-same : goal.returns-in_err-dnode-clause-same
-returns-in_err-dnode-clause-same g c = c.in_err-dnode.ensures.same
-
-pub returns-in_err-made-clause-same : goal.returns-in_err-made-clause-same
-returns-in_err-made-clause-same g c = c.in_err-made.ensures.same ∙ c.in_ok-dnode.ensures.same
+    rw (p.1, p.2) (Works-looks c.in_err-dnode.ensures.looks)
 
 pub returns-in_err-made-clause-limits : goal.returns-in_err-made-clause-limits
 returns-in_err-made-clause-limits g c =
@@ -256,17 +237,11 @@ range_changed-requires-clause-checked g c = sym c.in_ok-check_change.ensures
 pub range_changed-requires-clause-range : goal.range_changed-requires-clause-range
 range_changed-requires-clause-range g c = c.in_ok-check_range.ensures.inside
 
-pub range_changed-requires-clause-fits : goal.range_changed-requires-clause-fits
-range_changed-requires-clause-fits g c = c.in_ok-dnode.ensures.kept_fit
-
 pub put_dnode-requires-clause-object : goal.put_dnode-requires-clause-object
 put_dnode-requires-clause-object g c = (c.requires.object, c.in_ok-dnode.ensures.bound)
 
 pub put_dnode-requires-clause-dnode : goal.put_dnode-requires-clause-dnode
 put_dnode-requires-clause-dnode g c = c.in_ok-made.ensures.fits
-
-pub put_dnode-requires-clause-fits : goal.put_dnode-requires-clause-fits
-put_dnode-requires-clause-fits g c = c.in_ok-made.ensures.works.fits
 
 pub returns-clause-unredacted : goal.returns-clause-unredacted
 returns-clause-unredacted g c = c.put_dnode.ensures.unredacted
@@ -276,6 +251,3 @@ returns-clause-kept g c = c.put_dnode.ensures.kept
 
 pub returns-clause-levels : goal.returns-clause-levels
 returns-clause-levels g c = c.put_dnode.ensures.levels
-
-pub returns-clause-same : goal.returns-clause-same
-returns-clause-same g c = c.put_dnode.ensures.same ∙ (c.in_ok-made.ensures.same ∙ c.in_ok-dnode.ensures.same)

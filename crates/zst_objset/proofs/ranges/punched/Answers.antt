@@ -1,6 +1,7 @@
-use Rattle.std.proofs.Common.{◌∙◌, ℕ, List, ap, sym, subst, if◌then◌else◌, Bool}
+use Rattle.std.proofs.Common.{ℕ, List, ap, sym, subst, if◌then◌else◌, Bool}
 use Rattle.std.proofs.lemmas.Result.{err_from_is_err_and}
 use Rattle.zst_block.specs.Blocks.{Has}
+use Rattle.zst_block.specs.IoStates.{blocks_of}
 use Rattle.zst_block.specs.Ptr.{hole_of}
 use Rattle.zst_block.proofs.IoCallLemmas.{Works-looks, Works-after}
 use Rattle.zst_dnode.specs.declared.dnode.Dnode.{Dnode}
@@ -37,8 +38,8 @@ returns-in_err-end-clause-made g c = λ k state honest number lawful there.
 pub returns-in_err-punch-clause-made : goal.returns-in_err-punch-clause-made
 returns-in_err-punch-clause-made g c = λ k state honest number lawful there.
     let p = err_from_is_err_and c.from_residual-in_err-punch.result c.from_residual-in_err-punch.ensures.1 in
-    let had : TreeIs (Has (g.D.Disk.state c.args.io.now.disk.now).seen c.args.io.now.space) c.tree_of-tree.result there.map = tree_is _ c.args.dnode _ there.map c.tree_of-tree.ensures there.is.tree in
-    let tree = look_on (λ (seen : List ℕ) (space : FreeSectors). TreeIs (Has seen space) c.tree_of-tree.result there.map) _ _ _ _ _ _ _ c.in_ok-end.ensures.looks had in
+    let had : TreeIs (blocks_of c.args.io.now) c.tree_of-tree.result there.map = tree_is _ c.args.dnode _ there.map c.tree_of-tree.ensures there.is.tree in
+    let tree = look_on (λ (seen : List ℕ) (space : FreeSectors). TreeIs (Has seen space) c.tree_of-tree.result there.map) c.in_ok-end.ensures.looks had in
     rw (p.1, p.2) (c.in_err-punch.ensures.puts there.map _ honest tree (Puts-range c.args.first c.count_in_tree.result (hole_of c.args.number) there.map))
 
 pub returns-in_err-punch-clause-works : goal.returns-in_err-punch-clause-works
@@ -57,12 +58,10 @@ returns-clause-fits g c =
 
 pub returns-clause-made : goal.returns-clause-made
 returns-clause-made g c = λ k state honest number lawful there.
-    let old = g.D.Disk.state c.args.io.now.disk.now in
-    let new = g.D.Disk.state c.punch.new.io.disk.now in
-    let had : TreeIs (Has old.seen c.args.io.now.space) c.tree_of-tree.result there.map = tree_is _ c.args.dnode _ there.map c.tree_of-tree.ensures there.is.tree in
-    let tree = look_on (λ (seen : List ℕ) (space : FreeSectors). TreeIs (Has seen space) c.tree_of-tree.result there.map) _ _ _ _ _ _ _ c.in_ok-end.ensures.looks had in
-    let has = Has new.seen c.punch.new.io.space in
-    let is = ObjectIs-grows (Has old.seen c.args.io.now.space) has (keeps_on _ _ _ _ _ _ _ _ _ c.in_ok-end.ensures.looks c.in_ok-punch.ensures.works.fills) c.args.dnode there.object (state.number_date k) (state.index_date k) there.map there.is in
+    let had : TreeIs (blocks_of c.args.io.now) c.tree_of-tree.result there.map = tree_is _ c.args.dnode _ there.map c.tree_of-tree.ensures there.is.tree in
+    let tree = look_on (λ (seen : List ℕ) (space : FreeSectors). TreeIs (Has seen space) c.tree_of-tree.result there.map) c.in_ok-end.ensures.looks had in
+    let has = blocks_of c.punch.new.io in
+    let is = ObjectIs-grows (blocks_of c.args.io.now) has (keeps_on c.in_ok-end.ensures.looks c.in_ok-punch.ensures.works.fills) c.args.dnode there.object (state.number_date k) (state.index_date k) there.map there.is in
     let object = object_of (state.state k) there.object there.there (lawful.objects k) in
     let put = put_range c.args.first c.count_in_tree.result (hole_of c.args.number) there.map in
     subst (λ (dnode : Dnode). MakesDnode has c.args.number k (free_of c.args.first c.args.count (state.state k)) state dnode) (sym c.with_tree.ensures.made)
@@ -85,16 +84,15 @@ returns-in_err-punch-clause-damaged g c = λ honest.
     let p = err_from_is_err_and c.from_residual-in_err-punch.result c.from_residual-in_err-punch.ensures.1 in
     let old = g.D.Disk.state c.args.io.now.disk.now in
     rw (p.1, p.2) (TellsNode-sums (SparesTaken c.args.io.now.space old.seen) old.size c.args.dnode.levels c.args.dnode.root _
-    (told_before (λ space seen. NamesNode) c.args.dnode.levels c.args.dnode.root _ _ _ _ _ _ _ c.in_ok-end.ensures.looks _
+    (told_before (λ space seen. NamesNode) c.args.dnode.levels c.args.dnode.root c.in_ok-end.ensures.looks _
     (rw c.tree_of-tree.ensures at (c.in_err-punch.ensures.damaged honest))))
 
 pub returns-clause-tight : goal.returns-clause-tight
 returns-clause-tight g c = λ k state honest number lawful there dated tight.
-    let old = g.D.Disk.state c.args.io.now.disk.now in
-    let had : TreeIs (Has old.seen c.args.io.now.space) c.tree_of-tree.result there.map = tree_is _ c.args.dnode _ there.map c.tree_of-tree.ensures there.is.tree in
-    let tree = look_on (λ (seen : List ℕ) (space : FreeSectors). TreeIs (Has seen space) c.tree_of-tree.result there.map) _ _ _ _ _ _ _ c.in_ok-end.ensures.looks had in
+    let had : TreeIs (blocks_of c.args.io.now) c.tree_of-tree.result there.map = tree_is _ c.args.dnode _ there.map c.tree_of-tree.ensures there.is.tree in
+    let tree = look_on (λ (seen : List ℕ) (space : FreeSectors). TreeIs (Has seen space) c.tree_of-tree.result there.map) c.in_ok-end.ensures.looks had in
     let object = object_of (state.state k) there.object there.there (lawful.objects k) in
-    let fills = Fills-free (Has old.seen c.args.io.now.space) c.args.number k c.args.first c.args.count state there.object there.there object number in
+    let fills = Fills-free (blocks_of c.args.io.now) c.args.number k c.args.first c.args.count state there.object there.there object number in
     subst (IsTightDnode c.args.number k (free_of c.args.first c.args.count (state.state k)) state) (sym c.with_tree.ensures.made)
     (range_tight c.args.number k (free_of c.args.first c.args.count (state.state k)) state c.args.dnode (with_tree c.args.dnode c.punch.new.self c.in_ok-end.end) dated tight c.args.first c.args.count refl fills.dates c.requires.range
     (λ bound early some. c.in_ok-punch.ensures.dated bound there.map honest tree (rw c.tree_of-tree.ensures early)
@@ -109,9 +107,6 @@ end_punched-requires-clause-levels g c = c.requires.dnode.levels
 pub end_punched-requires-clause-range : goal.end_punched-requires-clause-range
 end_punched-requires-clause-range g c = c.requires.range
 
-pub end_punched-requires-clause-fits : goal.end_punched-requires-clause-fits
-end_punched-requires-clause-fits g c = c.requires.fits
-
 pub returns-in_err-end-clause-tight : goal.returns-in_err-end-clause-tight
 returns-in_err-end-clause-tight g c = λ k state honest number lawful there dated tight.
     let p = err_from_is_err_and c.from_residual.result c.from_residual.ensures.1 in
@@ -125,13 +120,7 @@ returns-in_err-end-clause-fits g c =
 pub returns-in_err-end-clause-works : goal.returns-in_err-end-clause-works
 returns-in_err-end-clause-works g c =
     let p = err_from_is_err_and c.from_residual.result c.from_residual.ensures.1 in
-    rw (p.1, p.2) (Works-looks c.requires.fits c.in_err-end.ensures.looks)
-
-pub returns-in_err-end-clause-same : goal.returns-in_err-end-clause-same
-returns-in_err-end-clause-same g c = c.in_err-end.ensures.same
-
-pub punch-requires-clause-fits : goal.punch-requires-clause-fits
-punch-requires-clause-fits g c = c.in_ok-end.ensures.kept_fit
+    rw (p.1, p.2) (Works-looks c.in_err-end.ensures.looks)
 
 pub returns-in_err-punch-clause-tight : goal.returns-in_err-punch-clause-tight
 returns-in_err-punch-clause-tight g c = λ k state honest number lawful there dated tight.
@@ -143,11 +132,5 @@ returns-in_err-punch-clause-fits g c =
     let p = err_from_is_err_and c.from_residual-in_err-punch.result c.from_residual-in_err-punch.ensures.1 in
     rw p.1 tt
 
-pub returns-in_err-punch-clause-same : goal.returns-in_err-punch-clause-same
-returns-in_err-punch-clause-same g c = c.in_err-punch.ensures.same ∙ c.in_ok-end.ensures.same
-
 pub returns-clause-damaged : goal.returns-clause-damaged
 returns-clause-damaged g c = λ honest. tt
-
-pub returns-clause-same : goal.returns-clause-same
-returns-clause-same g c = c.in_ok-punch.ensures.same ∙ c.in_ok-end.ensures.same

@@ -6,9 +6,6 @@ punched-requires-clause-dnode g c = c.requires.dnode
 pub punched-requires-clause-range : goal.punched-requires-clause-range
 punched-requires-clause-range g c = c.requires.range
 
-pub punched-requires-clause-fits : goal.punched-requires-clause-fits
-punched-requires-clause-fits g c = c.requires.fits
-
 pub returns-in-Punch-clause-made : goal.returns-in-Punch-clause-made
 returns-in-Punch-clause-made g c = rw c.in-Punch.is c.punched.ensures.made
 
@@ -24,17 +21,11 @@ returns-in-Punch-clause-fits g c = c.punched.ensures.fits
 pub returns-in-Punch-clause-works : goal.returns-in-Punch-clause-works
 returns-in-Punch-clause-works g c = c.punched.ensures.works
 
-pub returns-in-Punch-clause-same : goal.returns-in-Punch-clause-same
-returns-in-Punch-clause-same g c = c.punched.ensures.same
-
 pub redacted-requires-clause-dnode : goal.redacted-requires-clause-dnode
 redacted-requires-clause-dnode g c = c.requires.dnode
 
 pub redacted-requires-clause-range : goal.redacted-requires-clause-range
 redacted-requires-clause-range g c = c.requires.range
-
-pub redacted-requires-clause-fits : goal.redacted-requires-clause-fits
-redacted-requires-clause-fits g c = c.requires.fits
 
 pub returns-in-Redact-clause-made : goal.returns-in-Redact-clause-made
 returns-in-Redact-clause-made g c = rw c.in-Redact.is c.redacted.ensures.made
@@ -50,9 +41,6 @@ returns-in-Redact-clause-fits g c = c.redacted.ensures.fits
 
 pub returns-in-Redact-clause-works : goal.returns-in-Redact-clause-works
 returns-in-Redact-clause-works g c = c.redacted.ensures.works
-
-pub returns-in-Redact-clause-same : goal.returns-in-Redact-clause-same
-returns-in-Redact-clause-same g c = c.redacted.ensures.same
 
 pub redacted-requires-clause-checked : goal.redacted-requires-clause-checked
 redacted-requires-clause-checked g c = rw c.in-Redact.is at c.requires.checked

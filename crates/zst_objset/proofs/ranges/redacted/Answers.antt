@@ -1,6 +1,6 @@
 use Rattle.std.proofs.Common.{refl, sym, subst}
 use Rattle.std.proofs.lemmas.Result.{err_from_is_err_and}
-use Rattle.zst_block.specs.Blocks.{Has}
+use Rattle.zst_block.specs.IoStates.{blocks_of}
 use Rattle.zst_block.specs.Ptr.{redacted_of}
 use Rattle.zst_block.proofs.BlocksLaws.{KeepsBlocks-fills}
 use Rattle.zst_dnode.specs.declared.dnode.Dnode.{Dnode}
@@ -24,8 +24,7 @@ use Rattle.zst_objset.proofs.ranges.redacted.Goals as goal
 pub returns-in_err-redact-clause-made : goal.returns-in_err-redact-clause-made
 returns-in_err-redact-clause-made g c = λ k state honest number lawful there.
     let p = err_from_is_err_and c.from_residual.result c.from_residual.ensures.1 in
-    let old = g.D.Disk.state c.args.io.now.disk.now in
-    let tree : TreeIs (Has old.seen c.args.io.now.space) c.tree_of-tree.result there.map = tree_is _ c.args.dnode _ there.map c.tree_of-tree.ensures there.is.tree in
+    let tree : TreeIs (blocks_of c.args.io.now) c.tree_of-tree.result there.map = tree_is _ c.args.dnode _ there.map c.tree_of-tree.ensures there.is.tree in
     rw (p.1, p.2) (c.in_err-redact.ensures.puts there.map _ honest tree (Puts-range c.args.first c.args.count (redacted_of c.args.number) there.map))
 
 pub returns-clause-fits : goal.returns-clause-fits
@@ -42,9 +41,9 @@ pub returns-clause-made : goal.returns-clause-made
 returns-clause-made g c = λ k state honest number lawful there.
     let old = g.D.Disk.state c.args.io.now.disk.now in
     let new = g.D.Disk.state c.redact.new.io.disk.now in
-    let has = Has new.seen c.redact.new.io.space in
-    let tree : TreeIs (Has old.seen c.args.io.now.space) c.tree_of-tree.result there.map = tree_is _ c.args.dnode _ there.map c.tree_of-tree.ensures there.is.tree in
-    let is = ObjectIs-grows (Has old.seen c.args.io.now.space) has (KeepsBlocks-fills old new c.args.io.now.space c.redact.new.io.space c.in_ok-redact.ensures.works.fills) c.args.dnode there.object (state.number_date k) (state.index_date k) there.map there.is in
+    let has = blocks_of c.redact.new.io in
+    let tree : TreeIs (blocks_of c.args.io.now) c.tree_of-tree.result there.map = tree_is _ c.args.dnode _ there.map c.tree_of-tree.ensures there.is.tree in
+    let is = ObjectIs-grows (blocks_of c.args.io.now) has (KeepsBlocks-fills old new c.args.io.now.space c.redact.new.io.space c.in_ok-redact.ensures.works.fills) c.args.dnode there.object (state.number_date k) (state.index_date k) there.map there.is in
     let object = object_of (state.state k) there.object there.there (lawful.objects k) in
     let put = put_range c.args.first c.args.count (redacted_of c.args.number) there.map in
     subst (λ (dnode : Dnode). MakesDnode has c.args.number k (redact_of c.args.first c.args.count (state.state k)) state dnode) (sym c.with_tree.ensures.made)
@@ -59,10 +58,9 @@ returns-clause-made g c = λ k state honest number lawful there.
 
 pub returns-clause-tight : goal.returns-clause-tight
 returns-clause-tight g c = λ k state honest number lawful there dated tight.
-    let old = g.D.Disk.state c.args.io.now.disk.now in
-    let tree : TreeIs (Has old.seen c.args.io.now.space) c.tree_of-tree.result there.map = tree_is _ c.args.dnode _ there.map c.tree_of-tree.ensures there.is.tree in
+    let tree : TreeIs (blocks_of c.args.io.now) c.tree_of-tree.result there.map = tree_is _ c.args.dnode _ there.map c.tree_of-tree.ensures there.is.tree in
     let object = object_of (state.state k) there.object there.there (lawful.objects k) in
-    let fills = Fills-redact (Has old.seen c.args.io.now.space) c.args.number k c.args.first c.args.count state there.object there.there object number c.args.dnode there.is.type_is there.is.size_is c.requires.range c.requires.checked in
+    let fills = Fills-redact (blocks_of c.args.io.now) c.args.number k c.args.first c.args.count state there.object there.there object number c.args.dnode there.is.type_is there.is.size_is c.requires.range c.requires.checked in
     subst (IsTightDnode c.args.number k (redact_of c.args.first c.args.count (state.state k)) state) (sym c.with_tree.ensures.made)
     (range_tight c.args.number k (redact_of c.args.first c.args.count (state.state k)) state c.args.dnode (with_tree c.args.dnode c.redact.new.self c.end_redacted.result) dated tight c.args.first c.args.count refl fills.dates c.requires.range
     (λ bound early some. c.in_ok-redact.ensures.dated bound there.map honest tree (rw c.tree_of-tree.ensures early) some))

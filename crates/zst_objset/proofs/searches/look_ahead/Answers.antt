@@ -1,4 +1,4 @@
-use Rattle.std.proofs.Common.{rules, ◌∙◌, ℕ, ◌/◌, List, arith, refl}
+use Rattle.std.proofs.Common.{rules, ℕ, ◌/◌, List, arith}
 use Rattle.std.proofs.lemmas.Result.{err_from_is_err_and}
 use Rattle.zst_space.specs.FreeSectors.{FreeSectors}
 use Rattle.zst_block.specs.Blocks.{Has}
@@ -23,14 +23,14 @@ returns-in_err-load_slots-clause-shows g c = λ state honest holds.
     let p = err_from_is_err_and c.from_residual-in_err-load_slots.result c.from_residual-in_err-load_slots.ensures.1 in
     let found = c.in_ok-was.ensures in
     rw (p.1, p.2) (c.in_err-load_slots.ensures.slots state honest
-    (look_on (λ (seen : List ℕ) (space : FreeSectors). LeafIs (Has seen space) state (c.args.from / 16) c.in_ok-was.was') _ _ _ _ _ _ _ found.looks
+    (look_on (λ (seen : List ℕ) (space : FreeSectors). LeafIs (Has seen space) state (c.args.from / 16) c.in_ok-was.was') found.looks
     (leaf_shown _ c.args.set.now state holds (c.args.from / 16) c.in_ok-was.count c.in_ok-was.was' (omega (arith, c.requires.from.1)) (found.shows holds.map (c.in_err-load_slots.ensures.looks.reads.honest honest) holds.tree))))
 
 pub returns-in-None-clause-shows : goal.returns-in-None-clause-shows
 returns-in-None-clause-shows g c = λ state honest holds.
     let found = c.in_ok-was.ensures in
     let loaded = c.in_ok-load_slots.ensures.slots state honest
-    (look_on (λ (seen : List ℕ) (space : FreeSectors). LeafIs (Has seen space) state (c.args.from / 16) c.in_ok-was.was') _ _ _ _ _ _ _ found.looks
+    (look_on (λ (seen : List ℕ) (space : FreeSectors). LeafIs (Has seen space) state (c.args.from / 16) c.in_ok-was.was') found.looks
     (leaf_shown _ c.args.set.now state holds (c.args.from / 16) c.in_ok-was.count c.in_ok-was.was' (omega (arith, c.requires.from.1)) (found.shows holds.map (c.in_ok-load_slots.ensures.looks.reads.honest honest) holds.tree))) in
     absurd (lacks_none _ loaded.slots loaded.spells c.in-None.ensures.none)
 
@@ -38,22 +38,13 @@ pub returns-in-Some-clause-shows : goal.returns-in-Some-clause-shows
 returns-in-Some-clause-shows g c = λ state honest holds.
     let found = c.in_ok-was.ensures in
     let loaded = c.in_ok-load_slots.ensures.slots state honest
-    (look_on (λ (seen : List ℕ) (space : FreeSectors). LeafIs (Has seen space) state (c.args.from / 16) c.in_ok-was.was') _ _ _ _ _ _ _ found.looks
+    (look_on (λ (seen : List ℕ) (space : FreeSectors). LeafIs (Has seen space) state (c.args.from / 16) c.in_ok-was.was') found.looks
     (leaf_shown _ c.args.set.now state holds (c.args.from / 16) c.in_ok-was.count c.in_ok-was.was' (omega (arith, c.requires.from.1)) (found.shows holds.map (c.in_ok-load_slots.ensures.looks.reads.honest honest) holds.tree))) in
-    let now = look_on (λ (seen : List ℕ) (space : FreeSectors). HasSlots (Has seen space) state (c.args.from / 16) c.load_slots.new.io.node) _ _ _ _ _ _ _ c.in_ok-load_slots.ensures.looks loaded in
+    let now = look_on (λ (seen : List ℕ) (space : FreeSectors). HasSlots (Has seen space) state (c.args.from / 16) c.load_slots.new.io.node) c.in_ok-load_slots.ensures.looks loaded in
     from_shown _ state c.args.from c.load_slots.new.io.node now c.in-Some.ahead c.requires.from.0 c.requires.from.1 (c.in-Some.ensures.shows now.slots now.spells)
 
 pub returns-then-set-gt7-clause-ranges : goal.returns-then-set-gt7-clause-ranges
 returns-then-set-gt7-clause-ranges g c = tt
-
-pub returns-then-set-gt7-clause-kept_fit : goal.returns-then-set-gt7-clause-kept_fit
-returns-then-set-gt7-clause-kept_fit g c = c.requires.fits
-
-pub returns-then-set-gt7-clause-same : goal.returns-then-set-gt7-clause-same
-returns-then-set-gt7-clause-same g c = refl
-
-pub run_at-requires-clause-fits : goal.run_at-requires-clause-fits
-run_at-requires-clause-fits g c = c.requires.fits
 
 pub returns-in_err-was-clause-ranges : goal.returns-in_err-was-clause-ranges
 returns-in_err-was-clause-ranges g c =
@@ -64,12 +55,6 @@ pub returns-in_err-was-clause-looks : goal.returns-in_err-was-clause-looks
 returns-in_err-was-clause-looks g c =
     let p = err_from_is_err_and c.from_residual.result c.from_residual.ensures.1 in
     rw (p.1, p.2) c.in_err-was.ensures.looks
-
-pub returns-in_err-was-clause-kept_fit : goal.returns-in_err-was-clause-kept_fit
-returns-in_err-was-clause-kept_fit g c = c.in_err-was.ensures.kept_fit
-
-pub returns-in_err-was-clause-same : goal.returns-in_err-was-clause-same
-returns-in_err-was-clause-same g c = c.in_err-was.ensures.same
 
 pub returns-in_err-was-clause-calls : goal.returns-in_err-was-clause-calls
 returns-in_err-was-clause-calls g c = within_one_more _ _ c.in_err-was.ensures.calls
@@ -82,15 +67,6 @@ returns-then-was-eq0-clause-looks g c = c.in_ok-was.ensures.looks
 
 pub returns-then-was-eq0-clause-calls : goal.returns-then-was-eq0-clause-calls
 returns-then-was-eq0-clause-calls g c = within_one_more _ _ c.in_ok-was.ensures.calls
-
-pub returns-then-was-eq0-clause-kept_fit : goal.returns-then-was-eq0-clause-kept_fit
-returns-then-was-eq0-clause-kept_fit g c = c.in_ok-was.ensures.kept_fit
-
-pub returns-then-was-eq0-clause-same : goal.returns-then-was-eq0-clause-same
-returns-then-was-eq0-clause-same g c = c.in_ok-was.ensures.same
-
-pub load_slots-requires-clause-fits : goal.load_slots-requires-clause-fits
-load_slots-requires-clause-fits g c = c.in_ok-was.ensures.kept_fit
 
 pub returns-in_err-load_slots-clause-ranges : goal.returns-in_err-load_slots-clause-ranges
 returns-in_err-load_slots-clause-ranges g c =
@@ -105,32 +81,14 @@ returns-in_err-load_slots-clause-looks g c =
 pub returns-in_err-load_slots-clause-calls : goal.returns-in_err-load_slots-clause-calls
 returns-in_err-load_slots-clause-calls g c = calls_then _ _ _ c.in_ok-was.ensures.calls c.in_err-load_slots.ensures.calls
 
-pub returns-in_err-load_slots-clause-kept_fit : goal.returns-in_err-load_slots-clause-kept_fit
-returns-in_err-load_slots-clause-kept_fit g c = c.in_err-load_slots.ensures.kept_fit
-
-pub returns-in_err-load_slots-clause-same : goal.returns-in_err-load_slots-clause-same
-returns-in_err-load_slots-clause-same g c = c.in_err-load_slots.ensures.same ∙ c.in_ok-was.ensures.same
-
 pub returns-in-Some-clause-looks : goal.returns-in-Some-clause-looks
 returns-in-Some-clause-looks g c = Looks-then c.in_ok-was.ensures.looks c.in_ok-load_slots.ensures.looks
 
 pub returns-in-Some-clause-calls : goal.returns-in-Some-clause-calls
 returns-in-Some-clause-calls g c = calls_then _ _ _ c.in_ok-was.ensures.calls c.in_ok-load_slots.ensures.calls
 
-pub returns-in-Some-clause-kept_fit : goal.returns-in-Some-clause-kept_fit
-returns-in-Some-clause-kept_fit g c = c.in_ok-load_slots.ensures.kept_fit
-
-pub returns-in-Some-clause-same : goal.returns-in-Some-clause-same
-returns-in-Some-clause-same g c = c.in_ok-load_slots.ensures.same ∙ c.in_ok-was.ensures.same
-
 pub returns-in-None-clause-calls : goal.returns-in-None-clause-calls
 returns-in-None-clause-calls g c = calls_then _ _ _ c.in_ok-was.ensures.calls c.in_ok-load_slots.ensures.calls
-
-pub returns-in-None-clause-kept_fit : goal.returns-in-None-clause-kept_fit
-returns-in-None-clause-kept_fit g c = c.in_ok-load_slots.ensures.kept_fit
-
-pub returns-in-None-clause-same : goal.returns-in-None-clause-same
-returns-in-None-clause-same g c = c.in_ok-load_slots.ensures.same ∙ c.in_ok-was.ensures.same
 
 pub returns-in-Some-clause-damaged : goal.returns-in-Some-clause-damaged
 returns-in-Some-clause-damaged g c = λ honest. tt

@@ -1,11 +1,10 @@
 use Rattle.std.proofs.Common.{◌+◌, ◌-◌, ◌*◌, ◌/◌, ◌^◌, ◌<◌, ◌≤◌, ℕ, arith}
 use Rattle.std.proofs.lemmas.Result.{err_from_is_err_and}
-use Rattle.zst_block.proofs.BlocksLaws.{FillsFree-then, KeepsBlocks-fills}
+use Rattle.zst_block.proofs.BlocksLaws.{KeepsBlocks-fills}
 use Rattle.zst_block.proofs.IoCallLemmas.{Works-after, Works-looks, Works-more, Works-then}
 use Rattle.zst_tree.proofs.IndicesLaws.{TreeIs-grows}
 use Rattle.zst_objset.proofs.LeafLaws.{keeps_on}
 use Rattle.zst_objset.proofs.SetPuts.{InLeaf, IsPut, mended, put_leaf, Puts-one, with_one}
-use Rattle.zst_tree.proofs.LaterDamage.{fills_looks}
 use Rattle.zst_objset.proofs.DamageLaws.{IfDamage-weaker, LacksSlot-put, fault_spared, lacking_spared, node_after}
 use Rattle.std.proofs.Common.{◌∙◌}
 use Rattle.zst_objset.proofs.DamageLaws.{changed_within, leaf_whole, set_now, set_within}
@@ -38,7 +37,7 @@ returns-in_err-set-clause-put g c = λ snap after honest holds puts.
     let all = c.put_slots.ensures in
     let at = within_leaf c.args.first c.args.below c.requires.first c.requires.some c.requires.bound c.requires.leaf in
     let is : IsPut c.args.slot.now (c.args.first - 16 * (c.args.first / 16)) (c.args.below - 16 * (c.args.first / 16)) c.find_slots.new.io.node c.put_slots.new.node = record { fits = c.requires.slot; long = all.long at.some; put = all.put; kept = all.kept } in
-    let saving = keeps_on _ _ _ _ _ _ _ _ _ c.in_ok-was.ensures.looks c.in_ok-ptr.ensures.works.fills in
+    let saving = keeps_on c.in_ok-was.ensures.looks c.in_ok-ptr.ensures.works.fills in
     let p = err_from_is_err_and c.from_residual-in_err-set.result c.from_residual-in_err-set.ensures.1 in
     rw (p.1, p.2) (c.in_err-set.ensures.puts holds.map (with_one holds.map (c.args.first / 16) c.in_ok-ptr.ptr) honest (TreeIs-grows _ _ saving c.args.set.tree holds.map holds.tree) (Puts-one holds.map (c.args.first / 16) c.in_ok-ptr.ptr))
 
@@ -58,7 +57,7 @@ returns-clause-put g c = λ snap after honest holds puts.
     let all = c.put_slots.ensures in
     let at = within_leaf c.args.first c.args.below c.requires.first c.requires.some c.requires.bound c.requires.leaf in
     let is : IsPut c.args.slot.now (c.args.first - 16 * (c.args.first / 16)) (c.args.below - 16 * (c.args.first / 16)) c.find_slots.new.io.node c.put_slots.new.node = record { fits = c.requires.slot; long = all.long at.some; put = all.put; kept = all.kept } in
-    let saving = keeps_on _ _ _ _ _ _ _ _ _ c.in_ok-was.ensures.looks c.in_ok-ptr.ensures.works.fills in
+    let saving = keeps_on c.in_ok-was.ensures.looks c.in_ok-ptr.ensures.works.fills in
     rw c.set_over.ensures.made (put_leaf _ _ _ _ _ _ saving (KeepsBlocks-fills _ _ _ _ c.in_ok-set.ensures.works.fills) c.args.set c.set.new.self snap after c.args.first c.args.below (c.args.first / 16) _ _ c.args.slot.now c.in_ok-ptr.ptr _ _
     at is puts holds (c.in_ok-was.ensures.slots snap was_found holds) c.in_ok-ptr.ensures.names (λ map other tree put. c.in_ok-set.ensures.puts map other honest tree put) c.in_ok-set.ensures.levels)
 
@@ -81,14 +80,14 @@ returns-in_err-ptr-clause-damaged g c = λ honest.
 pub returns-in_err-set-clause-damaged : goal.returns-in_err-set-clause-damaged
 returns-in_err-set-clause-damaged g c = λ honest.
     let p = err_from_is_err_and c.from_residual-in_err-set.result c.from_residual-in_err-set.ensures.1 in
-    let filled = FillsFree-then _ _ _ _ _ _ (fills_looks _ _ _ _ _ _ _ c.in_ok-was.ensures.looks) c.in_ok-ptr.ensures.works.fills in
+    let filled = (Works-after c.in_ok-was.ensures.looks c.in_ok-ptr.ensures.works).fills in
     rw (p.1, p.2) (node_after _ _ _ _ filled c.args.set _ (c.in_err-set.ensures.damaged honest))
 
 pub returns-clause-within : goal.returns-clause-within
 returns-clause-within g c = λ honest.
     let saved = c.in_ok-ptr.ensures in
     let set = c.in_ok-set.ensures in
-    let filled = FillsFree-then _ _ _ _ _ _ (fills_looks _ _ _ _ _ _ _ c.in_ok-was.ensures.looks) saved.works.fills in
+    let filled = (Works-after c.in_ok-was.ensures.looks saved.works).fills in
     let whole = leaf_whole _ _ _ c.in_ok-ptr.ptr _ (g.met.D.Disk.seen_size c.set.new.io.disk.now ∙ set.works.fills.size) (KeepsBlocks-fills _ _ _ _ set.works.fills _ _ saved.wrote) (c.put_slots.ensures.long (omega arith)) saved.some in
     rw c.set_over.ensures.made (set_within _ _ _ c.args.set _ c.args.set _ _ filled.size (set_now _ _ _ _ filled c.args.set)
     (changed_within _ _ _ _ set.works.fills c.args.set (record { tree = c.set.new.self }) c.in_ok-ptr.ptr set.levels whole (set.within honest)))
@@ -101,12 +100,9 @@ returns-clause-tight g c = λ snap after honest tight puts each.
     let all = c.put_slots.ensures in
     let at = within_leaf c.args.first c.args.below c.requires.first c.requires.some c.requires.bound c.requires.leaf in
     let is : IsPut c.args.slot.now (c.args.first - 16 * (c.args.first / 16)) (c.args.below - 16 * (c.args.first / 16)) c.find_slots.new.io.node c.put_slots.new.node = record { fits = c.requires.slot; long = all.long at.some; put = all.put; kept = all.kept } in
-    let saving = keeps_on _ _ _ _ _ _ _ _ _ found.looks c.in_ok-ptr.ensures.works.fills in
+    let saving = keeps_on found.looks c.in_ok-ptr.ensures.works.fills in
     rw c.set_over.ensures.made (put_leaf_tight _ _ _ _ _ _ saving (KeepsBlocks-fills _ _ _ _ c.in_ok-set.ensures.works.fills) c.args.set c.set.new.self snap after c.args.first c.args.below (c.args.first / 16) _ _ c.args.slot.now c.in_ok-ptr.ptr _ _
     at is puts tight (found.slots snap was_found tight.holds) (found.tight snap was_found tight) each c.in_ok-ptr.ensures.names (λ map other tree put. c.in_ok-set.ensures.puts map other honest tree put) c.in_ok-set.ensures.levels)
-
-pub find_slots-requires-clause-fits : goal.find_slots-requires-clause-fits
-find_slots-requires-clause-fits g c = c.requires.fits
 
 pub returns-in_err-was-clause-tight : goal.returns-in_err-was-clause-tight
 returns-in_err-was-clause-tight g c = λ snap after honest tight puts each.
@@ -121,21 +117,15 @@ returns-in_err-was-clause-within g c = λ honest.
 pub returns-in_err-was-clause-works : goal.returns-in_err-was-clause-works
 returns-in_err-was-clause-works g c =
     let p = err_from_is_err_and c.from_residual.result c.from_residual.ensures.1 in
-    rw (p.1, p.2) (Works-looks c.requires.fits c.in_err-was.ensures.looks)
+    rw (p.1, p.2) (Works-looks c.in_err-was.ensures.looks)
 
 pub returns-in_err-was-clause-levels : goal.returns-in_err-was-clause-levels
 returns-in_err-was-clause-levels g c =
     let p = err_from_is_err_and c.from_residual.result c.from_residual.ensures.1 in
     rw p.1 tt
 
-pub returns-in_err-was-clause-same : goal.returns-in_err-was-clause-same
-returns-in_err-was-clause-same g c = c.in_err-was.ensures.same
-
 pub put_slots-requires-clause-fits : goal.put_slots-requires-clause-fits
 put_slots-requires-clause-fits g c = c.requires.slot
-
-pub save_slots-requires : goal.save_slots-requires
-save_slots-requires g c = record { fits = c.in_ok-was.ensures.kept_fit }
 
 pub returns-in_err-ptr-clause-tight : goal.returns-in_err-ptr-clause-tight
 returns-in_err-ptr-clause-tight g c = λ snap after honest tight puts each.
@@ -157,17 +147,11 @@ returns-in_err-ptr-clause-levels g c =
     let p = err_from_is_err_and c.from_residual-in_err-ptr.result c.from_residual-in_err-ptr.ensures.1 in
     rw p.1 tt
 
-pub returns-in_err-ptr-clause-same : goal.returns-in_err-ptr-clause-same
-returns-in_err-ptr-clause-same g c = c.in_err-ptr.ensures.same ∙ c.in_ok-was.ensures.same
-
 pub set-requires-clause-levels : goal.set-requires-clause-levels
 set-requires-clause-levels g c = c.in_ok-was.ensures.levels
 
 pub set-requires-clause-lawful : goal.set-requires-clause-lawful
 set-requires-clause-lawful g c = c.in_ok-ptr.ensures.lawful
-
-pub set-requires-clause-fits : goal.set-requires-clause-fits
-set-requires-clause-fits g c = c.in_ok-ptr.ensures.works.fits
 
 pub returns-in_err-set-clause-tight : goal.returns-in_err-set-clause-tight
 returns-in_err-set-clause-tight g c = λ snap after honest tight puts each.
@@ -184,9 +168,6 @@ returns-in_err-set-clause-levels g c =
     let p = err_from_is_err_and c.from_residual-in_err-set.result c.from_residual-in_err-set.ensures.1 in
     rw p.1 tt
 
-pub returns-in_err-set-clause-same : goal.returns-in_err-set-clause-same
-returns-in_err-set-clause-same g c = c.in_err-set.ensures.same ∙ (c.in_ok-ptr.ensures.same ∙ c.in_ok-was.ensures.same)
-
 pub set_over-requires : goal.set_over-requires
 set_over-requires g c = c.in_ok-set.ensures.levels
 
@@ -195,6 +176,3 @@ returns-clause-damaged g c = λ honest. tt
 
 pub returns-clause-levels : goal.returns-clause-levels
 returns-clause-levels g c = c.set_over.ensures.fits
-
-pub returns-clause-same : goal.returns-clause-same
-returns-clause-same g c = c.in_ok-set.ensures.same ∙ (c.in_ok-ptr.ensures.same ∙ c.in_ok-was.ensures.same)

@@ -1,5 +1,5 @@
 use Rattle.zst_block.proofs.IoCallLemmas.{Looks-none}
-use Rattle.std.proofs.Common.{refl, arith}
+use Rattle.std.proofs.Common.{arith}
 use Rattle.std.proofs.lemmas.Result.{err_from_is_err_and}
 use Rattle.zst_model.specs.states.State.{number_bound}
 use Rattle.zst_objset.proofs.LeafLaws.{absent_found, none_found, there_found}
@@ -41,16 +41,7 @@ pub returns-then-object-ge-NUMBER_BOUND-clause-damaged : goal.returns-then-objec
 returns-then-object-ge-NUMBER_BOUND-clause-damaged g c = λ honest. tt
 
 pub returns-then-object-ge-NUMBER_BOUND-clause-looks : goal.returns-then-object-ge-NUMBER_BOUND-clause-looks
-returns-then-object-ge-NUMBER_BOUND-clause-looks g c = Looks-none _ _ _
-
-pub returns-then-object-ge-NUMBER_BOUND-clause-kept_fit : goal.returns-then-object-ge-NUMBER_BOUND-clause-kept_fit
-returns-then-object-ge-NUMBER_BOUND-clause-kept_fit g c = c.requires.fits
-
-pub returns-then-object-ge-NUMBER_BOUND-clause-same : goal.returns-then-object-ge-NUMBER_BOUND-clause-same
-returns-then-object-ge-NUMBER_BOUND-clause-same g c = refl
-
-pub slot_at-requires-clause-fits : goal.slot_at-requires-clause-fits
-slot_at-requires-clause-fits g c = c.requires.fits
+returns-then-object-ge-NUMBER_BOUND-clause-looks g c = Looks-none _
 
 pub returns-in_err-slot_at-clause-tight : goal.returns-in_err-slot_at-clause-tight
 returns-in_err-slot_at-clause-tight g c = λ snap honest tight.
@@ -85,12 +76,6 @@ returns-in_err-slot_at-clause-looks g c =
 pub returns-in_err-slot_at-clause-calls : goal.returns-in_err-slot_at-clause-calls
 returns-in_err-slot_at-clause-calls g c = c.in_err-slot_at.ensures.calls
 
-pub returns-in_err-slot_at-clause-kept_fit : goal.returns-in_err-slot_at-clause-kept_fit
-returns-in_err-slot_at-clause-kept_fit g c = c.in_err-slot_at.ensures.kept_fit
-
-pub returns-in_err-slot_at-clause-same : goal.returns-in_err-slot_at-clause-same
-returns-in_err-slot_at-clause-same g c = c.in_err-slot_at.ensures.same
-
 pub returns-in-Absent-clause-damaged : goal.returns-in-Absent-clause-damaged
 returns-in-Absent-clause-damaged g c = λ honest. tt
 
@@ -100,12 +85,6 @@ returns-in-Absent-clause-looks g c = c.in_ok-slot_at.ensures.looks
 pub returns-in-Absent-clause-calls : goal.returns-in-Absent-clause-calls
 returns-in-Absent-clause-calls g c = c.in_ok-slot_at.ensures.calls
 
-pub returns-in-Absent-clause-kept_fit : goal.returns-in-Absent-clause-kept_fit
-returns-in-Absent-clause-kept_fit g c = c.in_ok-slot_at.ensures.kept_fit
-
-pub returns-in-Absent-clause-same : goal.returns-in-Absent-clause-same
-returns-in-Absent-clause-same g c = c.in_ok-slot_at.ensures.same
-
 pub returns-in-There-clause-damaged : goal.returns-in-There-clause-damaged
 returns-in-There-clause-damaged g c = λ honest. tt
 
@@ -114,12 +93,6 @@ returns-in-There-clause-looks g c = c.in_ok-slot_at.ensures.looks
 
 pub returns-in-There-clause-calls : goal.returns-in-There-clause-calls
 returns-in-There-clause-calls g c = c.in_ok-slot_at.ensures.calls
-
-pub returns-in-There-clause-kept_fit : goal.returns-in-There-clause-kept_fit
-returns-in-There-clause-kept_fit g c = c.in_ok-slot_at.ensures.kept_fit
-
-pub returns-in-There-clause-same : goal.returns-in-There-clause-same
-returns-in-There-clause-same g c = c.in_ok-slot_at.ensures.same
 
 pub returns-in-Absent-clause-tight : goal.returns-in-Absent-clause-tight
 returns-in-Absent-clause-tight g c = λ state honest tight. tt

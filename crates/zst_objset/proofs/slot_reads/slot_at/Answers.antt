@@ -16,7 +16,7 @@ returns-in_err-was-clause-found g c = λ snap honest holds.
 pub returns-in-Some-clause-found : goal.returns-in-Some-clause-found
 returns-in-Some-clause-found g c = λ snap honest holds.
     let found = c.in_ok-was.ensures in
-    look_on (λ (seen : List ℕ) (space : FreeSectors). SlotIs (Has seen space) snap c.args.object c.in-Some.slot) _ _ _ _ _ _ _ found.looks
+    look_on (λ (seen : List ℕ) (space : FreeSectors). SlotIs (Has seen space) snap c.args.object c.in-Some.slot) found.looks
     (slot_found _ snap c.args.object _ _ c.in-Some.slot (omega arith) (omega arith) (found.slots snap honest holds) c.as_slice.ensures.bytes c.in-Some.ensures.back)
 
 pub returns-in-None-clause-found : goal.returns-in-None-clause-found
@@ -40,9 +40,6 @@ pub returns-in-Some-clause-tight : goal.returns-in-Some-clause-tight
 returns-in-Some-clause-tight g c = λ snap honest tight.
     let found = c.in_ok-was.ensures in
     slot_tight _ snap c.args.object _ _ c.in-Some.slot (found.slots snap honest tight.holds) (found.tight snap honest tight) c.as_slice.ensures.bytes c.in-Some.ensures.back
-
-pub find_slots-requires-clause-fits : goal.find_slots-requires-clause-fits
-find_slots-requires-clause-fits g c = c.requires.fits
 
 pub returns-in_err-was-clause-tight : goal.returns-in_err-was-clause-tight
 returns-in_err-was-clause-tight g c = λ snap honest tight.
@@ -72,32 +69,14 @@ returns-in_err-was-clause-looks g c =
 pub returns-in_err-was-clause-calls : goal.returns-in_err-was-clause-calls
 returns-in_err-was-clause-calls g c = c.in_err-was.ensures.calls
 
-pub returns-in_err-was-clause-kept_fit : goal.returns-in_err-was-clause-kept_fit
-returns-in_err-was-clause-kept_fit g c = c.in_err-was.ensures.kept_fit
-
-pub returns-in_err-was-clause-same : goal.returns-in_err-was-clause-same
-returns-in_err-was-clause-same g c = c.in_err-was.ensures.same
-
 pub returns-in-Some-clause-damaged : goal.returns-in-Some-clause-damaged
 returns-in-Some-clause-damaged g c = λ honest. tt
 
 pub returns-in-Some-clause-calls : goal.returns-in-Some-clause-calls
 returns-in-Some-clause-calls g c = c.in_ok-was.ensures.calls
 
-pub returns-in-Some-clause-kept_fit : goal.returns-in-Some-clause-kept_fit
-returns-in-Some-clause-kept_fit g c = c.in_ok-was.ensures.kept_fit
-
-pub returns-in-Some-clause-same : goal.returns-in-Some-clause-same
-returns-in-Some-clause-same g c = c.in_ok-was.ensures.same
-
 pub returns-in-None-clause-calls : goal.returns-in-None-clause-calls
 returns-in-None-clause-calls g c = c.in_ok-was.ensures.calls
-
-pub returns-in-None-clause-kept_fit : goal.returns-in-None-clause-kept_fit
-returns-in-None-clause-kept_fit g c = c.in_ok-was.ensures.kept_fit
-
-pub returns-in-None-clause-same : goal.returns-in-None-clause-same
-returns-in-None-clause-same g c = c.in_ok-was.ensures.same
 
 pub returns-in-Some-clause-looks : goal.returns-in-Some-clause-looks
 returns-in-Some-clause-looks g c = c.in_ok-was.ensures.looks

@@ -12,7 +12,7 @@ use Rattle.zst_pool.proofs.block_reads.read_block.Goals as goal
 pub returns-in_err-set-clause-tells : goal.returns-in_err-set-clause-tells
 returns-in_err-set-clause-tells g c = λ now.
     let p = err_from_is_err_and c.from_residual.result c.from_residual.ensures.1 in
-    rw (p.1, p.2, c.in_err-set.ensures.missing) (tells_missing (λ pool. stepped [] now (commands.Read c.args.name c.args.object c.args.index) pool) _ c.args.kept.now _ _ _ c.args.name
+    rw (p.1, p.2, c.in_err-set.ensures.missing) (tells_missing (λ pool. stepped [] now (commands.Read c.args.name c.args.object c.args.index) pool) _ c.args.kept.now _ c.args.name
     (λ pool none. read_missing now c.args.object c.args.index c.args.name pool none) c.in_err-set.ensures.absent)
 
 pub returns-clause-tells : goal.returns-clause-tells

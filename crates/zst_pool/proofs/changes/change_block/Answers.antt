@@ -2,29 +2,29 @@ use Rattle.std.specs.Prelude.{Option, Result}
 use Rattle.zst_block.specs.declared.fault.BlockFault.{BlockFault}
 use Rattle.zst_pool.specs.declared.head_fault.HeadFault.{HeadFault}
 use Rattle.zst_pool.specs.declared.head_fault.HeadFault.TheVariants.{Memory}
-use Rattle.std.proofs.Common.{◌≡◌, inl, inr, ℕ, ◌+◌, ◌*◌, ◌/◌, List, length, sym, ap, ◌∙◌, subst, arith}
+use Rattle.std.proofs.Common.{◌≡◌, inl, inr, ℕ, ◌+◌, ◌/◌, List, length, sym, ap, ◌∙◌, subst, arith}
 use Rattle.zst_block.specs.Blocks.{Has, SparesTaken}
-use Rattle.zst_block.proofs.BlocksLaws.{KeepsBlocks-fills}
 use Rattle.zst_model.specs.declared.refusals.refusal.Refusal.{Refusal}
 use Rattle.zst_model.specs.pools.Step.{filled, written}
 use Rattle.zst_model.specs.states.DatedState.{DatedState, size_at}
 use Rattle.zst_objset.specs.Answers.{Changes}
 use Rattle.zst_objset.specs.Changes.{block_written}
+use Rattle.zst_objset.proofs.LeafLaws.{look_on}
 use Rattle.zst_tree.specs.Sets.{SetFits}
-use Rattle.zst_image.proofs.Growth.{SetIs-grows}
 use Rattle.zst_image.proofs.OnePool.{SetIs-holds}
 use Rattle.zst_pool.proofs.ChangeDates.{changes_known, written_dated}
 use Rattle.zst_pool.specs.Heads.{ChangesHead, Works, of_change, of_head, stop_of}
 use Rattle.zst_pool.specs.Damage.{IfHeadDamaged, block_damage}
 use Rattle.zst_image.specs.Reads.{SetIs, bound_of, new_pool}
 use Rattle.zst_space.specs.FreeSectors.{FreeSectors}
+use Rattle.zst_block.specs.IoStates.{io_of}
+use Rattle.zst_block.proofs.IoCallLemmas.{Works-after, Works-looks, Works-more}
 use Rattle.zst_tree.specs.Damage.{IsSeen, NamesNode}
 use Rattle.zst_objset.specs.Damage.{IsDamagedObject, IsDamagedSet}
 use Rattle.zst_pool.proofs.HeadChanges.{filled_length}
 use Rattle.zst_pool.proofs.CheckLemmas.{err_is}
 use Rattle.zst_pool.proofs.DamageLemmas.{damaged_call, damaged_err}
 use Rattle.zst_pool.proofs.Room.{block-sectors}
-use Rattle.zst_pool.proofs.TakenSectors.{works_looks, works_then, works_wider}
 use Rattle.zst_pool.proofs.SetCalls.{call_changes, call_ok, call_works, stop_same}
 use Rattle.zst_pool.proofs.changes.change_block.Given.{Over}
 use Rattle.zst_pool.specs.declared.fault.PoolFault.TheVariants.{Plan}
@@ -49,8 +49,7 @@ returns-clause-changed g c = λ tight pool head told number holds.
     let i = c.args.index in
     let bytes = c.args.bytes.now in
     let found = c.in_ok-size.ensures.found pool i head (c.write_block.ensures.works.fills.honest told) (SetIs-holds (bound_of tight c.args.number) _ c.args.set.now head holds) in
-    let read = works_looks 0 0 c.requires.fits c.in_ok-size.ensures.looks in
-    let grown = SetIs-grows old.seen c.args.io.now.space mid.seen less (KeepsBlocks-fills old mid c.args.io.now.space less read.fills) (bound_of tight c.args.number) c.args.set.now head holds in
+    let grown = look_on (λ (seen : List ℕ) (space : FreeSectors). SetIs (bound_of tight c.args.number) (Has seen space) c.args.set.now head) c.in_ok-size.ensures.looks holds in
     let block = c.deref.ensures.value ∙ c.in_ok-block.ensures ∙ ap (λ (size : ℕ). filled size bytes) found in
     let same = ap (λ (b : List ℕ). block_written c.args.number k i b head) block
     ∙ ap (λ (n : ℕ). block_written n k i (filled (size_at (head.state k)) bytes) head) (sym number)
@@ -61,11 +60,10 @@ returns-clause-changed g c = λ tight pool head told number holds.
     call_changes c.write_block.result c.answer.result c.answer.ensures (bound_of tight c.args.number) has set (written pool k i bytes head) is
 
 -- what is taken for the block, of a size that was found
-taken : (g : Over) (c : After-answer g) (size : ℕ) → length c.deref.result.now ≡ size → Works 1 (size / 512) (g.D.Disk.state c.args.io.now.disk.now) c.args.io.now.space c.args.io.now.failed (g.D.Disk.state c.write_block.new.io.disk.now) c.write_block.new.io.space c.write_block.new.io.failed (stop_of c.answer.result)
+taken : (g : Over) (c : After-answer g) (size : ℕ) → length c.deref.result.now ≡ size → Works 1 (size / 512) (io_of c.args.io.now) (io_of c.write_block.new.io) (stop_of c.answer.result)
 taken g c size long =
-    subst (λ (n : ℕ). Works 1 (n / 512) (g.D.Disk.state c.args.io.now.disk.now) c.args.io.now.space c.args.io.now.failed (g.D.Disk.state c.write_block.new.io.disk.now) c.write_block.new.io.space c.write_block.new.io.failed (stop_of c.answer.result)) long
-    (works_wider (length c.deref.result.now / 512 + 640 * 1) (length c.deref.result.now / 512) (omega arith) (λ need is. is)
-    (works_then (works_looks 0 0 c.requires.fits c.in_ok-size.ensures.looks) (call_works c.write_block.result c.answer.result c.answer.ensures c.write_block.ensures.works)))
+    subst (λ (n : ℕ). Works 1 (n / 512) (io_of c.args.io.now) (io_of c.write_block.new.io) (stop_of c.answer.result)) long
+    (Works-more (omega arith) (Works-after c.in_ok-size.ensures.looks (call_works c.write_block.result c.answer.result c.answer.ensures c.write_block.ensures.works)))
 
 long : (g : Over) (c : After-answer g) → length c.deref.result.now ≡ c.in_ok-size.size
 long g c = ap (λ (b : List ℕ). length b) (c.deref.ensures.value ∙ c.in_ok-block.ensures) ∙ filled_length c.in_ok-size.size c.args.bytes.now c.in_ok-size.ensures.room
@@ -104,16 +102,16 @@ returns-clause-damaged g c = λ told.
 pub returns-in_err-size-clause-works : goal.returns-in_err-size-clause-works
 returns-in_err-size-clause-works g c =
     let fault = c.in_err-size.field-0.0 in
-    let works = λ (stop : Option BlockFault). Works 1 0 (g.D.Disk.state c.args.io.now.disk.now) c.args.io.now.space c.args.io.now.failed (g.D.Disk.state c.find_size.new.io.disk.now) c.find_size.new.io.space c.find_size.new.io.failed stop in
+    let works = λ (stop : Option BlockFault). Works 1 0 (io_of c.args.io.now) (io_of c.find_size.new.io) stop in
     let stop = stop_same ℕ (Unit {0}) fault ∙ ap (λ (r : Result (Unit {0}) HeadFault). stop_of r) (sym (err_is c.from_residual.result fault c.from_residual.ensures.1)) in
-    (0, omega arith, subst works stop (works_looks (0 + 640 * 1) 0 c.requires.fits c.in_err-size.ensures.looks))
+    (0, omega arith, subst works stop (Works-looks c.in_err-size.ensures.looks))
 
 pub returns-in_err-block-clause-works : goal.returns-in_err-block-clause-works
 returns-in_err-block-clause-works g c =
     let fell = c.from_residual-in_err-block in
-    let works = λ (stop : Option BlockFault). Works 1 0 (g.D.Disk.state c.args.io.now.disk.now) c.args.io.now.space c.args.io.now.failed (g.D.Disk.state c.find_size.new.io.disk.now) c.find_size.new.io.space c.find_size.new.io.failed stop in
+    let works = λ (stop : Option BlockFault). Works 1 0 (io_of c.args.io.now) (io_of c.find_size.new.io) stop in
     let stop = ap (λ (r : Result (Unit {0}) HeadFault). stop_of r) (sym (err_is fell.result Memory fell.ensures.1)) in
-    (0, omega arith, subst works stop (works_looks (0 + 640 * 1) 0 c.requires.fits c.in_ok-size.ensures.looks))
+    (0, omega arith, subst works stop (Works-looks c.in_ok-size.ensures.looks))
 
 pub returns-clause-levels : goal.returns-clause-levels
 returns-clause-levels g c = call_ok c.write_block.result c.answer.result c.answer.ensures (SetFits c.write_block.new.self) c.write_block.ensures.levels
@@ -138,17 +136,17 @@ pub returns-in_err-size-clause-exact : goal.returns-in_err-size-clause-exact
 returns-in_err-size-clause-exact g c = λ head told holds.
     let fault = c.in_err-size.field-0.0 in
     let block = size_at (head.state c.args.object) / 512 in
-    let works = λ (stop : Option BlockFault). Works 1 block (g.D.Disk.state c.args.io.now.disk.now) c.args.io.now.space c.args.io.now.failed (g.D.Disk.state c.find_size.new.io.disk.now) c.find_size.new.io.space c.find_size.new.io.failed stop in
+    let works = λ (stop : Option BlockFault). Works 1 block (io_of c.args.io.now) (io_of c.find_size.new.io) stop in
     let stop = stop_same ℕ (Unit {0}) fault ∙ ap (λ (r : Result (Unit {0}) HeadFault). stop_of r) (sym (err_is c.from_residual.result fault c.from_residual.ensures.1)) in
-    subst works stop (works_looks (block + 640 * 1) block c.requires.fits c.in_err-size.ensures.looks)
+    subst works stop (Works-looks c.in_err-size.ensures.looks)
 
 pub returns-in_err-block-clause-exact : goal.returns-in_err-block-clause-exact
 returns-in_err-block-clause-exact g c = λ head told holds.
     let fell = c.from_residual-in_err-block in
     let block = size_at (head.state c.args.object) / 512 in
-    let works = λ (stop : Option BlockFault). Works 1 block (g.D.Disk.state c.args.io.now.disk.now) c.args.io.now.space c.args.io.now.failed (g.D.Disk.state c.find_size.new.io.disk.now) c.find_size.new.io.space c.find_size.new.io.failed stop in
+    let works = λ (stop : Option BlockFault). Works 1 block (io_of c.args.io.now) (io_of c.find_size.new.io) stop in
     let stop = ap (λ (r : Result (Unit {0}) HeadFault). stop_of r) (sym (err_is fell.result Memory fell.ensures.1)) in
-    subst works stop (works_looks (block + 640 * 1) block c.requires.fits c.in_ok-size.ensures.looks)
+    subst works stop (Works-looks c.in_ok-size.ensures.looks)
 
 pub returns-in_err-block-clause-changed : goal.returns-in_err-block-clause-changed
 returns-in_err-block-clause-changed g c = λ tight pool head told number holds.

@@ -1,6 +1,7 @@
-use Rattle.std.proofs.Common.{ℕ, sym, ap, ◌∙◌, subst, arith, ◌+◌}
+use Rattle.std.proofs.Common.{ℕ, sym, ap, ◌∙◌, subst, ◌+◌}
 use Rattle.std.specs.Prelude.{Result}
 use Rattle.zst_block.specs.Blocks.{Has}
+use Rattle.zst_block.proofs.IoCallLemmas.{Works-block}
 use Rattle.zst_model.specs.declared.refusals.refusal.Refusal.{Refusal}
 use Rattle.zst_model.specs.states.DatedState.{DatedState}
 use Rattle.zst_objset.specs.Answers.{Changes}
@@ -10,7 +11,6 @@ use Rattle.zst_image.specs.Reads.{SetIs, bound_of}
 use Rattle.zst_pool.proofs.ChangeDates.{changes_known, punched_dated}
 use Rattle.zst_pool.specs.Damage.{range_damage}
 use Rattle.zst_pool.proofs.DamageLemmas.{damaged_call}
-use Rattle.zst_pool.proofs.TakenSectors.{tree_blocks, works_wider}
 use Rattle.zst_pool.proofs.SetCalls.{call_changes, call_works, call_ok}
 use Rattle.zst_pool.proofs.PlanLemmas.{past_indices}
 use Rattle.zst_pool.proofs.changes.change_holes.Goals as goal
@@ -27,7 +27,7 @@ returns-clause-changed g c = λ tight pool head told number holds.
     call_changes c.punch.result c.answer.result c.answer.ensures (bound_of tight c.args.number) has set _ is
 
 pub returns-clause-works : goal.returns-clause-works
-returns-clause-works g c = works_wider 1280 0 (omega arith) (tree_blocks 0) (call_works c.punch.result c.answer.result c.answer.ensures c.punch.ensures.works)
+returns-clause-works g c = Works-block (call_works c.punch.result c.answer.result c.answer.ensures c.punch.ensures.works)
 
 pub returns-clause-damaged : goal.returns-clause-damaged
 returns-clause-damaged g c = λ told.

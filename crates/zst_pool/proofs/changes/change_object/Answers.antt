@@ -1,6 +1,9 @@
 use Rattle.std.specs.Prelude.{Option, Some, None, Result, Ok, Err}
-use Rattle.std.proofs.Common.{◌≡◌, ◌⊎◌, ℕ, ◌+◌, ◌*◌, ◌/◌, ◌≤◌, List, false, length, sym, ap, ◌∙◌, subst, arith, Bool}
+use Rattle.std.proofs.Common.{◌≡◌, ℕ, ◌+◌, ◌*◌, ◌/◌, ◌≤◌, List, false, length, sym, ap, ◌∙◌, subst, arith, Bool}
 use Rattle.zst_block.specs.Blocks.{Has, SparesTaken}
+use Rattle.zst_block.specs.IoCalls as blocks
+use Rattle.zst_block.specs.IoStates.{io_of}
+use Rattle.zst_block.proofs.IoCallLemmas.{Works-block, Works-more, Works-then}
 use Rattle.zst_model.specs.declared.refusals.refusal.Refusal.{Refusal}
 use Rattle.zst_model.specs.pools.Pool.{Pool}
 use Rattle.zst_model.specs.states.DatedState.{DatedState}
@@ -15,7 +18,6 @@ use Rattle.zst_pool.specs.declared.head_fault.HeadFault.{HeadFault}
 use Rattle.zst_pool.specs.Cost.{object_cells, spill_sectors}
 use Rattle.zst_pool.proofs.HeadChanges.{put_fault, then_spilled}
 use Rattle.zst_pool.proofs.CheckLemmas.{err_is}
-use Rattle.zst_pool.proofs.TakenSectors.{tree_blocks, works_then, works_wider}
 use Rattle.zst_image.specs.Reads.{SetIs, bound_of}
 use Rattle.zst_pool.proofs.ChangeDates.{changes_known, put_dated, spill_dated}
 use Rattle.zst_pool.proofs.SetCalls.{call_changes, call_ok, call_works, went_well}
@@ -37,11 +39,10 @@ put g c tight old told holds =
     (put_dated c.args.number c.args.object c.args.head c.as_slice.result.now false old) holds)
 
 -- and takes of the free sectors
-takes : (g : Over) (c : After-answer g) (block : ℕ) (answer : Result (Unit {0}) HeadFault) → c.answer.result ≡ answer
-    → Works 1 block (g.D.Disk.state c.args.io.now.disk.now) c.args.io.now.space c.args.io.now.failed (g.D.Disk.state c.put_object.new.io.disk.now) c.put_object.new.io.space c.put_object.new.io.failed (stop_of answer)
+takes : (g : Over) (c : After-answer g) (block : ℕ) (answer : Result (Unit {0}) HeadFault) → c.answer.result ≡ answer → blocks.Works 640 block (io_of c.args.io.now) (io_of c.put_object.new.io) (stop_of answer)
 takes g c block answer was =
-    subst (λ (r : Result (Unit {0}) HeadFault). Works 1 block (g.D.Disk.state c.args.io.now.disk.now) c.args.io.now.space c.args.io.now.failed (g.D.Disk.state c.put_object.new.io.disk.now) c.put_object.new.io.space c.put_object.new.io.failed (stop_of r)) was
-    (works_wider (block + 640 * 1) block (omega arith) (tree_blocks block) (call_works c.put_object.result c.answer.result c.answer.ensures c.put_object.ensures.works))
+    subst (λ (r : Result (Unit {0}) HeadFault). blocks.Works 640 block (io_of c.args.io.now) (io_of c.put_object.new.io) (stop_of r)) was
+    (Works-block (call_works c.put_object.result c.answer.result c.answer.ensures c.put_object.ensures.works))
 
 -- the definition of the command
 made : (g : Over) (c : After-answer g) (pool : Pool) (old : DatedState) → pool.number + 1 ≡ c.args.number
@@ -52,12 +53,9 @@ made g c pool old number =
     ∙ ap (λ (b : List ℕ). put_in pool c.args.object c.args.head b c.args.spill old) c.as_slice.ensures
 
 -- and as many at least are what the object costs with its spill
-with_spill : (spill : Option (List ℕ)) → 640 * 1 + spill_sectors spill ≤ spill_sectors spill + 640 * object_cells spill
+with_spill : (spill : Option (List ℕ)) → 640 ≤ spill_sectors spill + 640 * object_cells spill
 with_spill None = omega arith
 with_spill (Some bytes) = omega arith
-
-same_blocks : (block need : ℕ) → (need ≡ 16) ⊎ (need ≡ block) → (need ≡ 16) ⊎ (need ≡ block)
-same_blocks block need is = is
 
 pub returns-in_err-answer-clause-changed : goal.returns-in_err-answer-clause-changed
 returns-in_err-answer-clause-changed g c = λ tight pool old told number holds.
@@ -76,9 +74,9 @@ returns-in_err-answer-clause-works g c =
     let spill = c.args.spill in
     let fault = c.in_err-answer.field-0.0 in
     let block = spill_sectors spill in
-    subst (λ (r : Result (Unit {0}) HeadFault). Works (object_cells spill) block (g.D.Disk.state c.args.io.now.disk.now) c.args.io.now.space c.args.io.now.failed (g.D.Disk.state c.put_object.new.io.disk.now) c.put_object.new.io.space c.put_object.new.io.failed (stop_of r))
+    subst (λ (r : Result (Unit {0}) HeadFault). Works (object_cells spill) block (io_of c.args.io.now) (io_of c.put_object.new.io) (stop_of r))
     (sym (err_is c.from_residual.result fault c.from_residual.ensures.1))
-    (works_wider (block + 640 * object_cells spill) block (omega (arith, with_spill spill)) (same_blocks block) (takes g at block (Err fault) c.in_err-answer.was))
+    (Works-more (with_spill spill) (takes g at block (Err fault) c.in_err-answer.was))
 
 pub returns-in-None-clause-changed : goal.returns-in-None-clause-changed
 returns-in-None-clause-changed g c = λ tight pool old told number holds.
@@ -96,7 +94,7 @@ returns-in-None-clause-works g c =
     let at = (goal.at.returns-in-None-clause-works g c).After-answer in
     let spill = c.args.spill in
     let block = spill_sectors spill in
-    works_wider (block + 640 * object_cells spill) block (omega (arith, with_spill spill)) (same_blocks block) (takes g at block (Ok c.in_ok-answer.field-0) c.in_ok-answer.was)
+    Works-more (with_spill spill) (takes g at block (Ok c.in_ok-answer.field-0) c.in_ok-answer.was)
 
 pub returns-clause-changed : goal.returns-clause-changed
 returns-clause-changed g c = λ tight pool old told number holds.
@@ -124,11 +122,11 @@ returns-clause-works g c =
     let answered = c.answer-in-Some.result in
     let bytes = c.as_slice-in-Some.result.now in
     let block = length bytes / 512 in
-    let first = takes g at 0 (Ok c.in_ok-answer.field-0) c.in_ok-answer.was in
+    let first = takes g at block (Ok c.in_ok-answer.field-0) c.in_ok-answer.was in
     let second = call_works c.put_spill.result answered c.answer-in-Some.ensures c.put_spill.ensures.works in
     let is : Some bytes ≡ c.args.spill = ap (λ (b : List ℕ). Some b) c.as_slice-in-Some.ensures ∙ sym c.in-Some.is in
-    subst (λ (s : Option (List ℕ)). Works (object_cells s) (spill_sectors s) (g.D.Disk.state c.args.io.now.disk.now) c.args.io.now.space c.args.io.now.failed (g.D.Disk.state c.put_spill.new.io.disk.now) c.put_spill.new.io.space c.put_spill.new.io.failed (stop_of answered)) is
-    (works_wider (block + 640 * 2) block (omega arith) (same_blocks block) (works_then first second))
+    subst (λ (s : Option (List ℕ)). Works (object_cells s) (spill_sectors s) (io_of c.args.io.now) (io_of c.put_spill.new.io) (stop_of answered)) is
+    (Works-more (omega arith) (Works-then first second))
 
 -- what it tells as damaged is told of the set as it was
 tells : (g : Over) (c : After-answer g) → (g.D.Disk.state c.put_object.new.io.disk.now).honest → IfHeadDamaged c.answer.result (slots_damage (g.D.Disk.state c.args.io.now.disk.now) c.args.io.now.space c.args.set.now)

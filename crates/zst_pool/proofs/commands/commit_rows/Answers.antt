@@ -1,5 +1,6 @@
 use Rattle.std.specs.Prelude.{None}
 use Rattle.std.proofs.Common.{refl, sym, ◌∙◌}
+use Rattle.zst_block.specs.IoStates.{io_of}
 use Rattle.zst_model.specs.pools.KeptPool.{kept_of}
 use Rattle.zst_pool.specs.Cost.{cells_only}
 use Rattle.zst_pool.specs.Damage.{NoDamage}
@@ -12,6 +13,7 @@ use Rattle.zst_pool.proofs.commands.commit_rows.Goals as goal
 
 pub returns-clause-runs : goal.returns-clause-runs
 returns-clause-runs g c = λ definition makes.
+    let io = io_of c.args.io.now in
     let old = g.D.Disk.state c.args.io.now.disk.now in
     let new = g.D.Disk.state c.commit_dir.new.io.disk.now in
     let space = c.args.io.now.space in
@@ -19,12 +21,12 @@ returns-clause-runs g c = λ definition makes.
     let commit = c.commit_dir.ensures in
     let made = c.commit_dir.result in
     runs_sound definition (cells_only 0) NoDamage kept c.of_committed.result (λ sector stated found is. committed_sound made sector stated found (sym c.of_committed.ensures ∙ is))
-    (runs_committed definition (cells_only 0) kept c.args.dir made c.of_committed.ensures c.requires.ready (idle_wrote kept (cells_only 0) old space c.args.io.now.failed None refl c.requires.space c.requires.ready)
+    (runs_committed definition (cells_only 0) kept io io (io_of c.commit_dir.new.io) c.args.dir made c.of_committed.ensures c.requires.ready (idle_wrote kept (cells_only 0) io None refl c.requires.space)
     (λ tight running told rested.
     let way = begun old kept running rested space c.requires.space in
     did_rows old old new space c.commit_dir.new.io.space kept running (definition running) c.args.guids c.args.dir made way (makes tight old.seen space running (way_runs old old space kept running way)) c.datasets-lawful.ensures.lawful c.requires.number
     (λ next is. commit.commits tight c.args.io.now.disk.now way.rested.rows (kept_of running) next told way.rested.rests way.fills is) commit.dir commit.blocks commit.fills)
-    c.requires.grows commit.full commit.takes commit.ends commit.fills commit.ready commit.stays commit.failed commit.cause commit.honest)
+    c.requires.grows commit.full commit.takes commit.ends commit.fills commit.ready commit.stays commit.size commit.failed commit.cause commit.honest commit.same)
 
 pub returns-clause-unplanned : goal.returns-clause-unplanned
 returns-clause-unplanned g c = λ fault is. no_plan-commit c.commit_dir.result c.of_committed.ensures fault is

@@ -1,13 +1,12 @@
 use Rattle.std.specs.Prelude.{Result, Err, None}
-use Rattle.std.proofs.Common.{◌≡◌, ◌+◌, ◌≤◌, Bool, length, refl, sym, ap, ◌∙◌, subst, arith}
+use Rattle.std.proofs.Common.{◌≡◌, ◌+◌, ◌≤◌, length, refl, sym, ap, ◌∙◌, subst, arith}
 use Rattle.zst_tree.specs.Sets.{SetFits}
-use Rattle.zst_outside.specs.Images.{DiskState}
 use Rattle.zst_block.specs.Blocks.{Has}
 use Rattle.zst_block.specs.IoCalls as blocks
+use Rattle.zst_block.specs.IoStates.{io_of}
 use Rattle.zst_model.specs.declared.refusals.refusal.Refusal.{Refusal}
 use Rattle.zst_model.specs.states.AppliedItems.{◌>>=◌}
 use Rattle.zst_model.specs.states.DatedState.{DatedState}
-use Rattle.zst_model.specs.pools.Pool.{Pool}
 use Rattle.zst_model.specs.pools.Step.{Stepped, committed, on_head}
 use Rattle.zst_dir.specs.Rows.{Rows, with_head}
 use Rattle.zst_dir.specs.Spelling.{dir_bytes}
@@ -17,8 +16,7 @@ use Rattle.zst_pool.specs.Calls.{IsUnderWay}
 use Rattle.zst_pool.specs.Checks.{with_head_of}
 use Rattle.zst_pool.specs.RowChanges.{MakesRows}
 use Rattle.zst_pool.specs.Faults.{StepFault}
-use Rattle.zst_pool.specs.Heads.{ChangedHead, stop_of}
-use Rattle.zst_pool.specs.Cost.{Cost}
+use Rattle.zst_pool.specs.Heads.{rested, stop_of}
 use Rattle.zst_pool.specs.declared.fault.PoolFault.{PoolFault}
 use Rattle.zst_pool.specs.declared.fault.PoolFault.TheVariants.{Damaged, OutOfMemory, Plan}
 use Rattle.zst_pool.proofs.CommandEnds.{did_rows}
@@ -29,45 +27,35 @@ use Rattle.zst_pool.proofs.PoolsAtRest.{few_guids, way_runs}
 use Rattle.zst_pool.proofs.CommitAnswers.{committed_sound}
 use Rattle.zst_pool.proofs.HeadAnswers.{memory_stops, well_is}
 use Rattle.zst_pool.proofs.CommandRuns.{Wrote, runs_committed, runs_fell}
-use Rattle.zst_pool.proofs.heads.commit_head.Given.{Over}
 use Rattle.zst_pool.proofs.PlanLemmas.{no_plan-commit}
 use Rattle.zst_pool.proofs.heads.commit_head.Goals as goal
-use Rattle.zst_pool.proofs.heads.commit_head.Goals.{After-judge}
-
--- what was written until the change was answered
-wrote : (g : Over) (c : After-judge g) (start : DiskState) (start_failed : Bool) (make : Pool → DatedState → Result DatedState Refusal) (cost : Cost)
-    → ChangedHead c.args.kept.now c.args.name.now make cost start start_failed (g.D.Disk.state c.args.io.now.disk.now) c.args.io.now.space c.args.io.now.failed c.args.set c.args.changed
-    → Wrote c.args.kept.now cost start start_failed (g.D.Disk.state c.args.io.now.disk.now) c.args.io.now.space c.args.io.now.failed (stop_of c.args.changed)
-wrote g c start start_failed make cost changed = (changed.works, changed.exact)
 
 pub set_head-requires : goal.set_head-requires
 set_head-requires g c = well_is c.args.changed (SetFits c.args.set) c.in_ok-judge.ensures.well c.requires.levels
 
 pub returns-in_err-judge-clause-ran : goal.returns-in_err-judge-clause-ran
-returns-in_err-judge-clause-ran g c = λ start start_failed make cost changed.
+returns-in_err-judge-clause-ran g c = λ start failed reference make cost changed.
     let now = g.D.Disk.state c.args.io.now.disk.now in
-    let space = c.args.io.now.space in
+    let kept = c.args.kept.now in
     let name = c.args.name.now in
     let fault = c.in_err-judge.field-0.0 in
-    let at = (goal.at.returns-in_err-judge-clause-ran g c).After-judge in
-    let writes = wrote g at (g.D.Disk.state start) start_failed make cost changed in
-    runs_fell (λ pool. on_head name pool (make pool)) cost c.args.kept.now fault (err_is c.from_residual.result fault c.from_residual.ensures.1) c.requires.ready c.in_err-judge.ensures.stops writes
-    (λ running told rested.
-    let made = changed.made running told rested in
+    runs_fell (λ pool. on_head name pool (make pool)) cost kept (rested (g.D.Disk.state start) failed reference kept) (io_of c.args.io.now) fault (err_is c.from_residual.result fault c.from_residual.ensures.1)
+    c.requires.ready c.in_err-judge.ensures.stops (changed.works, changed.exact)
+    (λ running told rests.
+    let made = changed.made running told rests in
     subst (λ (r : Result Stepped Refusal). StepFault (Unit {0}) r fault) (sym made.2)
-    (c.in_err-judge.ensures.judged None now.seen space c.args.set name running (make running made.0) rested.rests.reads.described.number made.1))
+    (c.in_err-judge.ensures.judged None now.seen c.args.io.now.space c.args.set name running (make running made.0) rests.rests.reads.described.number made.1))
 
 pub returns-in_err-dir-clause-ran : goal.returns-in_err-dir-clause-ran
-returns-in_err-dir-clause-ran g c = λ start start_failed make cost changed.
+returns-in_err-dir-clause-ran g c = λ start failed reference make cost changed.
+    let kept = c.args.kept.now in
     let name = c.args.name.now in
-    let at = (goal.at.returns-in_err-dir-clause-ran g c).After-judge in
-    let writes = wrote g at (g.D.Disk.state start) start_failed make cost changed in
     let fell = c.from_residual-in_err-dir in
-    runs_fell (λ pool. on_head name pool (make pool)) cost c.args.kept.now OutOfMemory (err_is fell.result OutOfMemory fell.ensures.1) c.requires.ready
-    (memory_stops (stop_of c.args.changed) (ap blocks.fails c.in_ok-judge.ensures.went_well)) writes (λ running told rested. tt)
+    runs_fell (λ pool. on_head name pool (make pool)) cost kept (rested (g.D.Disk.state start) failed reference kept) (io_of c.args.io.now) OutOfMemory (err_is fell.result OutOfMemory fell.ensures.1) c.requires.ready
+    (memory_stops (stop_of c.args.changed) (ap blocks.fails c.in_ok-judge.ensures.went_well)) (changed.works, changed.exact) (λ running told rests. tt)
 
 pub returns-clause-ran : goal.returns-clause-ran
-returns-clause-ran g c = λ start start_failed make cost changed.
+returns-clause-ran g c = λ start failed reference make cost changed.
     let from = g.D.Disk.state start in
     let old = g.D.Disk.state c.args.io.now.disk.now in
     let space = c.args.io.now.space in
@@ -76,19 +64,18 @@ returns-clause-ran g c = λ start start_failed make cost changed.
     let name = c.args.name.now in
     let set = c.args.set in
     let commit = c.commit_dir.ensures in
-    let at = (goal.at.returns-clause-ran g c).After-judge in
-    let writes = wrote g at from start_failed make cost changed in
-    let fills = (let one = writes.0 in one.2.fills) in
+    let fills = (let taken = changed.works in taken.2.fills) in
     let long : length (dir_bytes c.set_head.new.self) ≡ length (dir_bytes kept.dir) = c.set_head.ensures.as_long ∙ ap (λ (d : Rows). length (dir_bytes d)) c.in_ok-dir.ensures in
     let grows : length (dir_bytes c.set_head.new.self) ≤ length (dir_bytes kept.dir) + 1024 = omega (arith, long) in
     let dir = c.set_head.ensures.headed ∙ ap (λ (d : Rows). record d { datasets = with_head name set d.datasets }) c.in_ok-dir.ensures in
-    runs_committed (λ pool. on_head name pool (make pool)) cost kept c.set_head.new.self c.commit_dir.result c.of_committed.ensures c.requires.ready
-    (subst (Wrote kept cost from start_failed old space c.args.io.now.failed) c.in_ok-judge.ensures.went_well writes)
-    (λ tight running told rested.
-    let made = changed.made {tight = tight} running (commit.honest told) rested in
-    let head = c.in_ok-judge.ensures.judged (bound_of tight (running.number + 1)) old.seen space set name running (make running made.0) rested.rests.reads.described.number made.1 in
+    let rest = rested from failed reference kept in
+    runs_committed (λ pool. on_head name pool (make pool)) cost kept rest (io_of c.args.io.now) (io_of c.commit_dir.new.io) c.set_head.new.self c.commit_dir.result c.of_committed.ensures c.requires.ready
+    (subst (Wrote kept cost rest (io_of c.args.io.now)) c.in_ok-judge.ensures.went_well (changed.works, changed.exact))
+    (λ tight running told rests.
+    let made = changed.made {tight = tight} running (commit.honest told) rests in
+    let head = c.in_ok-judge.ensures.judged (bound_of tight (running.number + 1)) old.seen space set name running (make running made.0) rests.rests.reads.described.number made.1 in
     let is = made.2 ∙ ap (λ (r : Result DatedState Refusal). r >>= λ after. committed (with_head_of name after running)) head.1 ∙ head.3 in
-    let way : IsUnderWay tight from old space kept running = record { rested = rested; fills = fills } in
+    let way : IsUnderWay tight from old space kept running = record { rested = rests; fills = fills } in
     let runs = way_runs from old space kept running way in
     let makes : MakesRows tight (Has old.seen space) (on_head name running (make running)) running kept.body.guids c.set_head.new.self = record {
       next = with_head_of name head.0 running;
@@ -100,8 +87,8 @@ returns-clause-ran g c = λ start start_failed make cost changed.
       runs_by = subst (λ (r : Rows). RunsBy (bound_of tight (running.number + 1)) (Has old.seen space) r (with_head_of name head.0 running)) (sym dir) (head_runs (Has old.seen space) kept.dir running name set head.0 (RunsBy-later tight running.number (running.number + 1) (omega arith) (Has old.seen space) kept.dir running runs.runs_by) head.2);
     } in
     did_rows from old last space c.commit_dir.new.io.space kept running (on_head name running (make running)) kept.body.guids c.set_head.new.self c.commit_dir.result way makes c.datasets-lawful.ensures.lawful c.in_ok-judge.ensures.below
-    (λ next told_next. commit.commits tight start rested.rows (kept_of running) next told rested.rests fills told_next) commit.dir commit.blocks commit.fills)
-    grows commit.full commit.takes commit.ends commit.fills commit.ready commit.stays commit.failed commit.cause commit.honest
+    (λ next told_next. commit.commits tight start rests.rows (kept_of running) next told rests.rests fills told_next) commit.dir commit.blocks commit.fills)
+    grows commit.full commit.takes commit.ends commit.fills commit.ready commit.stays commit.size commit.failed commit.cause commit.honest commit.same
 
 pub returns-in_err-judge-clause-damaged : goal.returns-in_err-judge-clause-damaged
 returns-in_err-judge-clause-damaged g c = λ sector stated found is.

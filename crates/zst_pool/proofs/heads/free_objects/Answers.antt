@@ -1,4 +1,5 @@
 use Rattle.std.proofs.Common.{arith, ◌+◌, inl}
+use Rattle.zst_block.specs.IoStates.{io_of}
 use Rattle.zst_model.specs.pools.Pool.{Pool}
 use Rattle.zst_pool.specs.Checks.{freed}
 use Rattle.zst_pool.specs.Cost.{cells_only}
@@ -21,10 +22,10 @@ commit_head-requires-clause-ready g c =
 pub returns-clause-runs : goal.returns-clause-runs
 returns-clause-runs g c =
     let make = λ (pool : Pool). freed pool c.args.first c.args.count in
-    runs_head (λ pool. on_head c.args.name.now pool (make pool)) (cells_only 2) c.args.kept.now c.args.name.now (slots_damage (g.D.Disk.state c.args.io.now.disk.now)) (g.D.Disk.state c.change_numbers-changed.new.io.disk.now) c.args.io.now.space c.in_ok-set.set c.change_numbers-changed.result c.commit_head.result
+    runs_head (λ pool. on_head c.args.name.now pool (make pool)) (cells_only 2) c.args.kept.now c.args.name.now (slots_damage (g.D.Disk.state c.args.io.now.disk.now)) (io_of c.args.io.now) (io_of c.change_numbers-changed.new.io) c.in_ok-set.set c.change_numbers-changed.result c.commit_head.result
     c.requires.space c.in_ok-set.ensures.there c.change_numbers-changed.ensures.damaged c.commit_head.ensures.honest c.commit_head.ensures.damaged
-    (c.commit_head.ensures.ran c.args.io.now.disk.now c.args.io.now.failed make (cells_only 2)
-    (changed_head c.args.kept.now c.args.name.now make (cells_only 2) c.requires.space c.next_number-number.ensures c.in_ok-set.ensures.found c.change_numbers-changed.ensures.changed
+    (c.commit_head.ensures.ran c.args.io.now.disk.now c.args.io.now.failed c.args.io.now.disk.ghost_name make (cells_only 2)
+    (changed_head c.args.kept.now c.args.name.now make (cells_only 2) (io_of c.args.io.now) (io_of c.change_numbers-changed.new.io) c.requires.space c.next_number-number.ensures c.in_ok-set.ensures.found c.change_numbers-changed.ensures.changed
     (0, omega arith, c.change_numbers-changed.ensures.works) (λ pool head told holds finds. c.change_numbers-changed.ensures.works)))
 
 pub returns-in_err-set-clause-runs : goal.returns-in_err-set-clause-runs

@@ -1,4 +1,5 @@
 use Rattle.std.proofs.Common.{arith, ◌+◌, inl}
+use Rattle.zst_block.specs.IoStates.{io_of}
 use Rattle.zst_model.specs.pools.Pool.{Pool}
 use Rattle.zst_pool.specs.Checks.{put_in}
 use Rattle.zst_pool.specs.Cost.{object_cost, spill_sectors}
@@ -19,10 +20,10 @@ commit_head-requires-clause-ready g c =
 pub returns-clause-runs : goal.returns-clause-runs
 returns-clause-runs g c =
     let make = λ (pool : Pool). put_in pool c.args.object c.args.head c.args.bonus c.args.spill in
-    runs_head (λ pool. on_head c.args.name.now pool (make pool)) (object_cost c.args.spill) c.args.kept.now c.args.name.now (slots_damage (g.D.Disk.state c.args.io.now.disk.now)) (g.D.Disk.state c.change_object-changed.new.io.disk.now) c.args.io.now.space c.in_ok-set.set c.change_object-changed.result c.commit_head.result
+    runs_head (λ pool. on_head c.args.name.now pool (make pool)) (object_cost c.args.spill) c.args.kept.now c.args.name.now (slots_damage (g.D.Disk.state c.args.io.now.disk.now)) (io_of c.args.io.now) (io_of c.change_object-changed.new.io) c.in_ok-set.set c.change_object-changed.result c.commit_head.result
     c.requires.space c.in_ok-set.ensures.there c.change_object-changed.ensures.damaged c.commit_head.ensures.honest c.commit_head.ensures.damaged
-    (c.commit_head.ensures.ran c.args.io.now.disk.now c.args.io.now.failed make (object_cost c.args.spill)
-    (changed_head c.args.kept.now c.args.name.now make (object_cost c.args.spill) c.requires.space c.next_number-number.ensures c.in_ok-set.ensures.found c.change_object-changed.ensures.changed
+    (c.commit_head.ensures.ran c.args.io.now.disk.now c.args.io.now.failed c.args.io.now.disk.ghost_name make (object_cost c.args.spill)
+    (changed_head c.args.kept.now c.args.name.now make (object_cost c.args.spill) (io_of c.args.io.now) (io_of c.change_object-changed.new.io) c.requires.space c.next_number-number.ensures c.in_ok-set.ensures.found c.change_object-changed.ensures.changed
     (spill_sectors c.args.spill, omega arith, c.change_object-changed.ensures.works) (λ pool head told holds finds. c.change_object-changed.ensures.works)))
 
 pub returns-in_err-set-clause-plans : goal.returns-in_err-set-clause-plans

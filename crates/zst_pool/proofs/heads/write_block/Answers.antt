@@ -1,4 +1,5 @@
 use Rattle.std.proofs.Common.{ℕ, sym, subst, ◌+◌, inl}
+use Rattle.zst_block.specs.IoStates.{io_of}
 use Rattle.zst_model.specs.pools.Pool.{Pool}
 use Rattle.zst_model.specs.pools.Step.{written, on_head}
 use Rattle.zst_pool.specs.Cost.{write_cost}
@@ -20,13 +21,13 @@ commit_head-requires-clause-ready g c =
 pub returns-clause-runs : goal.returns-clause-runs
 returns-clause-runs g c =
     let make = λ (pool : Pool). written pool c.args.object c.args.index c.args.bytes.now in
-    runs_head (λ pool. on_head c.args.name.now pool (make pool)) (write_cost c.args.name.now c.args.object) c.args.kept.now c.args.name.now (block_damage (g.D.Disk.state c.args.io.now.disk.now)) (g.D.Disk.state c.change_block-changed.new.io.disk.now) c.args.io.now.space c.in_ok-set.set c.change_block-changed.result c.commit_head.result
+    runs_head (λ pool. on_head c.args.name.now pool (make pool)) (write_cost c.args.name.now c.args.object) c.args.kept.now c.args.name.now (block_damage (g.D.Disk.state c.args.io.now.disk.now)) (io_of c.args.io.now) (io_of c.change_block-changed.new.io) c.in_ok-set.set c.change_block-changed.result c.commit_head.result
     c.requires.space c.in_ok-set.ensures.there c.change_block-changed.ensures.damaged c.commit_head.ensures.honest c.commit_head.ensures.damaged
-    (c.commit_head.ensures.ran c.args.io.now.disk.now c.args.io.now.failed make (write_cost c.args.name.now c.args.object)
-    (changed_head c.args.kept.now c.args.name.now make (write_cost c.args.name.now c.args.object) c.requires.space c.next_number-number.ensures c.in_ok-set.ensures.found c.change_block-changed.ensures.changed
+    (c.commit_head.ensures.ran c.args.io.now.disk.now c.args.io.now.failed c.args.io.now.disk.ghost_name make (write_cost c.args.name.now c.args.object)
+    (changed_head c.args.kept.now c.args.name.now make (write_cost c.args.name.now c.args.object) (io_of c.args.io.now) (io_of c.change_block-changed.new.io) c.requires.space c.next_number-number.ensures c.in_ok-set.ensures.found c.change_block-changed.ensures.changed
     c.change_block-changed.ensures.works
     (λ pool head told holds finds.
-    subst (λ (n : ℕ). Works 1 n (g.D.Disk.state c.args.io.now.disk.now) c.args.io.now.space c.args.io.now.failed (g.D.Disk.state c.change_block-changed.new.io.disk.now) c.change_block-changed.new.io.space c.change_block-changed.new.io.failed (stop_of c.change_block-changed.result))
+    subst (λ (n : ℕ). Works 1 n (io_of c.args.io.now) (io_of c.change_block-changed.new.io) (stop_of c.change_block-changed.result))
     (sym (block_is c.args.name.now c.args.object pool head finds)) (c.change_block-changed.ensures.exact head told holds))))
 
 pub returns-in_err-set-clause-runs : goal.returns-in_err-set-clause-runs

@@ -1,4 +1,5 @@
 use Rattle.std.proofs.Common.{[], sym, subst, ◌≡◌, ◌<◌, ℕ, List, length}
+use Rattle.zst_block.specs.IoStates.{io_of}
 use Rattle.zst_model.specs.declared.pools.command.Command.{Command}
 use Rattle.zst_model.specs.declared.pools.command.Command.TheVariants.{Write}
 use Rattle.zst_model.specs.pools.Step.{IsCommand, stepped}
@@ -12,26 +13,26 @@ use Rattle.zst_pool.proofs.pool.run.Goals as goal
 pub returns-in-Object-clause-runs : goal.returns-in-Object-clause-runs
 unfolding stepped
 returns-in-Object-clause-runs g c =
-    subst (λ (command : Command). Runs (λ pool. stepped [] c.args.now command pool) (cost_of command) (TellsDamage command c.args.kept.now.dir (g.D.Disk.state c.args.io.now.disk.now) (free_by c.args.kept.now.body)) c.args.kept.now (g.D.Disk.state c.args.io.now.disk.now) c.args.io.now.failed (g.D.Disk.state c.put_object.new.io.disk.now) c.put_object.new.io.space c.put_object.new.io.failed c.put_object.result)
+    subst (λ (command : Command). Runs (λ pool. stepped [] c.args.now command pool) (cost_of command) (TellsDamage command c.args.kept.now.dir (g.D.Disk.state c.args.io.now.disk.now) (free_by c.args.kept.now.body)) c.args.kept.now (io_of c.args.io.now) (io_of c.put_object.new.io) c.put_object.result)
     (sym c.in-Object.is) c.put_object.ensures.runs
 
 pub returns-in-Punch-clause-runs : goal.returns-in-Punch-clause-runs
 unfolding stepped
 returns-in-Punch-clause-runs g c =
-    subst (λ (command : Command). Runs (λ pool. stepped [] c.args.now command pool) (cost_of command) (TellsDamage command c.args.kept.now.dir (g.D.Disk.state c.args.io.now.disk.now) (free_by c.args.kept.now.body)) c.args.kept.now (g.D.Disk.state c.args.io.now.disk.now) c.args.io.now.failed (g.D.Disk.state c.punch.new.io.disk.now) c.punch.new.io.space c.punch.new.io.failed c.punch.result)
+    subst (λ (command : Command). Runs (λ pool. stepped [] c.args.now command pool) (cost_of command) (TellsDamage command c.args.kept.now.dir (g.D.Disk.state c.args.io.now.disk.now) (free_by c.args.kept.now.body)) c.args.kept.now (io_of c.args.io.now) (io_of c.punch.new.io) c.punch.result)
     (sym c.in-Punch.is) c.punch.ensures.runs
 
 pub returns-in-Free-clause-runs : goal.returns-in-Free-clause-runs
 unfolding stepped
 returns-in-Free-clause-runs g c =
-    subst (λ (command : Command). Runs (λ pool. stepped [] c.args.now command pool) (cost_of command) (TellsDamage command c.args.kept.now.dir (g.D.Disk.state c.args.io.now.disk.now) (free_by c.args.kept.now.body)) c.args.kept.now (g.D.Disk.state c.args.io.now.disk.now) c.args.io.now.failed (g.D.Disk.state c.free_objects.new.io.disk.now) c.free_objects.new.io.space c.free_objects.new.io.failed c.free_objects.result)
+    subst (λ (command : Command). Runs (λ pool. stepped [] c.args.now command pool) (cost_of command) (TellsDamage command c.args.kept.now.dir (g.D.Disk.state c.args.io.now.disk.now) (free_by c.args.kept.now.body)) c.args.kept.now (io_of c.args.io.now) (io_of c.free_objects.new.io) c.free_objects.result)
     (sym c.in-Free.is) c.free_objects.ensures.runs
 
 pub returns-in-Write-clause-runs : goal.returns-in-Write-clause-runs
 unfolding stepped
 returns-in-Write-clause-runs g c =
     let runs = λ (command : Command).
-    Runs (λ pool. stepped [] c.args.now command pool) (cost_of command) (TellsDamage command c.args.kept.now.dir (g.D.Disk.state c.args.io.now.disk.now) (free_by c.args.kept.now.body)) c.args.kept.now (g.D.Disk.state c.args.io.now.disk.now) c.args.io.now.failed (g.D.Disk.state c.write_block.new.io.disk.now) c.write_block.new.io.space c.write_block.new.io.failed c.write_block.result in
+    Runs (λ pool. stepped [] c.args.now command pool) (cost_of command) (TellsDamage command c.args.kept.now.dir (g.D.Disk.state c.args.io.now.disk.now) (free_by c.args.kept.now.body)) c.args.kept.now (io_of c.args.io.now) (io_of c.write_block.new.io) c.write_block.result in
     subst runs (sym c.in-Write.is) (subst (λ (bytes : List ℕ). runs (Write c.in-Write.dataset c.in-Write.object c.in-Write.index bytes)) c.as_slice.ensures c.write_block.ensures.runs)
 
 pub returns-in-Fs-clause-plans : goal.returns-in-Fs-clause-plans
@@ -70,37 +71,37 @@ returns-in-Free-clause-plans g c =
 pub returns-in-Fs-clause-runs : goal.returns-in-Fs-clause-runs
 unfolding stepped
 returns-in-Fs-clause-runs g c =
-    subst (λ (command : Command). Runs (λ pool. stepped [] c.args.now command pool) (cost_of command) (TellsDamage command c.args.kept.now.dir (g.D.Disk.state c.args.io.now.disk.now) (free_by c.args.kept.now.body)) c.args.kept.now (g.D.Disk.state c.args.io.now.disk.now) c.args.io.now.failed (g.D.Disk.state c.make_dataset.new.io.disk.now) c.make_dataset.new.io.space c.make_dataset.new.io.failed c.make_dataset.result)
+    subst (λ (command : Command). Runs (λ pool. stepped [] c.args.now command pool) (cost_of command) (TellsDamage command c.args.kept.now.dir (g.D.Disk.state c.args.io.now.disk.now) (free_by c.args.kept.now.body)) c.args.kept.now (io_of c.args.io.now) (io_of c.make_dataset.new.io) c.make_dataset.result)
     (sym c.in-Fs.is) c.make_dataset.ensures.runs
 
 pub returns-in-Volume-clause-runs : goal.returns-in-Volume-clause-runs
 unfolding stepped
 returns-in-Volume-clause-runs g c =
-    subst (λ (command : Command). Runs (λ pool. stepped [] c.args.now command pool) (cost_of command) (TellsDamage command c.args.kept.now.dir (g.D.Disk.state c.args.io.now.disk.now) (free_by c.args.kept.now.body)) c.args.kept.now (g.D.Disk.state c.args.io.now.disk.now) c.args.io.now.failed (g.D.Disk.state c.make_dataset-in-Volume.new.io.disk.now) c.make_dataset-in-Volume.new.io.space c.make_dataset-in-Volume.new.io.failed c.make_dataset-in-Volume.result)
+    subst (λ (command : Command). Runs (λ pool. stepped [] c.args.now command pool) (cost_of command) (TellsDamage command c.args.kept.now.dir (g.D.Disk.state c.args.io.now.disk.now) (free_by c.args.kept.now.body)) c.args.kept.now (io_of c.args.io.now) (io_of c.make_dataset-in-Volume.new.io) c.make_dataset-in-Volume.result)
     (sym c.in-Volume.is) c.make_dataset-in-Volume.ensures.runs
 
 pub returns-in-Snapshot-clause-runs : goal.returns-in-Snapshot-clause-runs
 unfolding stepped
 returns-in-Snapshot-clause-runs g c =
-    subst (λ (command : Command). Runs (λ pool. stepped [] c.args.now command pool) (cost_of command) (TellsDamage command c.args.kept.now.dir (g.D.Disk.state c.args.io.now.disk.now) (free_by c.args.kept.now.body)) c.args.kept.now (g.D.Disk.state c.args.io.now.disk.now) c.args.io.now.failed (g.D.Disk.state c.take_snapshot.new.io.disk.now) c.take_snapshot.new.io.space c.take_snapshot.new.io.failed c.take_snapshot.result)
+    subst (λ (command : Command). Runs (λ pool. stepped [] c.args.now command pool) (cost_of command) (TellsDamage command c.args.kept.now.dir (g.D.Disk.state c.args.io.now.disk.now) (free_by c.args.kept.now.body)) c.args.kept.now (io_of c.args.io.now) (io_of c.take_snapshot.new.io) c.take_snapshot.result)
     (sym c.in-Snapshot.is) c.take_snapshot.ensures.runs
 
 pub returns-in-Clone-clause-runs : goal.returns-in-Clone-clause-runs
 unfolding stepped
 returns-in-Clone-clause-runs g c =
-    subst (λ (command : Command). Runs (λ pool. stepped [] c.args.now command pool) (cost_of command) (TellsDamage command c.args.kept.now.dir (g.D.Disk.state c.args.io.now.disk.now) (free_by c.args.kept.now.body)) c.args.kept.now (g.D.Disk.state c.args.io.now.disk.now) c.args.io.now.failed (g.D.Disk.state c.make_clone.new.io.disk.now) c.make_clone.new.io.space c.make_clone.new.io.failed c.make_clone.result)
+    subst (λ (command : Command). Runs (λ pool. stepped [] c.args.now command pool) (cost_of command) (TellsDamage command c.args.kept.now.dir (g.D.Disk.state c.args.io.now.disk.now) (free_by c.args.kept.now.body)) c.args.kept.now (io_of c.args.io.now) (io_of c.make_clone.new.io) c.make_clone.result)
     (sym c.in-Clone.is) c.make_clone.ensures.runs
 
 pub returns-in-Bookmark-clause-runs : goal.returns-in-Bookmark-clause-runs
 unfolding stepped
 returns-in-Bookmark-clause-runs g c =
-    subst (λ (command : Command). Runs (λ pool. stepped [] c.args.now command pool) (cost_of command) (TellsDamage command c.args.kept.now.dir (g.D.Disk.state c.args.io.now.disk.now) (free_by c.args.kept.now.body)) c.args.kept.now (g.D.Disk.state c.args.io.now.disk.now) c.args.io.now.failed (g.D.Disk.state c.make_bookmark.new.io.disk.now) c.make_bookmark.new.io.space c.make_bookmark.new.io.failed c.make_bookmark.result)
+    subst (λ (command : Command). Runs (λ pool. stepped [] c.args.now command pool) (cost_of command) (TellsDamage command c.args.kept.now.dir (g.D.Disk.state c.args.io.now.disk.now) (free_by c.args.kept.now.body)) c.args.kept.now (io_of c.args.io.now) (io_of c.make_bookmark.new.io) c.make_bookmark.result)
     (sym c.in-Bookmark.is) c.make_bookmark.ensures.runs
 
 pub returns-in-Destroy-clause-runs : goal.returns-in-Destroy-clause-runs
 unfolding stepped
 returns-in-Destroy-clause-runs g c =
-    subst (λ (command : Command). Runs (λ pool. stepped [] c.args.now command pool) (cost_of command) (TellsDamage command c.args.kept.now.dir (g.D.Disk.state c.args.io.now.disk.now) (free_by c.args.kept.now.body)) c.args.kept.now (g.D.Disk.state c.args.io.now.disk.now) c.args.io.now.failed (g.D.Disk.state c.destroy.new.io.disk.now) c.destroy.new.io.space c.destroy.new.io.failed c.destroy.result)
+    subst (λ (command : Command). Runs (λ pool. stepped [] c.args.now command pool) (cost_of command) (TellsDamage command c.args.kept.now.dir (g.D.Disk.state c.args.io.now.disk.now) (free_by c.args.kept.now.body)) c.args.kept.now (io_of c.args.io.now) (io_of c.destroy.new.io) c.destroy.result)
     (sym c.in-Destroy.is) c.destroy.ensures.runs
 
 pub returns-in-Destroy-clause-plans : goal.returns-in-Destroy-clause-plans
@@ -111,7 +112,7 @@ returns-in-Destroy-clause-plans g c =
 pub returns-in-Rollback-clause-runs : goal.returns-in-Rollback-clause-runs
 unfolding stepped
 returns-in-Rollback-clause-runs g c =
-    subst (λ (command : Command). Runs (λ pool. stepped [] c.args.now command pool) (cost_of command) (TellsDamage command c.args.kept.now.dir (g.D.Disk.state c.args.io.now.disk.now) (free_by c.args.kept.now.body)) c.args.kept.now (g.D.Disk.state c.args.io.now.disk.now) c.args.io.now.failed (g.D.Disk.state c.roll_back.new.io.disk.now) c.roll_back.new.io.space c.roll_back.new.io.failed c.roll_back.result)
+    subst (λ (command : Command). Runs (λ pool. stepped [] c.args.now command pool) (cost_of command) (TellsDamage command c.args.kept.now.dir (g.D.Disk.state c.args.io.now.disk.now) (free_by c.args.kept.now.body)) c.args.kept.now (io_of c.args.io.now) (io_of c.roll_back.new.io) c.roll_back.result)
     (sym c.in-Rollback.is) c.roll_back.ensures.runs
 
 pub returns-in-Rollback-clause-plans : goal.returns-in-Rollback-clause-plans
@@ -132,7 +133,7 @@ returns-in-Bookmark-clause-plans g c =
 pub returns-in-Abort-clause-runs : goal.returns-in-Abort-clause-runs
 unfolding stepped
 returns-in-Abort-clause-runs g c =
-    subst (λ (command : Command). Runs (λ pool. stepped [] c.args.now command pool) (cost_of command) (TellsDamage command c.args.kept.now.dir (g.D.Disk.state c.args.io.now.disk.now) (free_by c.args.kept.now.body)) c.args.kept.now (g.D.Disk.state c.args.io.now.disk.now) c.args.io.now.failed (g.D.Disk.state c.abort.new.io.disk.now) c.abort.new.io.space c.abort.new.io.failed c.abort.result)
+    subst (λ (command : Command). Runs (λ pool. stepped [] c.args.now command pool) (cost_of command) (TellsDamage command c.args.kept.now.dir (g.D.Disk.state c.args.io.now.disk.now) (free_by c.args.kept.now.body)) c.args.kept.now (io_of c.args.io.now) (io_of c.abort.new.io) c.abort.result)
     (sym c.in-Abort.is) c.abort.ensures.runs
 
 pub returns-in-Abort-clause-plans : goal.returns-in-Abort-clause-plans

@@ -20,7 +20,7 @@ use Rattle.zst_pool.proofs.queries.list_named.Goals as goal
 pub returns-in_err-set-clause-tells : goal.returns-in_err-set-clause-tells
 returns-in_err-set-clause-tells g c = λ now.
     let p = err_from_is_err_and c.from_residual.result c.from_residual.ensures.1 in
-    rw (p.1, p.2, c.in_err-set.ensures.missing) (tells_missing (λ pool. stepped [] now (commands.ListObjects c.args.name) pool) _ c.args.kept.now _ _ _ c.args.name
+    rw (p.1, p.2, c.in_err-set.ensures.missing) (tells_missing (λ pool. stepped [] now (commands.ListObjects c.args.name) pool) _ c.args.kept.now _ c.args.name
     (λ pool none. list_missing now c.args.name pool none) c.in_err-set.ensures.absent)
 
 pub returns-in_err-list_objects-clause-tells : goal.returns-in_err-list_objects-clause-tells
@@ -33,7 +33,7 @@ returns-in_err-list_objects-clause-tells g c = λ now.
       told = λ pool honest runs.
           let named = c.in_ok-set.ensures.holds _ _ pool runs in
           list_refused (stepped [] now (commands.ListObjects c.args.name) pool) named.state fault (is.told named.state honest named.holds);
-      looks = subst (Looks _ _ _ _ _ _) (stop_list Reply Reply fault) is.looks;
+      looks = subst (Looks _ _) (stop_list Reply Reply fault) is.looks;
       open_still = λ same. list_open fault (cc);
       damaged = λ honest. of_named {T = Reply} c.args.kept.now.dir c.args.name (look_damage disk) c.in_ok-set.set c.in_ok-set.ensures.set (Err (of_list fault)) (list_told Reply (look_damage disk c.in_ok-set.set) fault (is.damaged honest));
     })

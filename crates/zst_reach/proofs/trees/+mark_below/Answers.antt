@@ -1,7 +1,7 @@
-use Rattle.std.proofs.Common.{inl, inr, ⊎_elim, ◌-◌, refl, sym, ◌∙◌, arith}
+use Rattle.std.proofs.Common.{inl, inr, ⊎_elim, ◌-◌, sym, ◌∙◌, arith}
 use Rattle.std.proofs.lemmas.Bool.{cases_lt}
 use Rattle.std.proofs.lemmas.Result.{err_from_is_err_and}
-use Rattle.zst_block.proofs.IoCallLemmas.{Looks-fits, Looks-none, Looks-then}
+use Rattle.zst_block.proofs.IoCallLemmas.{Looks-none, Looks-then}
 use Rattle.zst_tree.specs.Damage.{NamesNode}
 use Rattle.zst_tree.specs.Indices.{child}
 use Rattle.zst_tree.proofs.Damage.{fault_below}
@@ -35,9 +35,7 @@ loop-k-init g t c = record {
   more = MarksMore-none _;
   room = omega (arith, c.requires.room, c.mark_block.ensures.room);
   only = λ honest sector marked. inl marked;
-  looks = Looks-none _ _ _;
-  fit = c.in_ok-beside.ensures.kept_fit;
-  same = refl;
+  looks = Looks-none _;
 }
 
 pub loop-k-preserved : goal.loop-k-preserved
@@ -69,8 +67,6 @@ loop-k-preserved g t c =
           (c.in_ok-load_node.ensures.block at_load) c.replace-node.ensures.value (omega arith) (inv.looks.reads.seen ∙ looked.seen ∙ loaded.seen) c.child_at.ensures.child reached)))
           (step.only honest sector marked);
       looks = Looks-then inv.looks step.looks;
-      fit = Looks-fits inv.fit step.looks;
-      same = step.same ∙ inv.same;
     }
 
 pub returns-in_err-mark_below-clause-only : goal.returns-in_err-mark_below-clause-only
@@ -124,5 +120,5 @@ returns-in_err-mark_below-clause-damaged g t c = λ honest.
     let loaded = c.in_ok-load_node.ensures.looks in
     let at_load = looked.reads.honest (inv.looks.reads.honest (step.looks.reads.honest honest)) in
     let p = err_from_is_err_and c.from_residual-in_err-mark_below.result c.from_residual-in_err-mark_below.ensures.1 in
-    rw (p.1, p.2) (fault_below _ _ _ _ _ _ _ (Looks-then loaded (Looks-then looked inv.looks)) (λ seen. NamesNode) c.args.level c.args.ptr c.load_node.new.io.node c.loop-k.k (omega arith) (sym c.is_flat.ensures ∙ c.if-is_flat.false)
+    rw (p.1, p.2) (fault_below (Looks-then loaded (Looks-then looked inv.looks)) (λ seen. NamesNode) c.args.level c.args.ptr c.load_node.new.io.node c.loop-k.k (omega arith) (sym c.is_flat.ensures ∙ c.if-is_flat.false)
     (c.in_ok-load_node.ensures.block at_load) (omega arith) _ (rw (c.child_at.ensures.child, c.replace-node.ensures.value) at (step.damaged honest)))

@@ -77,7 +77,7 @@ returns-in-Err-clause-damaged g c = λ sector stated found honest is.
     (c.in-Err.ensures.changed.keeps.damaged honest) fault
 
 pub returns-in-Ok-clause-spends : goal.returns-in-Ok-clause-spends
-returns-in-Ok-clause-spends g c = spends_one (covered_of c.args.covered.now) _ _ _ _ _ _ _ c.in-Ok.ensures.changed.keeps.works
+returns-in-Ok-clause-spends g c = spends_one (covered_of c.args.covered.now) c.in-Ok.ensures.changed.keeps.works
 
 pub returns-in-Err-clause-spends : goal.returns-in-Err-clause-spends
 returns-in-Err-clause-spends g c =
@@ -85,7 +85,7 @@ returns-in-Err-clause-spends g c =
     let new = c.apply.new.io.space in
     let covered = covered_of c.args.covered.now in
     subst (λ (fault : RecvFault). Spends (covered ∷ []) old new (stop_at fault)) (sym c.of_record.ensures)
-    (subst (λ (stop : Option BlockFault). Spends (covered ∷ []) old new stop) (sym (stop_same covered.index c.in-Err.fault)) (spends_one covered _ _ _ _ _ _ _ c.in-Err.ensures.changed.keeps.works))
+    (subst (λ (stop : Option BlockFault). Spends (covered ∷ []) old new stop) (sym (stop_same covered.index c.in-Err.fault)) (spends_one covered c.in-Err.ensures.changed.keeps.works))
 
 pub returns-in-Err-clause-unplanned : goal.returns-in-Err-clause-unplanned
 returns-in-Err-clause-unplanned g c = λ fault is.

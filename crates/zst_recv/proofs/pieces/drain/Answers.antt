@@ -1,6 +1,6 @@
 use Rattle.std.proofs.Common.{◌+◌, Bool, [], ◌∷◌, ◌++◌, refl, sym, ap, ◌∙◌, arith, Err, subst}
 use Rattle.std.proofs.lemmas.Result.{err_from_is_err_and}
-use Rattle.zst_block.specs.Blocks.{Has}
+use Rattle.zst_block.specs.IoStates.{blocks_of}
 use Rattle.zst_record.specs.Heads.{covered_of}
 use Rattle.zst_stream.specs.Reading.{waiting, faulty, complete}
 use Rattle.zst_image.specs.Reads.{bound_of}
@@ -22,7 +22,7 @@ use Rattle.zst_recv.proofs.pieces.drain.Goals as goal
 
 pub records-init : goal.records-init
 records-init g c =
-    let is_now = λ (t : Bool) (r : Pool). IsWork (bound_of t (r.number + 1)) (Has (g.D.Disk.state c.args.io.now.disk.now).seen c.args.io.now.space) c.args.batch.now in
+    let is_now = λ (t : Bool) (r : Pool). IsWork (bound_of t (r.number + 1)) (blocks_of c.args.io.now) c.args.batch.now in
     record {
       drained = λ tight start running work text handed told way tells stands is. drain_begins c.args.ask.now running text handed work c.args.reader.now (is_now tight running) stands is;
       stage = c.requires.stage;
@@ -34,9 +34,8 @@ records-init g c =
       planned = λ text handed fault stands waits refuses. waits;
       still = λ text handed stands waits none. waits;
       pushed = refl;
-      fills = Fills-none _ _ _ c.requires.fits;
+      fills = Fills-none _;
       spent = λ text handed stands. ([], subst (StandsFor c.args.reader.now text) (sym (append-nil handed)) stands, spends_idle [] c.args.io.now.space None refl);
-      same = refl;
     }
 
 pub take-requires-clause-covered : goal.take-requires-clause-covered
@@ -60,13 +59,13 @@ records-preserved g c =
     let h = rw (c.in-Ok-Record.is, c.in-Ok-Record.field-0-is) at c.next.follows.holds-at-none in
     let i = c.records.invariant in
     let e = c.in_ok-take-in-Ok-Record.ensures in
-    let is_now = λ (t : Bool) (r : Pool). IsWork (bound_of t (r.number + 1)) (Has (g.D.Disk.state c.take.new.io.disk.now).seen c.take.new.io.space) c.take.new.self in
+    let is_now = λ (t : Bool) (r : Pool). IsWork (bound_of t (r.number + 1)) (blocks_of c.take.new.io) c.take.new.self in
     let next = covered_of c.in-Ok-Record.record in
     record {
       drained = λ tight start running work text handed told way tells stands is.
           let d = i.drained tight start running work text handed (e.fills.fills.honest told) way tells stands is in
           drain_goes_on c.args.ask.now running text handed work _ _ _ (is_now tight running) d next (h.1 text (handed ++ d.records) d.stands)
-          (e.took tight start running d.after told (goes_under _ _ _ _ _ _ running _ _ _ way i.fills) (tells_on c.args.kept.now.dir running c.args.ask.now d.records work d.after d.were_taken tells) d.is);
+          (e.took tight start running d.after told (goes_under _ running way i.fills) (tells_on c.args.kept.now.dir running c.args.ask.now d.records work d.after d.were_taken tells) d.is);
       stage = e.stage;
       idle = λ none. let same = e.idle none in same ∙ i.idle (ap (λ (b : Batch). b.taken) (sym same) ∙ none);
       waits = λ waits. let same = e.waits waits in same ∙ i.waits (ap (λ (b : Batch). waits_at b.stage) (sym same) ∙ waits);
@@ -90,9 +89,8 @@ records-preserved g c =
           let later = i.reads text handed stands in
           absurd (covers_some _ text later.0 next (h.1 text later.0 later.1) none);
       pushed = h.0.pushed ∙ i.pushed;
-      fills = Fills-then _ _ _ _ _ _ _ _ _ _ i.fills e.fills;
+      fills = Fills-then i.fills e.fills;
       spent = λ text handed stands. spent_more c.records.reader _ text handed next c.args.io.now.space c.records.io.space c.take.new.io.space None (i.spent text handed stands) (h.1 text) e.spends;
-      same = e.same ∙ i.same;
     }
 
 pub returns-in_err-take-in-Ok-Record-clause-drained : goal.returns-in_err-take-in-Ok-Record-clause-drained
@@ -101,10 +99,10 @@ returns-in_err-take-in-Ok-Record-clause-drained g c = λ tight start running wor
     let p = err_from_is_err_and c.from_residual.result c.from_residual.ensures.1 in
     let i = c.records.invariant in
     let e = c.in_err-take-in-Ok-Record.ensures in
-    let is_now = λ (t : Bool) (r : Pool). IsWork (bound_of t (r.number + 1)) (Has (g.D.Disk.state c.take.new.io.disk.now).seen c.take.new.io.space) c.take.new.self in
+    let is_now = λ (t : Bool) (r : Pool). IsWork (bound_of t (r.number + 1)) (blocks_of c.take.new.io) c.take.new.self in
     let d = i.drained tight start running work text handed (e.fills.fills.honest told) way tells stands is in
     rw (p.1, p.2) (drain_refused c.args.ask.now running text handed work _ _ _ (is_now tight running) d (covered_of c.in-Ok-Record.record) _ (h.1 text (handed ++ d.records) d.stands)
-    (e.took tight start running d.after told (goes_under _ _ _ _ _ _ running _ _ _ way i.fills) (tells_on c.args.kept.now.dir running c.args.ask.now d.records work d.after d.were_taken tells) d.is))
+    (e.took tight start running d.after told (goes_under _ running way i.fills) (tells_on c.args.kept.now.dir running c.args.ask.now d.records work d.after d.were_taken tells) d.is))
 
 pub returns-in_err-take-in-Ok-Record-clause-reads : goal.returns-in_err-take-in-Ok-Record-clause-reads
 returns-in_err-take-in-Ok-Record-clause-reads g c = λ text handed stands.
@@ -115,12 +113,12 @@ returns-in_err-take-in-Ok-Record-clause-reads g c = λ text handed stands.
 pub returns-in_err-take-in-Ok-Record-clause-fills : goal.returns-in_err-take-in-Ok-Record-clause-fills
 returns-in_err-take-in-Ok-Record-clause-fills g c =
     let p = err_from_is_err_and c.from_residual.result c.from_residual.ensures.1 in
-    rw (p.1, p.2) (Fills-then _ _ _ _ _ _ _ _ _ _ c.records.invariant.fills c.in_err-take-in-Ok-Record.ensures.fills)
+    rw (p.1, p.2) (Fills-then c.records.invariant.fills c.in_err-take-in-Ok-Record.ensures.fills)
 
 pub returns-in-Ok-NeedMore-clause-drained : goal.returns-in-Ok-NeedMore-clause-drained
 returns-in-Ok-NeedMore-clause-drained g c = λ tight start running work text handed told way tells stands is.
     let h = rw (c.in-Ok-NeedMore.is, c.in-Ok-NeedMore.field-0-is) at c.next.follows.holds-at-none in
-    let is_now = λ (t : Bool) (r : Pool). IsWork (bound_of t (r.number + 1)) (Has (g.D.Disk.state c.records.io.disk.now).seen c.records.io.space) c.records.batch in
+    let is_now = λ (t : Bool) (r : Pool). IsWork (bound_of t (r.number + 1)) (blocks_of c.records.io) c.records.batch in
     let d = c.records.invariant.drained tight start running work text handed told way tells stands is in
     drain_ends c.args.ask.now running text handed work _ _ (is_now tight running) (is_now tight running) d waiting (h.1 text (handed ++ d.records) d.stands) d.is
 
@@ -133,7 +131,7 @@ returns-in-Ok-NeedMore-clause-reads g c = λ text handed stands.
 pub returns-in-Ok-End-clause-drained : goal.returns-in-Ok-End-clause-drained
 returns-in-Ok-End-clause-drained g c = λ tight start running work text handed told way tells stands is.
     let h = rw (c.in-Ok-End.is, c.in-Ok-End.field-0-is) at c.next.follows.holds-at-none in
-    let is_now = λ (t : Bool) (r : Pool). IsWork (bound_of t (r.number + 1)) (Has (g.D.Disk.state c.records.io.disk.now).seen c.records.io.space) c.records.batch in
+    let is_now = λ (t : Bool) (r : Pool). IsWork (bound_of t (r.number + 1)) (blocks_of c.records.io) c.records.batch in
     let d = c.records.invariant.drained tight start running work text handed told way tells stands is in
     drain_ends c.args.ask.now running text handed work _ _ (is_now tight running) (is_now tight running) d complete (h.1 text (handed ++ d.records) d.stands) d.is
 
@@ -146,7 +144,7 @@ returns-in-Ok-End-clause-reads g c = λ text handed stands.
 pub returns-in-Err-clause-drained : goal.returns-in-Err-clause-drained
 returns-in-Err-clause-drained g c = λ tight start running work text handed told way tells stands is.
     let h = rw c.in-Err.is at c.next.follows.holds-at-none in
-    let is_now = λ (t : Bool) (r : Pool). IsWork (bound_of t (r.number + 1)) (Has (g.D.Disk.state c.records.io.disk.now).seen c.records.io.space) c.records.batch in
+    let is_now = λ (t : Bool) (r : Pool). IsWork (bound_of t (r.number + 1)) (blocks_of c.records.io) c.records.batch in
     let d = c.records.invariant.drained tight start running work text handed told way tells stands is in
     drain_ends c.args.ask.now running text handed work _ _ (is_now tight running) (is_now tight running) d (faulty c.in-Err.fault) (h.1 text (handed ++ d.records) d.stands) d.is
 

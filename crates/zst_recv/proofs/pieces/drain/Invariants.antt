@@ -1,6 +1,6 @@
 use Rattle.std.proofs.Common.{◌≡◌, ◌+◌, ◌-◌, Bool, ◌^◌, List, ℕ, false, true, ◌++◌, []}
 use Rattle.std.specs.Prelude.{None}
-use Rattle.zst_block.specs.Blocks.{Has}
+use Rattle.zst_block.specs.IoStates.{IsHonest, blocks_of, disk_of, io_of}
 use Rattle.zst_image.specs.Reads.{bound_of}
 use Rattle.zst_model.specs.declared.refusals.plan_fault.PlanFault.{PlanFault}
 use Rattle.zst_model.specs.pools.Pool.{Pool}
@@ -19,12 +19,11 @@ use Rattle.zst_recv.proofs.pieces.drain.Given as goal
 -- what was handed out so far was taken
 abbrev pub invariant-records : goal.invariant-records
 invariant-records g l =
-    let disk = g.D.Disk in
     record {
-      drained : (tight : Bool) (start : g.row.D.Denot) (running : Pool) (work : Work) (text : List ℕ) (handed : List Covered) → (disk.state l.io.disk.now).honest
-          → IsUnderWay tight (disk.state start) (disk.state l.fn.io.disk.now) l.fn.io.space l.kept running → TellsBefore l.ask work.stage l.kept.dir running
-          → StandsFor l.fn.reader text handed → IsWork (bound_of tight (running.number + 1)) (Has (disk.state l.fn.io.disk.now).seen l.fn.io.space) l.fn.batch work
-          → Draining l.ask running l.reader text handed (IsWork (bound_of tight (running.number + 1)) (Has (disk.state l.io.disk.now).seen l.io.space) l.batch) work;
+      drained : (tight : Bool) (start : g.row.D.Denot) (running : Pool) (work : Work) (text : List ℕ) (handed : List Covered) → IsHonest l.io
+          → IsUnderWay tight (g.D.Disk.state start) (disk_of l.fn.io) l.fn.io.space l.kept running → TellsBefore l.ask work.stage l.kept.dir running
+          → StandsFor l.fn.reader text handed → IsWork (bound_of tight (running.number + 1)) (blocks_of l.fn.io) l.fn.batch work
+          → Draining l.ask running l.reader text handed (IsWork (bound_of tight (running.number + 1)) (blocks_of l.io) l.batch) work;
       stage : StageFits l.kept.dir l.ask.target l.batch.stage;
       idle : l.batch.taken ≡ false → l.batch ≡ l.fn.batch;
       waits : waits_at l.batch.stage ≡ true → l.batch ≡ l.fn.batch;
@@ -34,9 +33,8 @@ invariant-records g l =
       planned : (text : List ℕ) (handed : List Covered) (fault : PlanFault) → StandsFor l.fn.reader text handed → waits_at l.fn.batch.stage ≡ true → RefusesOne l.kept.dir l.ask text fault → waits_at l.batch.stage ≡ true;
       still : (text : List ℕ) (handed : List Covered) → StandsFor l.fn.reader text handed → waits_at l.fn.batch.stage ≡ true → (reading text).covered ≡ [] → waits_at l.batch.stage ≡ true;
       pushed : pushed_of l.reader ≡ pushed_of l.fn.reader;
-      fills : Fills (disk.state l.fn.io.disk.now) l.fn.io.space l.fn.io.failed (disk.state l.io.disk.now) l.io.space l.io.failed None;
+      fills : Fills (io_of l.fn.io) (io_of l.io) None;
       spent : (text : List ℕ) (handed : List Covered) → StandsFor l.fn.reader text handed → (records : List Covered) × StandsFor l.reader text (handed ++ records) × Spends records l.fn.io.space l.io.space None;
-      same : l.io.disk.ghost_name ≡ l.fn.io.disk.ghost_name;
     }
 
 -- a stream has at most so many records

@@ -1,7 +1,7 @@
 use Rattle.std.proofs.Common.{◌≡◌, ◌+◌, Bool, ◌<◌, ◌==◌, ◌^◌, false, true, [], ◌++◌, length, take, drop, refl, sym, ap, ◌∙◌, Ok, Err, List, ℕ, subst, append_assoc}
 use Rattle.std.proofs.lemmas.List.Elements.{All-from_get_or}
 use Rattle.std.proofs.lemmas.Result.{err_from_is_err_and}
-use Rattle.zst_block.specs.Blocks.{Has}
+use Rattle.zst_block.specs.IoStates.{blocks_of}
 use Rattle.std.proofs.lemmas.List.{append-nil}
 use Rattle.zst_reader.specs.StandsFor.{StandsFor, pushed_of, room_of, HandsOut}
 use Rattle.zst_image.specs.Reads.{bound_of}
@@ -25,7 +25,7 @@ use Rattle.zst_recv.proofs.pieces.read.Goals as goal
 
 pub pushes-init : goal.pushes-init
 pushes-init g c =
-    let is_now = λ (t : Bool) (r : Pool). IsWork (bound_of t (r.number + 1)) (Has (g.D.Disk.state c.args.io.now.disk.now).seen c.args.io.now.space) c.args.batch.now in
+    let is_now = λ (t : Bool) (r : Pool). IsWork (bound_of t (r.number + 1)) (blocks_of c.args.io.now) c.args.batch.now in
     record {
       piece = ([], refl, λ tight start running work text handed told way tells hands is. piece_begins c.args.ask.now running text handed work c.args.reader.now (is_now tight running) hands is);
       stage = c.requires.stage;
@@ -37,10 +37,9 @@ pushes-init g c =
       told = refl;
       bytes = All-from_get_or (λ byte. byte < 2 ^ 8) c.args.piece.now 0 (λ k within. (c.type_inv.piece k).fits);
       limit = c.requires.limit;
-      fills = Fills-none _ _ _ c.requires.fits;
+      fills = Fills-none _;
       hands = ([], refl, λ text handed hands. (handed, rw (append-nil text) hands));
       spent = ([], refl, λ text handed stands. ([], rw (append-nil text, append-nil handed) stands, spends_idle [] c.args.io.now.space None refl));
-      same = refl;
     }
 
 pub drain-requires-clause-reads : goal.drain-requires-clause-reads
@@ -64,7 +63,7 @@ pushes-preserved g c =
     let e = c.in_ok-drain.ensures in
     let n = c.push-count.result in
     let rest = c.pushes.rest.now in
-    let is_now = λ (t : Bool) (r : Pool). IsWork (bound_of t (r.number + 1)) (Has (g.D.Disk.state c.drain.new.io.disk.now).seen c.drain.new.io.space) c.drain.new.batch in
+    let is_now = λ (t : Bool) (r : Pool). IsWork (bound_of t (r.number + 1)) (blocks_of c.drain.new.io) c.drain.new.batch in
     record {
       piece = (
         i.piece.0 ++ take n rest,
@@ -72,7 +71,7 @@ pushes-preserved g c =
         λ tight start running work text handed told way tells hands is.
             let m = i.piece.2 tight start running work text handed (e.fills.fills.honest told) way tells hands is in
             let d =
-            e.drained tight start running m.after ((text ++ i.piece.0) ++ take n rest) (handed ++ m.records) told (goes_under _ _ _ _ _ _ running _ _ _ way i.fills) (tells_on c.args.kept.now.dir running c.args.ask.now m.records work m.after m.were_taken tells)
+            e.drained tight start running m.after ((text ++ i.piece.0) ++ take n rest) (handed ++ m.records) told (goes_under _ running way i.fills) (tells_on c.args.kept.now.dir running c.args.ask.now m.records work m.after m.were_taken tells)
             (push.stands (text ++ i.piece.0) (handed ++ m.records) m.reads.stands) m.is in
             piece_goes_on c.args.ask.now running text handed work hands.whole c.args.piece.now _ c.drain.new.reader i.piece.0 (take n rest) (drop n rest) _ (is_now tight running) (piece_split c.args.piece.now i.piece.0 rest n i.piece.1) m
             c.in_ok-drain.field-0 c.if-branch.false d,
@@ -126,7 +125,7 @@ pushes-preserved g c =
       told = told_left rest n (room_of c.pushes.reader) _ _ _ _ push.count push.pushed e.pushed i.told;
       bytes = left_bytes rest n i.bytes;
       limit = limit_left rest n (room_of c.pushes.reader) (pushed_of c.pushes.reader) (pushed_of c.push-count.new.self) (pushed_of c.drain.new.reader) push.count push.pushed e.pushed i.limit;
-      fills = Fills-then _ _ _ _ _ _ _ _ _ _ i.fills e.fills;
+      fills = Fills-then i.fills e.fills;
       hands = (
         i.hands.0 ++ take n rest,
         piece_left c.args.piece.now i.hands.0 rest n i.hands.1,
@@ -144,7 +143,6 @@ pushes-preserved g c =
             let both = spent_then c.drain.new.reader ((text ++ i.spent.0) ++ take n rest) handed m.0 c.args.io.now.space c.pushes.io.space c.drain.new.io.space None m.2 d in
             (both.0, subst (λ (t : List ℕ). StandsFor c.drain.new.reader t (handed ++ both.0)) (append_assoc text i.spent.0 (take n rest)) both.1, both.2),
       );
-      same = e.same ∙ i.same;
     }
 
 pub returns-in_err-drain-clause-read : goal.returns-in_err-drain-clause-read
@@ -154,10 +152,10 @@ returns-in_err-drain-clause-read g c = λ tight start running work text handed t
     let e = c.in_err-drain.ensures in
     let n = c.push-count.result in
     let rest = c.pushes.rest.now in
-    let is_now = λ (t : Bool) (r : Pool). IsWork (bound_of t (r.number + 1)) (Has (g.D.Disk.state c.drain.new.io.disk.now).seen c.drain.new.io.space) c.drain.new.batch in
+    let is_now = λ (t : Bool) (r : Pool). IsWork (bound_of t (r.number + 1)) (blocks_of c.drain.new.io) c.drain.new.batch in
     let m = i.piece.2 tight start running work text handed (e.fills.fills.honest told) way tells hands is in
     let d =
-    e.drained tight start running m.after ((text ++ i.piece.0) ++ take n rest) (handed ++ m.records) told (goes_under _ _ _ _ _ _ running _ _ _ way i.fills) (tells_on c.args.kept.now.dir running c.args.ask.now m.records work m.after m.were_taken tells)
+    e.drained tight start running m.after ((text ++ i.piece.0) ++ take n rest) (handed ++ m.records) told (goes_under _ running way i.fills) (tells_on c.args.kept.now.dir running c.args.ask.now m.records work m.after m.were_taken tells)
     (c.push-count.ensures.stands (text ++ i.piece.0) (handed ++ m.records) m.reads.stands) m.is in
     rw (p.1, p.2) (piece_refused c.args.ask.now running text handed work hands.whole c.args.piece.now _ c.drain.new.reader i.piece.0 (take n rest) (drop n rest) _ (is_now tight running) (piece_split c.args.piece.now i.piece.0 rest n i.piece.1) m _ d)
 
@@ -178,7 +176,7 @@ returns-in_err-drain-clause-reads g c =
 pub returns-in_err-drain-clause-fills : goal.returns-in_err-drain-clause-fills
 returns-in_err-drain-clause-fills g c =
     let p = err_from_is_err_and c.from_residual.result c.from_residual.ensures.1 in
-    rw (p.1, p.2) (Fills-then _ _ _ _ _ _ _ _ _ _ c.pushes.invariant.fills c.in_err-drain.ensures.fills)
+    rw (p.1, p.2) (Fills-then c.pushes.invariant.fills c.in_err-drain.ensures.fills)
 
 pub returns-then-branch-clause-read : goal.returns-then-branch-clause-read
 returns-then-branch-clause-read g c = λ tight start running work text handed told way tells hands is.
@@ -186,10 +184,10 @@ returns-then-branch-clause-read g c = λ tight start running work text handed to
     let e = c.in_ok-drain.ensures in
     let n = c.push-count.result in
     let rest = c.pushes.rest.now in
-    let is_now = λ (t : Bool) (r : Pool). IsWork (bound_of t (r.number + 1)) (Has (g.D.Disk.state c.drain.new.io.disk.now).seen c.drain.new.io.space) c.drain.new.batch in
+    let is_now = λ (t : Bool) (r : Pool). IsWork (bound_of t (r.number + 1)) (blocks_of c.drain.new.io) c.drain.new.batch in
     let m = i.piece.2 tight start running work text handed (e.fills.fills.honest told) way tells hands is in
     let d =
-    e.drained tight start running m.after ((text ++ i.piece.0) ++ take n rest) (handed ++ m.records) told (goes_under _ _ _ _ _ _ running _ _ _ way i.fills) (tells_on c.args.kept.now.dir running c.args.ask.now m.records work m.after m.were_taken tells)
+    e.drained tight start running m.after ((text ++ i.piece.0) ++ take n rest) (handed ++ m.records) told (goes_under _ running way i.fills) (tells_on c.args.kept.now.dir running c.args.ask.now m.records work m.after m.were_taken tells)
     (c.push-count.ensures.stands (text ++ i.piece.0) (handed ++ m.records) m.reads.stands) m.is in
     piece_ends c.args.ask.now running text handed work hands.whole c.args.piece.now _ c.drain.new.reader i.piece.0 (take n rest) (drop n rest) _ (is_now tight running) (piece_split c.args.piece.now i.piece.0 rest n i.piece.1) m
     c.in_ok-drain.field-0 c.if-branch.true d
@@ -231,7 +229,7 @@ returns-then-branch-clause-all g c = λ live.
     absurd (let both = sym live ∙ over in cc)
 
 pub returns-then-branch-clause-fills : goal.returns-then-branch-clause-fills
-returns-then-branch-clause-fills g c = Fills-then _ _ _ _ _ _ _ _ _ _ c.pushes.invariant.fills c.in_ok-drain.ensures.fills
+returns-then-branch-clause-fills g c = Fills-then c.pushes.invariant.fills c.in_ok-drain.ensures.fills
 
 pub returns-clause-reads : goal.returns-clause-reads
 returns-clause-reads g c = over_reads c.pushes.reader c.pushes.batch.stage c.pushes.invariant.reads
@@ -242,7 +240,7 @@ returns-clause-all g c = λ live. all_told c.pushes.rest.now (pushed_of c.pushes
 pub returns-clause-read : goal.returns-clause-read
 returns-clause-read g c = λ tight start running work text handed told way tells hands is.
     let i = c.pushes.invariant in
-    let is_now = λ (t : Bool) (r : Pool). IsWork (bound_of t (r.number + 1)) (Has (g.D.Disk.state c.pushes.io.disk.now).seen c.pushes.io.space) c.pushes.batch in
+    let is_now = λ (t : Bool) (r : Pool). IsWork (bound_of t (r.number + 1)) (blocks_of c.pushes.io) c.pushes.batch in
     let m = i.piece.2 tight start running work text handed told way tells hands is in
     piece_waits c.args.ask.now running text handed work hands.whole c.args.piece.now c.pushes.reader i.piece.0 (is_now tight running) (piece_done c.args.piece.now i.piece.0 c.pushes.rest.now i.piece.1 c.pushes-test.ensures) m
 

@@ -1,6 +1,6 @@
 use Rattle.std.proofs.Common.{◌≡◌, ◌+◌, ◌-◌, ◌≤◌, Bool, ◌^◌, List, [], ℕ, false, true, ◌++◌, length}
 use Rattle.std.specs.Prelude.{None}
-use Rattle.zst_block.specs.Blocks.{Has}
+use Rattle.zst_block.specs.IoStates.{IsHonest, blocks_of, disk_of, io_of}
 use Rattle.zst_image.specs.Reads.{bound_of}
 use Rattle.zst_model.specs.declared.refusals.plan_fault.PlanFault.{PlanFault}
 use Rattle.zst_model.specs.pools.Pool.{Pool}
@@ -20,13 +20,12 @@ use Rattle.zst_recv.proofs.pieces.read.Given as goal
 -- a front of the piece was read
 abbrev pub invariant-pushes : goal.invariant-pushes
 invariant-pushes g l =
-    let disk = g.D.Disk in
     record {
       piece : (front : List ℕ) × (l.piece ≡ front ++ l.rest)
-          × ((tight : Bool) (start : g.row.D.Denot) (running : Pool) (work : Work) (text : List ℕ) (handed : List Covered) → (disk.state l.io.disk.now).honest
-          → IsUnderWay tight (disk.state start) (disk.state l.fn.io.disk.now) l.fn.io.space l.kept running → TellsBefore l.ask work.stage l.kept.dir running
-          → HandsOut l.fn.reader text handed waiting → IsWork (bound_of tight (running.number + 1)) (Has (disk.state l.fn.io.disk.now).seen l.fn.io.space) l.fn.batch work
-          → FrontIsTaken l.ask running l.reader text front handed (IsWork (bound_of tight (running.number + 1)) (Has (disk.state l.io.disk.now).seen l.io.space) l.batch) work);
+          × ((tight : Bool) (start : g.row.D.Denot) (running : Pool) (work : Work) (text : List ℕ) (handed : List Covered) → IsHonest l.io
+          → IsUnderWay tight (g.D.Disk.state start) (disk_of l.fn.io) l.fn.io.space l.kept running → TellsBefore l.ask work.stage l.kept.dir running
+          → HandsOut l.fn.reader text handed waiting → IsWork (bound_of tight (running.number + 1)) (blocks_of l.fn.io) l.fn.batch work
+          → FrontIsTaken l.ask running l.reader text front handed (IsWork (bound_of tight (running.number + 1)) (blocks_of l.io) l.batch) work);
       stage : StageFits l.kept.dir l.ask.target l.batch.stage;
       idle : l.batch.taken ≡ false → l.batch ≡ l.fn.batch;
       waits : waits_at l.batch.stage ≡ true → l.batch ≡ l.fn.batch;
@@ -40,12 +39,11 @@ invariant-pushes g l =
       told : pushed_of l.reader + length l.rest ≡ pushed_of l.fn.reader + length l.piece;
       bytes : AreBytes l.rest;
       limit : pushed_of l.reader + length l.rest ≤ 2 ^ 62;
-      fills : Fills (disk.state l.fn.io.disk.now) l.fn.io.space l.fn.io.failed (disk.state l.io.disk.now) l.io.space l.io.failed None;
+      fills : Fills (io_of l.fn.io) (io_of l.io) None;
       spent : (front : List ℕ) × (l.piece ≡ front ++ l.rest)
           × ((text : List ℕ) (handed : List Covered) → StandsFor l.fn.reader text handed → (records : List Covered) × StandsFor l.reader (text ++ front) (handed ++ records) × Spends records l.fn.io.space l.io.space None);
       hands : (front : List ℕ) × (l.piece ≡ front ++ l.rest)
           × ((text : List ℕ) (handed : List Covered) → HandsOut l.fn.reader text handed waiting → (later : List Covered) × HandsOut l.reader (text ++ front) later waiting);
-      same : l.io.disk.ghost_name ≡ l.fn.io.disk.ghost_name;
     }
 
 -- what is left becomes shorter; only the first push may find no room

@@ -2,9 +2,11 @@ use Rattle.std.specs.List.{concat}
 use Rattle.std.proofs.Common.{ℕ, List, [], ◌∷◌, ◌++◌, Ok, Err, refl, sym, ap, ◌∙◌, subst, arith}
 use Rattle.zst_plan.specs.declared.receive.RecvAsk.{RecvAsk}
 use Rattle.zst_recv.specs.Stages.{fed_of}
+use Rattle.zst_pool.specs.Calls.{IsAtRest}
+use Rattle.zst_recv.specs.ReceiveSteps.{left_by}
 use Rattle.zst_run.proofs.ReceiveLemmas.{cut_fed, cut_refused, fed_none, more_fed, received_fed, refused_fed, rose_behind}
 use Rattle.zst_run.specs.Receives.{SaysOfPlan}
-use Rattle.zst_run.specs.ReceiveTurns.{PlansOn, line_of, told}
+use Rattle.zst_run.specs.ReceiveTurns.{PlansOn, line_of, told, Fed, WaitsForMore}
 use Rattle.zst_image.specs.Reads.{free_by}
 use Rattle.zst_model.specs.declared.refusals.refusal.Refusal.{Refusal}
 use Rattle.zst_recv.specs.Damage.{IsDamagedFeed}
@@ -64,9 +66,11 @@ returns-in-Over-clause-fed g c =
     let i = c.pieces.invariant in
     let e = c.in-Over.ensures in
     let cut = c.cut.ensures in
-    rw (cut.disk)
+    subst (λ d. Fed (λ tight pool. WaitsForMore tight (g.D.Disk.state c.args.pool.now.io.disk.now) c.args.pool.now.kept c.args.recv c.args.recv.ask pool [] 0) c.args.pool.now.kept
+    (g.D.Disk.state c.args.pool.now.io.disk.now) (g.D.Disk.state d) c.args.recv.ask (g.S.Source.state c.args.input.now) (g.S.Source.state c.feed_piece.new.input) (told (Err c.cut.result))) (sym cut.disk)
     (cut_fed _ _ _ _ _ _ _ _ _ _ _ _ _ _ i.feeding i.ask e.honest c.cut.new.pool.kept
-    (λ tight bound running image space stage text rests has. rw (cut.disk) at (cut.rests tight bound running image space stage text rests has)) c.in-Over.end c.cut.result e.turns cut.is)
+    (λ tight bound running image space stage text rests has. subst (λ d. IsAtRest tight (g.D.Disk.state d) c.cut.new.pool.kept (left_by stage running)) cut.disk (cut.rests tight bound running image space stage text rests has))
+    c.in-Over.end c.cut.result e.turns cut.is)
 
 pub returns-in-Over-clause-refused : goal.returns-in-Over-clause-refused
 returns-in-Over-clause-refused g c =

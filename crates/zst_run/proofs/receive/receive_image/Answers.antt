@@ -1,4 +1,4 @@
-use Rattle.std.proofs.Common.{rules, subst}
+use Rattle.std.proofs.Common.{rules, subst, sym}
 use Rattle.std.proofs.lemmas.Result.{err_from_is_err_and}
 use Rattle.zst_run.specs.Receives.{Receiving}
 use Rattle.zst_run.specs.ReceiveTurns.{told}
@@ -19,8 +19,8 @@ returns g c =
     (let e = c.in_ok-kept.ensures in
     let n = c.new-pool.ensures in
     let r = c.receive_into-result.ensures in
-    opened c.args.ask (g.D.Disk.state c.args.here.now) (g.D.Disk.state c.open.new.disk) (g.D.Disk.state c.receive_into-result.new.pool.io.disk.now) (g.S.Source.state c.args.input.now)
-    (g.S.Source.state c.receive_into-result.new.input) c.in_ok-kept.kept c.receive_into-result.result e.there e.answer e.reads e.rests
-    (λ tight rows pool rests same. c.opened_is_at_rest.ensures.rests tight c.open.new.disk c.in_ok-kept.kept rows pool rests same) e.cause.later
-    (λ honest. rw (n.disk) at (r.honest honest)) (rw (n.disk, n.kept) at r.fed) (rw (n.kept) at r.plans) (rw (n.disk, n.kept) at r.damaged) (g.met.D.Disk.only_now c.args.here.now) (g.met.D.Disk.counts_now c.receive_into-result.new.pool.io.disk.now)
-    (rw (n.disk) at r.refused) (rw (n.disk) at r.later) r.input_later)
+    opened c.args.ask (g.D.Disk.state c.args.here.now) (g.D.Disk.state c.new-pool.result.io.disk.now) (g.D.Disk.state c.receive_into-result.new.pool.io.disk.now) (g.S.Source.state c.args.input.now)
+    (g.S.Source.state c.receive_into-result.new.input) c.in_ok-kept.kept c.receive_into-result.result (rw (sym n.disk) at e.there) (rw (sym n.disk) at e.answer) (rw (sym n.disk) at e.reads) (rw (sym n.disk) at e.rests)
+    (λ tight rows pool rests same. c.opened_is_at_rest.ensures.rests tight c.new-pool.result.io.disk.now c.in_ok-kept.kept rows pool rests same) (rw (sym n.disk) at e.cause.later)
+    r.honest (rw (n.kept) at r.fed) (rw (n.kept) at r.plans) (rw (n.kept) at r.damaged) (g.met.D.Disk.only_now c.args.here.now) (g.met.D.Disk.counts_now c.receive_into-result.new.pool.io.disk.now)
+    r.refused r.later r.input_later)

@@ -3,8 +3,8 @@ use Rattle.std.proofs.lemmas.Result.{err_from_is_err_and}
 use Rattle.zst_image.specs.declared.pool_state.PoolState.{PoolState}
 use Rattle.zst_model.specs.declared.refusals.refusal.Refusal.TheVariants as refusals
 use Rattle.zst_plan.specs.declared.receive.RecvAsk.{RecvAsk}
-use Rattle.zst_run.specs.Receives.{SaysOfPlan}
-use Rattle.zst_run.specs.ReceiveTurns.{told}
+use Rattle.zst_run.specs.Receives.{SaysOfPlan, IsDamagedReceive}
+use Rattle.zst_run.specs.ReceiveTurns.{told, Fed, IsReady, WaitsForMore}
 use Rattle.zst_run.proofs.ReceiveDamage.{memory_undamaged}
 use Rattle.zst_run.proofs.ReceivePlans.{gave_none, none_covered, starts, unread_plans}
 use Rattle.zst_run.proofs.ReceiveLemmas.{begins, fed_weaker, unread, without_memory}
@@ -23,7 +23,11 @@ pub returns-in_err-recv-clause-fed : goal.returns-in_err-recv-clause-fed
 returns-in_err-recv-clause-fed g c =
     let p = err_from_is_err_and c.from_residual.result c.from_residual.ensures.1 in
     let known = c.in_err-recv.ensures.known c.requires.works in
-    rw (p.1, p.2, known, c.in_err-recv.ensures.disk) (unread _ _ _ _)
+    let start = g.D.Disk.state c.args.pool.now.io.disk.now in
+    let kept = c.args.pool.now.kept in
+    let input = g.S.Source.state c.args.input.now in
+    rw (p.1, p.2, known)
+    (subst (λ d. Fed (λ tight. IsReady c.args.ask tight start kept) kept start (g.D.Disk.state d) c.args.ask input input (Err refusals.OutOfMemory)) (sym c.in_err-recv.ensures.disk) (unread start kept c.args.ask input))
 
 pub returns-in_err-recv-clause-refused : goal.returns-in_err-recv-clause-refused
 returns-in_err-recv-clause-refused g c =
@@ -35,7 +39,12 @@ returns-in_err-recv-clause-refused g c =
 pub returns-clause-fed : goal.returns-clause-fed
 returns-clause-fed g c =
     let e = c.in_ok-recv.ensures in
-    fed_weaker _ _ _ _ _ _ _ _ _ _ e.ask (λ tight pool ready. begins tight _ _ c.in_ok-recv.recv pool e.opens _ e.ask ready) (rw (e.disk, e.kept) at c.feed_all.ensures.fed)
+    let start = g.D.Disk.state c.open.new.pool.io.disk.now in
+    let kept = c.open.new.pool.kept in
+    let recv = c.in_ok-recv.recv in
+    let fed : Fed (λ tight pool. WaitsForMore tight start kept recv recv.ask pool [] 0) kept start (g.D.Disk.state c.feed_all.new.pool.io.disk.now) recv.ask (g.S.Source.state c.args.input.now)
+    (g.S.Source.state c.feed_all.new.input) (told c.feed_all.result) = c.feed_all.ensures.fed in
+    fed_weaker _ _ _ _ _ _ _ _ _ _ e.ask (λ tight pool ready. begins tight _ _ c.in_ok-recv.recv pool e.opens _ e.ask ready) (rw (e.disk, e.kept) at fed)
 
 pub returns-in_default-clause-plans : goal.returns-in_default-clause-plans
 returns-in_default-clause-plans g c = λ text gave.
@@ -72,7 +81,8 @@ returns-in_err-recv-clause-damaged g c = λ sector stated found honest is.
 pub returns-clause-damaged : goal.returns-clause-damaged
 returns-clause-damaged g c = λ sector stated found honest is.
     let e = c.in_ok-recv.ensures in
-    let told = c.feed_all.ensures.damaged sector stated found honest is in
+    let told : IsDamagedReceive (g.D.Disk.state c.open.new.pool.io.disk.now) c.open.new.pool.kept.body c.in_ok-recv.recv.ask.target sector stated found =
+    c.feed_all.ensures.damaged sector stated found honest is in
     rw (e.ask, e.disk, e.kept) at told
 
 pub feed_all-requires-clause-hands : goal.feed_all-requires-clause-hands

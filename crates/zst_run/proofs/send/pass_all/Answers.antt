@@ -31,7 +31,6 @@ pieces-preserved g c =
       set = e.set ∙ i.set;
       knows = λ images told among knows. e.knows images (among_on images _ _ i.reads.seen among) told (i.knows images (e.reads.honest told) among knows);
       send = e.send;
-      fits = e.fits;
       works = e.works refl;
       within = e.advances.1;
       reads = OnlyReads-then _ _ _ i.reads e.reads;

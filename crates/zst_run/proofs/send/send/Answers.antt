@@ -1,5 +1,8 @@
-use Rattle.std.proofs.Common.{rules, subst}
+use Rattle.std.proofs.Common.{rules, subst, sym, ◌∙◌}
+use Rattle.std.specs.Prelude.{None}
 use Rattle.std.proofs.lemmas.Result.{err_from_is_err_and}
+use Rattle.zst_block.specs.Blocks.{Has}
+use Rattle.zst_image.specs.Reads.{RunsBy}
 use Rattle.zst_run.specs.Sends.{Sends}
 use Rattle.zst_run.proofs.ImageSends.{unopened, opened}
 use Rattle.zst_run.proofs.send.send.Goals as goal
@@ -15,13 +18,15 @@ returns g c =
     let e = c.in_ok-kept.ensures in
     let n = c.new-pool.ensures in
     let s = c.send_from-result.ensures in
-    let sends = opened c.args.asked.now (g.D.Disk.state c.args.here.now) (g.D.Disk.state c.open.new.disk) (g.D.Disk.state c.send_from-result.new.pool.io.disk.now)
-    (g.K.Sink.state c.args.out.now) (g.K.Sink.state c.send_from-result.new.out) c.in_ok-kept.kept c.send_from-result.result e.there e.answer e.reads e.cause.later
-    (rw (n.disk) at s.reads) (rw (n.disk) at s.later) (λ pool told runs. rw (n.disk) at (s.sends pool told (rw (n.disk, n.space, n.kept) runs))) (rw (n.disk) at s.refused)
+    let sends = opened c.args.asked.now (g.D.Disk.state c.args.here.now) (g.D.Disk.state c.new-pool.result.io.disk.now) (g.D.Disk.state c.send_from-result.new.pool.io.disk.now)
+    (g.K.Sink.state c.args.out.now) (g.K.Sink.state c.send_from-result.new.out) c.in_ok-kept.kept c.send_from-result.result (rw (sym n.disk) at e.there) (rw (sym n.disk) at e.answer) (rw (sym n.disk) at e.reads) (rw (sym n.disk) at e.cause.later)
+    s.reads s.later (λ pool told runs.
+    let opened : RunsBy None (Has (g.D.Disk.state c.new-pool.result.io.disk.now).seen c.new-pool.result.io.space) c.new-pool.result.kept.dir pool = rw (n.space, n.kept) runs in
+    s.sends pool told opened) s.refused
     (record {
       planned = λ pool named. s.planned pool (rw (n.kept) named);
       because = λ pool fault named is. s.because pool fault (rw (n.kept) named) is;
-      damaged = λ told. rw (n.disk, n.kept) at (s.damaged told);
+      damaged = λ told. rw (n.kept) at (s.damaged told);
     }) in
     subst (λ d. Sends c.args.asked.now (g.D.Disk.state c.args.here.now) (g.D.Disk.state d) (g.K.Sink.state c.args.out.now) (g.K.Sink.state c.send_from-result.new.out) c.send_from-result.result)
-    (search rules) sends
+    (sym c.into_disk.ensures.disk ∙ sym (c.here-1.given.1 (sym (c.into_disk.ensures.same ∙ (s.same ∙ n.same))))) sends

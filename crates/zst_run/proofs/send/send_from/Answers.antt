@@ -1,8 +1,13 @@
-use Rattle.std.proofs.Common.{◌≡◌, ℕ, List, [], ◌∷◌}
+use Rattle.std.proofs.Common.{◌≡◌, ℕ, List, [], ◌∷◌, subst}
 use Rattle.std.proofs.lemmas.Result.{err_from_is_err_and}
 use Rattle.zst_block.specs.Blocks.{Has}
 use Rattle.zst_model.specs.declared.refusals.refusal.Refusal.TheVariants as refusals
-use Rattle.zst_run.specs.Sends.{start_of, to_send}
+use Rattle.zst_run.specs.Sends.{start_of, to_send, SendsBy, TellsOf}
+use Rattle.zst_run.specs.SendPieces.{Sending}
+use Rattle.zst_send.specs.Damage.{IsDamagedSend}
+use Rattle.zst_send.specs.KnownPointers.{IsAmong}
+use Rattle.zst_send.specs.Sends.{sent_set}
+use Rattle.std.specs.Prelude.{Contains, Ok}
 use Rattle.zst_run.proofs.SendLemmas.{among_one, memory_refused, open_refused, opened_planned, sends_from, set_damage, unopened_because, unopened_by, unopened_damage, unopened_planned, wants_memory}
 use Rattle.zst_run.proofs.send.send_from.Goals as goal
 
@@ -28,7 +33,12 @@ pub returns-clause-sends : goal.returns-clause-sends
 returns-clause-sends g c = λ running told runs.
     let e = c.in_ok-send.ensures in
     sends_from (Has (g.D.Disk.state c.args.pool.now.io.disk.now).seen c.args.pool.now.io.space) (start_of c.args.asked.now) (to_send c.args.asked.now running) c.in_ok-send.send _ _ _ _ _ (e.opens _ _ running runs)
-    (λ sent begun. rw (e.disk) at (c.pass_all.ensures.sends (start_of c.args.asked.now) sent told (rw (e.disk, e.space) begun)))
+    (λ sent begun.
+    let opened = c.open.new.pool.io in
+    let out = g.K.Sink.state c.args.out.now in
+    let ready : Sending (Has (g.D.Disk.state opened.disk.now).seen opened.space) (start_of c.args.asked.now) sent c.in_ok-send.send out out 0 = rw (e.disk, e.space) begun in
+    subst (λ d. SendsBy (start_of c.args.asked.now) (Ok sent) (g.D.Disk.state d).faults (g.D.Disk.state c.pass_all.new.pool.io.disk.now).faults out (g.K.Sink.state c.pass_all.new.out) c.pass_all.result)
+    e.disk (c.pass_all.ensures.sends (start_of c.args.asked.now) sent told ready))
 
 pub returns-in_err-send-clause-planned : goal.returns-in_err-send-clause-planned
 returns-in_err-send-clause-planned g c = λ running named.
@@ -68,5 +78,8 @@ returns-clause-damaged g c = λ honest.
     let e = c.in_ok-send.ensures in
     let disk = g.D.Disk.state c.args.pool.now.io.disk.now in
     let alone : List (List ℕ) = disk.seen ∷ [] in
-    let told = rw (e.disk) at (c.pass_all.ensures.damaged alone (rw (e.disk) (among_one disk.seen)) honest (e.knows alone)) in
+    let here : Contains alone (g.D.Disk.state c.open.new.pool.io.disk.now).seen = rw (e.disk) (among_one disk.seen) in
+    let damaged : TellsOf (IsDamagedSend (IsAmong alone) (g.D.Disk.state c.open.new.pool.io.disk.now).size (sent_set c.in_ok-send.send)) c.pass_all.result =
+    c.pass_all.ensures.damaged alone here honest (e.knows alone) in
+    let told = rw (e.disk) at damaged in
     set_damage c.args.pool.now.kept.dir c.args.asked.now disk _ c.pass_all.result e.set told

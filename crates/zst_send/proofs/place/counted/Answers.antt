@@ -1,6 +1,6 @@
 use Rattle.std.proofs.Common.{◌≡◌, sym, subst, arith}
 use Rattle.std.proofs.lemmas.Bool.{false≢true}
-use Rattle.zst_block.specs.Blocks.{Has}
+use Rattle.zst_block.specs.IoStates.{blocks_of}
 use Rattle.zst_model.specs.fields.Lists.{Runs, has_pair}
 use Rattle.zst_tree.specs.Indices.{Delivers}
 use Rattle.zst_objset.specs.Dnodes.{outside}
@@ -13,14 +13,14 @@ use Rattle.zst_send.proofs.place.counted.Goals as goal
 -- where no pair is listed or withheld, all data are read
 pub returns-clause-found : goal.returns-clause-found
 returns-clause-found g c = λ snap honest holds.
-    let was = Has (g.D.Disk.state c.args.io.now.disk.now).seen c.args.io.now.space in
-    let has = Has (g.D.Disk.state c.next_cell.new.io.disk.now).seen c.next_cell.new.io.space in
+    let was = blocks_of c.args.io.now in
+    let has = blocks_of c.next_cell.new.io in
     subst (λ (l : Runs). Delivers (IsNextCellIn has (outside (has_pair l) has) snap (choice_with c.args.source l l) c.args.place.now.point c.args.place.now.slot) c.next_cell.result) c.empty-none.ensures
     (c.next_cell.ensures.found snap honest (subst (λ (l : Runs). SetHoldsBut was (has_pair l) c.args.set.now snap) (sym c.empty-none.ensures) holds))
 
 pub returns-clause-few : goal.returns-clause-few
 returns-clause-few g c = λ snap honest tight.
-    let has = Has (g.D.Disk.state c.args.io.now.disk.now).seen c.args.io.now.space in
+    let has = blocks_of c.args.io.now in
     let begins : c.new-steps.result ≡ 0 = c.new-steps.ensures in
     let tight_in = subst (λ (l : Runs). SetIsTightIn has (outside (has_pair l) has) c.args.set.now snap) (sym c.empty-none.ensures) tight in
     let included = subst (λ (l : Runs). AreIncluded snap (choice_with c.args.source l l) l l) (sym c.empty-none.ensures) (λ k i listed. absurd (false≢true listed)) in

@@ -1,9 +1,7 @@
 use Rattle.std.proofs.Common.{◌≡◌}
-use Rattle.zst_block.specs.Blocks.{FitsDisk}
 use Rattle.zst_store_tests.proofs.cache.save_more.Given as goal
 
 abbrev pub invariant-loop-byte : goal.invariant-loop-byte
 invariant-loop-byte g l = record {
-  fits : FitsDisk (g.D.Disk.state l.io.disk.now).size l.io.space;
   same : l.io.disk.ghost_name ≡ l.fn.io.disk.ghost_name;
 }

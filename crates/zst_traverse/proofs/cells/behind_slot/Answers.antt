@@ -1,9 +1,10 @@
 use Rattle.std.proofs.lemmas.Result.{err_from_is_err_and}
 use Rattle.zst_block.proofs.IoCallLemmas.{Looks-then}
-use Rattle.std.proofs.Common.{◌∙◌, ℕ, ◌+◌, ◌<◌, ◌≤◌, false, List, refl, subst, arith}
+use Rattle.std.proofs.Common.{ℕ, ◌+◌, ◌<◌, ◌≤◌, false, List, refl, subst, arith}
 use Rattle.std.specs.Prelude.{Option, IfNone, IfSome}
 use Rattle.zst_space.specs.FreeSectors.{FreeSectors}
 use Rattle.zst_block.specs.Blocks.{Has}
+use Rattle.zst_block.specs.IoStates.{blocks_of, disk_of}
 use Rattle.zst_tree.proofs.Results.{delivers_if}
 use Rattle.zst_tree.specs.Indices.{Delivers}
 use Rattle.zst_tree.specs.Damage.{IsSeen}
@@ -25,11 +26,11 @@ pub returns-in-Some-clause-found : goal.returns-in-Some-clause-found
 returns-in-Some-clause-found g c = λ snap honest holds stands.
     let some : 0 < c.args.leaf.now.count = c.requires.count.0 in
     let is = stands c.args.leaf.now.index (omega arith) (omega arith) (omega (arith, c.requires.object.1, c.requires.object.2)) in
-    rw c.told.ensures (refl, refl, subst (λ (found : Option Run). FindsPairs (Has (g.D.Disk.state c.args.io.now.disk.now).seen c.args.io.now.space) snap (choice_with c.args.source c.args.listed.now c.args.withheld.now) c.args.point found) c.in-Some.is (c.in_ok-run.ensures.found snap honest holds.lawful is))
+    rw c.told.ensures (refl, refl, subst (λ (found : Option Run). FindsPairs (blocks_of c.args.io.now) snap (choice_with c.args.source c.args.listed.now c.args.withheld.now) c.args.point found) c.in-Some.is (c.in_ok-run.ensures.found snap honest holds.lawful is))
 
 pub returns-in-Some-clause-stands : goal.returns-in-Some-clause-stands
 returns-in-Some-clause-stands g c = λ honest hangs.
-    let seen = IsSeen (g.D.Disk.state c.args.io.now.disk.now).seen in
+    let seen = IsSeen (disk_of c.args.io.now).seen in
     rw c.told.ensures (subst (λ (found : Option Run). IfSome found (RunStands seen c.args.set.now)) c.in-Some.is (c.in_ok-run.ensures.stands c.args.set.now honest hangs))
 
 pub returns-in-None-clause-found : goal.returns-in-None-clause-found
@@ -38,18 +39,18 @@ returns-in-None-clause-found g c = λ snap honest holds stands.
     let looks = c.in_ok-run.ensures.looks in
     let some : 0 < c.args.leaf.now.count = c.requires.count.0 in
     let is = stands c.args.leaf.now.index (omega arith) (omega arith) (omega (arith, c.requires.object.1, c.requires.object.2)) in
-    let none = subst (λ (found : Option Run). FindsPairs (Has (g.D.Disk.state c.args.io.now.disk.now).seen c.args.io.now.space) snap (choice_with c.args.source c.args.listed.now c.args.withheld.now) c.args.point found) c.in-None.is (c.in_ok-run.ensures.found snap was holds.lawful is) in
-    let holds_on = look_on (λ (seen : List ℕ) (space : FreeSectors). SetHoldsBut (Has seen space) (has_pair c.args.withheld.now) c.args.set.now snap) _ _ _ _ _ _ _ looks holds in
-    let stands_on = look_on (λ (seen : List ℕ) (space : FreeSectors). StandsFor (Has seen space) (outside (has_pair c.args.withheld.now) (Has seen space)) snap c.args.leaf.now) _ _ _ _ _ _ _ looks stands in
-    let back = look_back (λ (seen : List ℕ) (space : FreeSectors). Delivers (FindsNumber (Has seen space) (outside (has_pair c.args.withheld.now) (Has seen space)) snap (choice_with c.args.source c.args.listed.now c.args.withheld.now) (c.args.point.object + 1)) c.next_listed.result) _ _ _ _ _ _ _ looks (c.next_listed.ensures.found snap honest holds_on stands_on) in
+    let none = subst (λ (found : Option Run). FindsPairs (blocks_of c.args.io.now) snap (choice_with c.args.source c.args.listed.now c.args.withheld.now) c.args.point found) c.in-None.is (c.in_ok-run.ensures.found snap was holds.lawful is) in
+    let holds_on = look_on (λ (seen : List ℕ) (space : FreeSectors). SetHoldsBut (Has seen space) (has_pair c.args.withheld.now) c.args.set.now snap) looks holds in
+    let stands_on = look_on (λ (seen : List ℕ) (space : FreeSectors). StandsFor (Has seen space) (outside (has_pair c.args.withheld.now) (Has seen space)) snap c.args.leaf.now) looks stands in
+    let back = look_back (λ (seen : List ℕ) (space : FreeSectors). Delivers (FindsNumber (Has seen space) (outside (has_pair c.args.withheld.now) (Has seen space)) snap (choice_with c.args.source c.args.listed.now c.args.withheld.now) (c.args.point.object + 1)) c.next_listed.result) looks (c.next_listed.ensures.found snap honest holds_on stands_on) in
     delivers_if _ _ c.next_listed.result (numbers_next _ _ snap (choice_with c.args.source c.args.listed.now c.args.withheld.now) c.args.point false (λ passed. none)) back
 
 pub returns-in-None-clause-few : goal.returns-in-None-clause-few
 returns-in-None-clause-few g c = λ snap honest tight stands leaf included.
     let looks = c.in_ok-run.ensures.looks in
-    let tight_on = look_on (λ (seen : List ℕ) (space : FreeSectors). SetIsTightIn (Has seen space) (outside (has_pair c.args.withheld.now) (Has seen space)) c.args.set.now snap) _ _ _ _ _ _ _ looks tight in
-    let stands_on = look_on (λ (seen : List ℕ) (space : FreeSectors). StandsFor (Has seen space) (outside (has_pair c.args.withheld.now) (Has seen space)) snap c.args.leaf.now) _ _ _ _ _ _ _ looks stands in
-    let leaf_on = look_on (λ (seen : List ℕ) (space : FreeSectors). IsTightLeaf (Has seen space) snap c.args.leaf.now.index c.args.leaf.now.ptr) _ _ _ _ _ _ _ looks leaf in
+    let tight_on = look_on (λ (seen : List ℕ) (space : FreeSectors). SetIsTightIn (Has seen space) (outside (has_pair c.args.withheld.now) (Has seen space)) c.args.set.now snap) looks tight in
+    let stands_on = look_on (λ (seen : List ℕ) (space : FreeSectors). StandsFor (Has seen space) (outside (has_pair c.args.withheld.now) (Has seen space)) snap c.args.leaf.now) looks stands in
+    let leaf_on = look_on (λ (seen : List ℕ) (space : FreeSectors). IsTightLeaf (Has seen space) snap c.args.leaf.now.index c.args.leaf.now.ptr) looks leaf in
     let own : c.own_pairs.new.steps ≤ c.args.steps.now + 14 = subst (λ (found : Option Run). IfNone found (c.own_pairs.new.steps ≤ c.args.steps.now + 14)) c.in-None.is c.in_ok-run.ensures.none in
     let more = c.next_listed.ensures.few snap honest tight_on stands_on leaf_on included in
     omega (arith, own, more)
@@ -77,12 +78,6 @@ returns-in_err-run-clause-looks g c =
 pub returns-in_err-run-clause-calls : goal.returns-in_err-run-clause-calls
 returns-in_err-run-clause-calls g c = c.in_err-run.ensures.calls
 
-pub returns-in_err-run-clause-kept_fit : goal.returns-in_err-run-clause-kept_fit
-returns-in_err-run-clause-kept_fit g c = c.in_err-run.ensures.kept_fit
-
-pub returns-in_err-run-clause-same : goal.returns-in_err-run-clause-same
-returns-in_err-run-clause-same g c = c.in_err-run.ensures.same
-
 pub returns-in_err-run-clause-steps : goal.returns-in_err-run-clause-steps
 returns-in_err-run-clause-steps g c = c.in_err-run.ensures.steps.0
 
@@ -95,38 +90,20 @@ returns-in-Some-clause-looks g c = c.in_ok-run.ensures.looks
 pub returns-in-Some-clause-calls : goal.returns-in-Some-clause-calls
 returns-in-Some-clause-calls g c = c.in_ok-run.ensures.calls
 
-pub returns-in-Some-clause-kept_fit : goal.returns-in-Some-clause-kept_fit
-returns-in-Some-clause-kept_fit g c = c.in_ok-run.ensures.kept_fit
-
-pub returns-in-Some-clause-same : goal.returns-in-Some-clause-same
-returns-in-Some-clause-same g c = c.in_ok-run.ensures.same
-
 pub returns-in-Some-clause-steps : goal.returns-in-Some-clause-steps
 returns-in-Some-clause-steps g c = c.in_ok-run.ensures.steps.0
 
 pub returns-in-None-clause-looks : goal.returns-in-None-clause-looks
 returns-in-None-clause-looks g c = Looks-then c.in_ok-run.ensures.looks c.next_listed.ensures.looks
 
-pub returns-in-None-clause-kept_fit : goal.returns-in-None-clause-kept_fit
-returns-in-None-clause-kept_fit g c = c.next_listed.ensures.kept_fit
-
-pub returns-in-None-clause-same : goal.returns-in-None-clause-same
-returns-in-None-clause-same g c = c.next_listed.ensures.same ∙ c.in_ok-run.ensures.same
-
-pub own_pairs-requires-clause-object : goal.own_pairs-requires-clause-object
-own_pairs-requires-clause-object g c = c.requires.object
-
-pub own_pairs-requires-clause-fits : goal.own_pairs-requires-clause-fits
-own_pairs-requires-clause-fits g c = c.requires.fits
+pub own_pairs-requires : goal.own_pairs-requires
+own_pairs-requires g c = record { object = c.requires.object }
 
 pub next_listed-requires-clause-levels : goal.next_listed-requires-clause-levels
 next_listed-requires-clause-levels g c = c.requires.levels
 
 pub next_listed-requires-clause-count : goal.next_listed-requires-clause-count
 next_listed-requires-clause-count g c = c.requires.count
-
-pub next_listed-requires-clause-fits : goal.next_listed-requires-clause-fits
-next_listed-requires-clause-fits g c = c.in_ok-run.ensures.kept_fit
 
 pub returns-in-None-clause-calls : goal.returns-in-None-clause-calls
 returns-in-None-clause-calls g c = calls_then _ _ _ _ _ _ c.in_ok-run.ensures.calls c.next_listed.ensures.calls

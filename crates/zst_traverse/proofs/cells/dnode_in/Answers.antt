@@ -1,7 +1,7 @@
+use Rattle.zst_block.specs.IoStates.{blocks_of}
 use Rattle.zst_block.proofs.IoCallLemmas.{Looks-none}
 use Rattle.std.proofs.Common.{ℕ, ◌%◌, refl, subst, arith}
 use Rattle.std.proofs.lemmas.Result.{err_from_is_err_and}
-use Rattle.zst_block.specs.Blocks.{Has}
 use Rattle.zst_objset.specs.Sets.{HasSlotsIn}
 use Rattle.zst_traverse.proofs.NextCells.{absent_in_slot, no_slot_at, none_at, slot_at, there_in_slot}
 use Rattle.zst_traverse.proofs.Damage.{lacking_cell}
@@ -11,7 +11,7 @@ use Rattle.zst_objset.specs.Dnodes.{outside}
 
 pub returns-then-leaf-eq0-clause-found : goal.returns-then-leaf-eq0-clause-found
 returns-then-leaf-eq0-clause-found g c = λ snap pairs honest is.
-    none_at _ (outside pairs (Has (g.D.Disk.state c.args.io.now.disk.now).seen c.args.io.now.space)) snap c.args.number (hole_none _ _ snap c.args.leaf.now.index c.args.leaf.now.ptr c.args.number c.requires.number.2 c.requires.number.0 c.requires.number.1 is c.if-leaf-eq0.true)
+    none_at _ (outside pairs (blocks_of c.args.io.now)) snap c.args.number (hole_none _ _ snap c.args.leaf.now.index c.args.leaf.now.ptr c.args.number c.requires.number.2 c.requires.number.0 c.requires.number.1 is c.if-leaf-eq0.true)
 
 pub returns-in_err-load_leaf-clause-found : goal.returns-in_err-load_leaf-clause-found
 returns-in_err-load_leaf-clause-found g c = λ snap pairs honest is.
@@ -20,13 +20,13 @@ returns-in_err-load_leaf-clause-found g c = λ snap pairs honest is.
 
 pub returns-in-Some-Absent-clause-found : goal.returns-in-Some-Absent-clause-found
 returns-in-Some-Absent-clause-found g c = λ snap pairs honest is.
-    let slots = subst (λ (j : ℕ). HasSlotsIn (Has (g.D.Disk.state c.args.io.now.disk.now).seen c.args.io.now.space) (outside pairs (Has (g.D.Disk.state c.args.io.now.disk.now).seen c.args.io.now.space)) snap j c.load_leaf.new.io.node) c.requires.number.2 (c.in_ok-load_leaf.ensures.slots snap pairs honest is) in
+    let slots = subst (λ (j : ℕ). HasSlotsIn (blocks_of c.args.io.now) (outside pairs (blocks_of c.args.io.now)) snap j c.load_leaf.new.io.node) c.requires.number.2 (c.in_ok-load_leaf.ensures.slots snap pairs honest is) in
     absent_in_slot _ _ snap c.args.number c.in-Some-Absent.field-0-0 c.in-Some-Absent.field-0 c.in-Some-Absent.field-0-is
     (slot_at _ _ snap c.args.number _ _ c.in-Some-Absent.field-0 c.requires.number.0 c.requires.number.1 slots c.as_slice.ensures.bytes c.in-Some-Absent.ensures.back)
 
 pub returns-in-None-clause-found : goal.returns-in-None-clause-found
 returns-in-None-clause-found g c = λ snap pairs honest is.
-    let slots = subst (λ (j : ℕ). HasSlotsIn (Has (g.D.Disk.state c.args.io.now.disk.now).seen c.args.io.now.space) (outside pairs (Has (g.D.Disk.state c.args.io.now.disk.now).seen c.args.io.now.space)) snap j c.load_leaf.new.io.node) c.requires.number.2 (c.in_ok-load_leaf.ensures.slots snap pairs honest is) in
+    let slots = subst (λ (j : ℕ). HasSlotsIn (blocks_of c.args.io.now) (outside pairs (blocks_of c.args.io.now)) snap j c.load_leaf.new.io.node) c.requires.number.2 (c.in_ok-load_leaf.ensures.slots snap pairs honest is) in
     absurd (no_slot_at _ _ snap c.args.number _ _ slots c.as_slice.ensures.bytes (c.in-None.ensures.none refl))
 
 pub returns-in-None-clause-damaged : goal.returns-in-None-clause-damaged
@@ -44,13 +44,7 @@ pub returns-then-leaf-eq0-clause-damaged : goal.returns-then-leaf-eq0-clause-dam
 returns-then-leaf-eq0-clause-damaged g c = λ set honest hangs. tt
 
 pub returns-then-leaf-eq0-clause-looks : goal.returns-then-leaf-eq0-clause-looks
-returns-then-leaf-eq0-clause-looks g c = Looks-none _ _ _
-
-pub returns-then-leaf-eq0-clause-kept_fit : goal.returns-then-leaf-eq0-clause-kept_fit
-returns-then-leaf-eq0-clause-kept_fit g c = c.requires.fits
-
-pub returns-then-leaf-eq0-clause-same : goal.returns-then-leaf-eq0-clause-same
-returns-then-leaf-eq0-clause-same g c = refl
+returns-then-leaf-eq0-clause-looks g c = Looks-none _
 
 pub returns-in_err-load_leaf-clause-ranges : goal.returns-in_err-load_leaf-clause-ranges
 returns-in_err-load_leaf-clause-ranges g c =
@@ -70,12 +64,6 @@ returns-in_err-load_leaf-clause-looks g c =
 pub returns-in_err-load_leaf-clause-calls : goal.returns-in_err-load_leaf-clause-calls
 returns-in_err-load_leaf-clause-calls g c = c.in_err-load_leaf.ensures.calls
 
-pub returns-in_err-load_leaf-clause-kept_fit : goal.returns-in_err-load_leaf-clause-kept_fit
-returns-in_err-load_leaf-clause-kept_fit g c = c.in_err-load_leaf.ensures.kept_fit
-
-pub returns-in_err-load_leaf-clause-same : goal.returns-in_err-load_leaf-clause-same
-returns-in_err-load_leaf-clause-same g c = c.in_err-load_leaf.ensures.same
-
 pub returns-in-Some-There-clause-damaged : goal.returns-in-Some-There-clause-damaged
 returns-in-Some-There-clause-damaged g c = λ set honest hangs. tt
 
@@ -85,12 +73,6 @@ returns-in-Some-There-clause-looks g c = c.in_ok-load_leaf.ensures.looks
 pub returns-in-Some-There-clause-calls : goal.returns-in-Some-There-clause-calls
 returns-in-Some-There-clause-calls g c = c.in_ok-load_leaf.ensures.calls
 
-pub returns-in-Some-There-clause-kept_fit : goal.returns-in-Some-There-clause-kept_fit
-returns-in-Some-There-clause-kept_fit g c = c.in_ok-load_leaf.ensures.kept_fit
-
-pub returns-in-Some-There-clause-same : goal.returns-in-Some-There-clause-same
-returns-in-Some-There-clause-same g c = c.in_ok-load_leaf.ensures.same
-
 pub returns-in-Some-Absent-clause-damaged : goal.returns-in-Some-Absent-clause-damaged
 returns-in-Some-Absent-clause-damaged g c = λ set honest hangs. tt
 
@@ -99,12 +81,6 @@ returns-in-Some-Absent-clause-looks g c = c.in_ok-load_leaf.ensures.looks
 
 pub returns-in-Some-Absent-clause-calls : goal.returns-in-Some-Absent-clause-calls
 returns-in-Some-Absent-clause-calls g c = c.in_ok-load_leaf.ensures.calls
-
-pub returns-in-Some-Absent-clause-kept_fit : goal.returns-in-Some-Absent-clause-kept_fit
-returns-in-Some-Absent-clause-kept_fit g c = c.in_ok-load_leaf.ensures.kept_fit
-
-pub returns-in-Some-Absent-clause-same : goal.returns-in-Some-Absent-clause-same
-returns-in-Some-Absent-clause-same g c = c.in_ok-load_leaf.ensures.same
 
 pub returns-in-Some-Absent-clause-ranges : goal.returns-in-Some-Absent-clause-ranges
 returns-in-Some-Absent-clause-ranges g c = tt
@@ -121,17 +97,8 @@ returns-in-None-clause-stands g c = λ set honest hangs. tt
 pub returns-in-None-clause-calls : goal.returns-in-None-clause-calls
 returns-in-None-clause-calls g c = c.in_ok-load_leaf.ensures.calls
 
-pub returns-in-None-clause-kept_fit : goal.returns-in-None-clause-kept_fit
-returns-in-None-clause-kept_fit g c = c.in_ok-load_leaf.ensures.kept_fit
-
-pub returns-in-None-clause-same : goal.returns-in-None-clause-same
-returns-in-None-clause-same g c = c.in_ok-load_leaf.ensures.same
-
-pub load_leaf-requires-clause-fits : goal.load_leaf-requires-clause-fits
-load_leaf-requires-clause-fits g c = c.requires.fits
-
 pub returns-in-Some-There-clause-found : goal.returns-in-Some-There-clause-found
 returns-in-Some-There-clause-found g c = λ snap pairs honest is.
-    let slots = subst (λ (j : ℕ). HasSlotsIn (Has (g.D.Disk.state c.args.io.now.disk.now).seen c.args.io.now.space) (outside pairs (Has (g.D.Disk.state c.args.io.now.disk.now).seen c.args.io.now.space)) snap j c.load_leaf.new.io.node) c.requires.number.2 (c.in_ok-load_leaf.ensures.slots snap pairs honest is) in
+    let slots = subst (λ (j : ℕ). HasSlotsIn (blocks_of c.args.io.now) (outside pairs (blocks_of c.args.io.now)) snap j c.load_leaf.new.io.node) c.requires.number.2 (c.in_ok-load_leaf.ensures.slots snap pairs honest is) in
     there_in_slot _ _ snap c.args.number c.in-Some-There.dnode c.in-Some-There.field-0 c.in-Some-There.field-0-is
     (slot_at _ _ snap c.args.number _ _ c.in-Some-There.field-0 c.requires.number.0 c.requires.number.1 slots c.as_slice.ensures.bytes c.in-Some-There.ensures.back)

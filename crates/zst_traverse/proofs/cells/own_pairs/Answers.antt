@@ -1,9 +1,10 @@
 use Rattle.zst_block.proofs.IoCallLemmas.{Looks-then}
-use Rattle.std.proofs.Common.{◌∙◌, ℕ, ◌^◌, List, subst}
+use Rattle.std.proofs.Common.{ℕ, ◌^◌, List, subst}
 use Rattle.std.specs.Prelude.{Option, IfOk, IfSome}
 use Rattle.std.proofs.lemmas.Result.{err_from_is_err_and}
 use Rattle.zst_space.specs.FreeSectors.{FreeSectors}
 use Rattle.zst_block.specs.Blocks.{Has}
+use Rattle.zst_block.specs.IoStates.{blocks_of, disk_of}
 use Rattle.zst_dnode.specs.Dnode.{DnodeFits}
 use Rattle.zst_dnode.specs.declared.dnode.Dnode.{Dnode}
 use Rattle.zst_model.specs.states.State.{index_bound}
@@ -31,9 +32,9 @@ pub returns-in-Some-clause-found : goal.returns-in-Some-clause-found
 returns-in-Some-clause-found g c = λ snap honest lawful is.
     let was = c.next_pairs.ensures.looks.reads.honest honest in
     let looks = c.in_ok-dnode_in.ensures.looks in
-    let found = subst (λ (found : Option Dnode). DnodeIn (Has (g.D.Disk.state c.args.io.now.disk.now).seen c.args.io.now.space) (outside (has_pair c.args.withheld.now) (Has (g.D.Disk.state c.args.io.now.disk.now).seen c.args.io.now.space)) snap c.args.point.object found) c.in-Some.is (c.in_ok-dnode_in.ensures.found snap (has_pair c.args.withheld.now) was is) in
-    let on = look_on (λ (seen : List ℕ) (space : FreeSectors). IsThereIn (Has seen space) (outside (has_pair c.args.withheld.now) (Has seen space)) snap c.args.point.object c.in-Some.dnode) _ _ _ _ _ _ _ looks (there_of _ _ snap c.args.point.object c.in-Some.dnode found) in
-    look_back (λ (seen : List ℕ) (space : FreeSectors). Delivers (FindsPairs (Has seen space) snap (choice_with c.args.source c.args.listed.now c.args.withheld.now) c.args.point) c.next_pairs.result) _ _ _ _ _ _ _ looks (c.next_pairs.ensures.found snap honest lawful on)
+    let found = subst (λ (found : Option Dnode). DnodeIn (blocks_of c.args.io.now) (outside (has_pair c.args.withheld.now) (blocks_of c.args.io.now)) snap c.args.point.object found) c.in-Some.is (c.in_ok-dnode_in.ensures.found snap (has_pair c.args.withheld.now) was is) in
+    let on = look_on (λ (seen : List ℕ) (space : FreeSectors). IsThereIn (Has seen space) (outside (has_pair c.args.withheld.now) (Has seen space)) snap c.args.point.object c.in-Some.dnode) looks (there_of _ _ snap c.args.point.object c.in-Some.dnode found) in
+    look_back (λ (seen : List ℕ) (space : FreeSectors). Delivers (FindsPairs (Has seen space) snap (choice_with c.args.source c.args.listed.now c.args.withheld.now) c.args.point) c.next_pairs.result) looks (c.next_pairs.ensures.found snap honest lawful on)
 
 pub returns-in-Some-clause-ranges : goal.returns-in-Some-clause-ranges
 unfolding index_bound
@@ -45,17 +46,17 @@ pub returns-in-Some-clause-stands : goal.returns-in-Some-clause-stands
 returns-in-Some-clause-stands g c = λ set honest hangs.
     let was = c.next_pairs.ensures.looks.reads.honest honest in
     let looks = c.in_ok-dnode_in.ensures.looks in
-    let stands = subst (λ (found : Option Dnode). IfSome found (StandsIn (IsSeen (g.D.Disk.state c.args.io.now.disk.now).seen) set)) c.in-Some.is (c.in_ok-dnode_in.ensures.stands set was hangs) in
-    let on = look_on (λ (seen : List ℕ) (space : FreeSectors). StandsIn (IsSeen seen) set c.in-Some.dnode) _ _ _ _ _ _ _ looks stands in
-    seen_before _ _ _ _ _ _ _ looks (λ (seen : List ℕ) (size : ℕ). IfOk c.next_pairs.result (λ found. IfSome found (RunStands (IsSeen seen) set))) (c.next_pairs.ensures.stands set honest on)
+    let stands = subst (λ (found : Option Dnode). IfSome found (StandsIn (IsSeen (disk_of c.args.io.now).seen) set)) c.in-Some.is (c.in_ok-dnode_in.ensures.stands set was hangs) in
+    let on = look_on (λ (seen : List ℕ) (space : FreeSectors). StandsIn (IsSeen seen) set c.in-Some.dnode) looks stands in
+    seen_before looks (λ (seen : List ℕ) (size : ℕ). IfOk c.next_pairs.result (λ found. IfSome found (RunStands (IsSeen seen) set))) (c.next_pairs.ensures.stands set honest on)
 
 pub returns-in-Some-clause-damaged : goal.returns-in-Some-clause-damaged
 returns-in-Some-clause-damaged g c = λ set honest hangs.
     let was = c.next_pairs.ensures.looks.reads.honest honest in
     let looks = c.in_ok-dnode_in.ensures.looks in
-    let stands = subst (λ (found : Option Dnode). IfSome found (StandsIn (IsSeen (g.D.Disk.state c.args.io.now.disk.now).seen) set)) c.in-Some.is (c.in_ok-dnode_in.ensures.stands set was hangs) in
-    let on = look_on (λ (seen : List ℕ) (space : FreeSectors). StandsIn (IsSeen seen) set c.in-Some.dnode) _ _ _ _ _ _ _ looks stands in
-    seen_before _ _ _ _ _ _ _ looks (λ (seen : List ℕ) (size : ℕ). IfDamaged c.next_pairs.result (IsDamagedCell (IsSeen seen) size set)) (c.next_pairs.ensures.damaged set honest on)
+    let stands = subst (λ (found : Option Dnode). IfSome found (StandsIn (IsSeen (disk_of c.args.io.now).seen) set)) c.in-Some.is (c.in_ok-dnode_in.ensures.stands set was hangs) in
+    let on = look_on (λ (seen : List ℕ) (space : FreeSectors). StandsIn (IsSeen seen) set c.in-Some.dnode) looks stands in
+    seen_before looks (λ (seen : List ℕ) (size : ℕ). IfDamaged c.next_pairs.result (IsDamagedCell (IsSeen seen) size set)) (c.next_pairs.ensures.damaged set honest on)
 
 pub returns-in_err-dnode_in-clause-ranges : goal.returns-in_err-dnode_in-clause-ranges
 returns-in_err-dnode_in-clause-ranges g c =
@@ -85,12 +86,6 @@ returns-in_err-dnode_in-clause-none g c =
 pub returns-in_err-dnode_in-clause-calls : goal.returns-in_err-dnode_in-clause-calls
 returns-in_err-dnode_in-clause-calls g c = c.in_err-dnode_in.ensures.calls
 
-pub returns-in_err-dnode_in-clause-kept_fit : goal.returns-in_err-dnode_in-clause-kept_fit
-returns-in_err-dnode_in-clause-kept_fit g c = c.in_err-dnode_in.ensures.kept_fit
-
-pub returns-in_err-dnode_in-clause-same : goal.returns-in_err-dnode_in-clause-same
-returns-in_err-dnode_in-clause-same g c = c.in_err-dnode_in.ensures.same
-
 pub returns-in-None-clause-ranges : goal.returns-in-None-clause-ranges
 returns-in-None-clause-ranges g c = tt
 
@@ -106,36 +101,18 @@ returns-in-None-clause-looks g c = c.in_ok-dnode_in.ensures.looks
 pub returns-in-None-clause-calls : goal.returns-in-None-clause-calls
 returns-in-None-clause-calls g c = c.in_ok-dnode_in.ensures.calls
 
-pub returns-in-None-clause-kept_fit : goal.returns-in-None-clause-kept_fit
-returns-in-None-clause-kept_fit g c = c.in_ok-dnode_in.ensures.kept_fit
-
-pub returns-in-None-clause-same : goal.returns-in-None-clause-same
-returns-in-None-clause-same g c = c.in_ok-dnode_in.ensures.same
-
 pub returns-in-Some-clause-looks : goal.returns-in-Some-clause-looks
 returns-in-Some-clause-looks g c = Looks-then c.in_ok-dnode_in.ensures.looks c.next_pairs.ensures.looks
 
-pub returns-in-Some-clause-kept_fit : goal.returns-in-Some-clause-kept_fit
-returns-in-Some-clause-kept_fit g c = c.next_pairs.ensures.kept_fit
-
-pub returns-in-Some-clause-same : goal.returns-in-Some-clause-same
-returns-in-Some-clause-same g c = c.next_pairs.ensures.same ∙ c.in_ok-dnode_in.ensures.same
-
-pub dnode_in-requires-clause-number : goal.dnode_in-requires-clause-number
-dnode_in-requires-clause-number g c = c.requires.object
-
-pub dnode_in-requires-clause-fits : goal.dnode_in-requires-clause-fits
-dnode_in-requires-clause-fits g c = c.requires.fits
-
-pub next_pairs-requires-clause-fits : goal.next_pairs-requires-clause-fits
-next_pairs-requires-clause-fits g c = c.in_ok-dnode_in.ensures.kept_fit
+pub dnode_in-requires : goal.dnode_in-requires
+dnode_in-requires g c = record { number = c.requires.object }
 
 pub returns-in-Some-clause-calls : goal.returns-in-Some-clause-calls
 returns-in-Some-clause-calls g c = calls_then _ _ _ _ _ _ c.in_ok-dnode_in.ensures.calls c.next_pairs.ensures.calls
 
 pub returns-in-None-clause-found : goal.returns-in-None-clause-found
 returns-in-None-clause-found g c = λ snap honest lawful is i past.
-    let has = Has (g.D.Disk.state c.args.io.now.disk.now).seen c.args.io.now.space in
+    let has = blocks_of c.args.io.now in
     no_pair_of snap (choice_with c.args.source c.args.listed.now c.args.withheld.now) c.args.point.object
     (nothing_at has (outside (has_pair c.args.withheld.now) has) snap c.args.point.object
     (subst (λ (found : Option Dnode). DnodeIn has (outside (has_pair c.args.withheld.now) has) snap c.args.point.object found) c.in-None.is (c.in_ok-dnode_in.ensures.found snap (has_pair c.args.withheld.now) honest is))) i

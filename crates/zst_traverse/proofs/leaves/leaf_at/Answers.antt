@@ -38,12 +38,6 @@ returns-in_err-ptr-clause-steps g c = c.in_err-ptr.ensures.steps
 pub returns-in_err-ptr-clause-calls : goal.returns-in_err-ptr-clause-calls
 returns-in_err-ptr-clause-calls g c = c.in_err-ptr.ensures.calls
 
-pub returns-in_err-ptr-clause-kept_fit : goal.returns-in_err-ptr-clause-kept_fit
-returns-in_err-ptr-clause-kept_fit g c = c.in_err-ptr.ensures.kept_fit
-
-pub returns-in_err-ptr-clause-same : goal.returns-in_err-ptr-clause-same
-returns-in_err-ptr-clause-same g c = c.in_err-ptr.ensures.same
-
 pub returns-clause-index : goal.returns-clause-index
 returns-clause-index g c = refl
 
@@ -65,12 +59,6 @@ returns-clause-steps g c = c.in_ok-ptr.ensures.steps
 pub returns-clause-calls : goal.returns-clause-calls
 returns-clause-calls g c = c.in_ok-ptr.ensures.calls
 
-pub returns-clause-kept_fit : goal.returns-clause-kept_fit
-returns-clause-kept_fit g c = c.in_ok-ptr.ensures.kept_fit
-
-pub returns-clause-same : goal.returns-clause-same
-returns-clause-same g c = c.in_ok-ptr.ensures.same
-
 pub returns-clause-shows : goal.returns-clause-shows
 returns-clause-shows g c = c.in_ok-ptr.ensures.shows
 
@@ -79,6 +67,3 @@ get-requires-clause-levels g c = c.requires.levels
 
 pub get-requires-clause-index : goal.get-requires-clause-index
 get-requires-clause-index g c = c.requires.index
-
-pub get-requires-clause-fits : goal.get-requires-clause-fits
-get-requires-clause-fits g c = c.requires.fits

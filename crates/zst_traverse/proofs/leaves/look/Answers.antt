@@ -1,7 +1,8 @@
 use Rattle.std.proofs.lemmas.Result.{err_from_is_err_and}
-use Rattle.std.proofs.Common.{◌∙◌, refl, ℕ, ◌+◌, ◌-◌, ◌*◌, ◌<◌, List, subst, arith}
+use Rattle.std.proofs.Common.{ℕ, ◌+◌, ◌-◌, ◌*◌, ◌<◌, List, subst, arith}
 use Rattle.zst_space.specs.FreeSectors.{FreeSectors}
 use Rattle.zst_block.specs.Blocks.{Has}
+use Rattle.zst_block.specs.IoStates.{IsHonest, blocks_of, disk_of}
 use Rattle.zst_block.proofs.IoCallLemmas.{Looks-none, Looks-then}
 use Rattle.zst_dnode.specs.declared.slot.Slot.TheVariants as slots
 use Rattle.zst_tree.proofs.Damage.{seen_before}
@@ -79,36 +80,36 @@ returns-in-Some-There-clause-shows g c = λ snap pairs honest stands.
     let dnode = c.in-Some-There.dnode in
     let shown = object_shown _ _ pairs snap leaf c.load_leaf.new.io.node stands c.requires.count.0 c.requires.index c.if-leaf-eq0.false (c.in_ok-load_leaf.ensures.loaded (c.judged.ensures.looks.reads.honest honest)) c.args.source c.args.from place (omega arith) c.requires.from.0 at dnode
     (λ held spells. subst (λ (seen : Glance). ShowsLate held c.args.source leaf.index place seen) c.in-Some-There.field-0-is (c.in-Some-There.ensures.shows held spells)) in
-    let on = look_on (λ (seen : List ℕ) (space : FreeSectors). IsThereIn (Has seen space) (outside pairs (Has seen space)) snap (16 * leaf.index + at) dnode) _ _ _ _ _ _ _ c.in_ok-load_leaf.ensures.looks shown.there in
-    let back = look_back (λ (seen : List ℕ) (space : FreeSectors). Delivers (ShowsAhead (Has seen space) (outside pairs (Has seen space)) snap (choice_after c.args.source) (16 * leaf.index + at)) c.judged.result) _ _ _ _ _ _ _ c.in_ok-load_leaf.ensures.looks (c.judged.ensures.shows snap pairs honest on) in
+    let on = look_on (λ (seen : List ℕ) (space : FreeSectors). IsThereIn (Has seen space) (outside pairs (Has seen space)) snap (16 * leaf.index + at) dnode) c.in_ok-load_leaf.ensures.looks shown.there in
+    let back = look_back (λ (seen : List ℕ) (space : FreeSectors). Delivers (ShowsAhead (Has seen space) (outside pairs (Has seen space)) snap (choice_after c.args.source) (16 * leaf.index + at)) c.judged.result) c.in_ok-load_leaf.ensures.looks (c.judged.ensures.shows snap pairs honest on) in
     delivers_if _ _ c.judged.result shown.behind back
 
 -- the dnode that is judged may stand in the set
-dnode_there : (g : given.Over) (c : goal.After-judged g) (set : ObjSet) → (g.D.Disk.state c.judged.new.io.disk.now).honest → HangsIn (MayHave (IsSeen (g.D.Disk.state c.args.io.now.disk.now).seen)) set.tree c.args.leaf.now.ptr
-    → StandsIn (IsSeen (g.D.Disk.state c.load_leaf.new.io.disk.now).seen) set c.in-Some-There.dnode
+dnode_there : (g : given.Over) (c : goal.After-judged g) (set : ObjSet) → IsHonest c.judged.new.io → HangsIn (MayHave (IsSeen (disk_of c.args.io.now).seen)) set.tree c.args.leaf.now.ptr
+    → StandsIn (IsSeen (disk_of c.load_leaf.new.io).seen) set c.in-Some-There.dnode
 dnode_there g c set honest hangs =
     let loaded = c.in_ok-load_leaf.ensures.loaded (c.judged.ensures.looks.reads.honest honest) in
     let dnode = c.in-Some-There.dnode in
     let has : (c.in-Some-There.place < 16) × HasSlot c.load_leaf.new.io.node c.in-Some-There.place (slots.There dnode) = subst (λ (seen : Glance). HasGlance c.load_leaf.new.io.node seen) c.in-Some-There.field-0-is c.in-Some-There.ensures.stands in
-    let stands = dnode_stands (IsSeen (g.D.Disk.state c.args.io.now.disk.now).seen) set c.args.leaf.now.ptr c.load_leaf.new.io.node c.in-Some-There.place dnode hangs loaded c.if-leaf-eq0.false
+    let stands = dnode_stands (IsSeen (disk_of c.args.io.now).seen) set c.args.leaf.now.ptr c.load_leaf.new.io.node c.in-Some-There.place dnode hangs loaded c.if-leaf-eq0.false
     has.0 has.1 in
-    look_on (λ (seen : List ℕ) (space : FreeSectors). StandsIn (IsSeen seen) set dnode) _ _ _ _ _ _ _ c.in_ok-load_leaf.ensures.looks stands
+    look_on (λ (seen : List ℕ) (space : FreeSectors). StandsIn (IsSeen seen) set dnode) c.in_ok-load_leaf.ensures.looks stands
 
 pub returns-then-leaf-eq0-clause-stands : goal.returns-then-leaf-eq0-clause-stands
 returns-then-leaf-eq0-clause-stands g c = λ set honest hangs. c.in_hole.ensures.stands _ set
 
 pub returns-in-Some-There-clause-stands : goal.returns-in-Some-There-clause-stands
 returns-in-Some-There-clause-stands g c = λ set honest hangs.
-    seen_before _ _ _ _ _ _ _ c.in_ok-load_leaf.ensures.looks (λ (seen : List ℕ) (size : ℕ). IfOk c.judged.result (AheadStands (IsSeen seen) set)) (c.judged.ensures.stands set honest (dnode_there g c set honest hangs))
+    seen_before c.in_ok-load_leaf.ensures.looks (λ (seen : List ℕ) (size : ℕ). IfOk c.judged.result (AheadStands (IsSeen seen) set)) (c.judged.ensures.stands set honest (dnode_there g c set honest hangs))
 
 pub returns-in-Some-There-clause-damaged : goal.returns-in-Some-There-clause-damaged
 returns-in-Some-There-clause-damaged g c = λ set honest hangs.
     let on = dnode_there g c set honest hangs in
-    seen_before _ _ _ _ _ _ _ c.in_ok-load_leaf.ensures.looks (λ (seen : List ℕ) (size : ℕ). IfDamaged c.judged.result (IsDamagedCell (IsSeen seen) size set)) (c.judged.ensures.damaged set honest on)
+    seen_before c.in_ok-load_leaf.ensures.looks (λ (seen : List ℕ) (size : ℕ). IfDamaged c.judged.result (IsDamagedCell (IsSeen seen) size set)) (c.judged.ensures.damaged set honest on)
 
 -- in a tight leaf an object that is shown is next
-is_next : (g : given.Over) (c : goal.After-judged g) (snap : DatedState) (pairs : Pairs) → (g.D.Disk.state c.judged.new.io.disk.now).honest → StandsFor (Has (g.D.Disk.state c.args.io.now.disk.now).seen c.args.io.now.space) (outside pairs (Has (g.D.Disk.state c.args.io.now.disk.now).seen c.args.io.now.space)) snap c.args.leaf.now
-    → IsTightLeaf (Has (g.D.Disk.state c.args.io.now.disk.now).seen c.args.io.now.space) snap c.args.leaf.now.index c.args.leaf.now.ptr → IfOk c.judged.result IsNext
+is_next : (g : given.Over) (c : goal.After-judged g) (snap : DatedState) (pairs : Pairs) → IsHonest c.judged.new.io → StandsFor (blocks_of c.args.io.now) (outside pairs (blocks_of c.args.io.now)) snap c.args.leaf.now
+    → IsTightLeaf (blocks_of c.args.io.now) snap c.args.leaf.now.index c.args.leaf.now.ptr → IfOk c.judged.result IsNext
 is_next g c snap pairs honest stands tight =
     let leaf = c.args.leaf.now in
     let place = c.args.from - 16 * leaf.index in
@@ -116,7 +117,7 @@ is_next g c snap pairs honest stands tight =
     let dnode = c.in-Some-There.dnode in
     let shown = object_shown _ _ pairs snap leaf c.load_leaf.new.io.node stands c.requires.count.0 c.requires.index c.if-leaf-eq0.false (c.in_ok-load_leaf.ensures.loaded (c.judged.ensures.looks.reads.honest honest)) c.args.source c.args.from place (omega arith) c.requires.from.0 at dnode
     (λ held spells. subst (λ (seen : Glance). ShowsLate held c.args.source leaf.index place seen) c.in-Some-There.field-0-is (c.in-Some-There.ensures.shows held spells)) in
-    let on = look_on (λ (seen : List ℕ) (space : FreeSectors). IsThereIn (Has seen space) (outside pairs (Has seen space)) snap (16 * leaf.index + at) dnode) _ _ _ _ _ _ _ c.in_ok-load_leaf.ensures.looks shown.there in
+    let on = look_on (λ (seen : List ℕ) (space : FreeSectors). IsThereIn (Has seen space) (outside pairs (Has seen space)) snap (16 * leaf.index + at) dnode) c.in_ok-load_leaf.ensures.looks shown.there in
     c.judged.ensures.next snap pairs honest on (shown.tight tight) shown.late
 
 pub returns-in-Some-There-clause-ends : goal.returns-in-Some-There-clause-ends
@@ -135,13 +136,7 @@ pub returns-then-leaf-eq0-clause-damaged : goal.returns-then-leaf-eq0-clause-dam
 returns-then-leaf-eq0-clause-damaged g c = λ set honest hangs. tt
 
 pub returns-then-leaf-eq0-clause-looks : goal.returns-then-leaf-eq0-clause-looks
-returns-then-leaf-eq0-clause-looks g c = Looks-none _ _ _
-
-pub returns-then-leaf-eq0-clause-kept_fit : goal.returns-then-leaf-eq0-clause-kept_fit
-returns-then-leaf-eq0-clause-kept_fit g c = c.requires.fits
-
-pub returns-then-leaf-eq0-clause-same : goal.returns-then-leaf-eq0-clause-same
-returns-then-leaf-eq0-clause-same g c = refl
+returns-then-leaf-eq0-clause-looks g c = Looks-none _
 
 pub returns-then-leaf-eq0-clause-ranges : goal.returns-then-leaf-eq0-clause-ranges
 returns-then-leaf-eq0-clause-ranges g c = c.in_hole.ensures.ranges
@@ -187,12 +182,6 @@ returns-in_err-load_leaf-clause-looks g c =
 pub returns-in_err-load_leaf-clause-calls : goal.returns-in_err-load_leaf-clause-calls
 returns-in_err-load_leaf-clause-calls g c = c.in_err-load_leaf.ensures.calls
 
-pub returns-in_err-load_leaf-clause-kept_fit : goal.returns-in_err-load_leaf-clause-kept_fit
-returns-in_err-load_leaf-clause-kept_fit g c = c.in_err-load_leaf.ensures.kept_fit
-
-pub returns-in_err-load_leaf-clause-same : goal.returns-in_err-load_leaf-clause-same
-returns-in_err-load_leaf-clause-same g c = c.in_err-load_leaf.ensures.same
-
 pub returns-in-None-clause-ranges : goal.returns-in-None-clause-ranges
 returns-in-None-clause-ranges g c = tt
 
@@ -214,12 +203,6 @@ returns-in-None-clause-late g c = λ snap pairs honest stands tight after at. tt
 pub returns-in-None-clause-calls : goal.returns-in-None-clause-calls
 returns-in-None-clause-calls g c = c.in_ok-load_leaf.ensures.calls
 
-pub returns-in-None-clause-kept_fit : goal.returns-in-None-clause-kept_fit
-returns-in-None-clause-kept_fit g c = c.in_ok-load_leaf.ensures.kept_fit
-
-pub returns-in-None-clause-same : goal.returns-in-None-clause-same
-returns-in-None-clause-same g c = c.in_ok-load_leaf.ensures.same
-
 pub returns-in-Some-Nothing-clause-damaged : goal.returns-in-Some-Nothing-clause-damaged
 returns-in-Some-Nothing-clause-damaged g c = λ set honest hangs. tt
 
@@ -231,12 +214,6 @@ returns-in-Some-Nothing-clause-looks g c = c.in_ok-load_leaf.ensures.looks
 
 pub returns-in-Some-Nothing-clause-calls : goal.returns-in-Some-Nothing-clause-calls
 returns-in-Some-Nothing-clause-calls g c = c.in_ok-load_leaf.ensures.calls
-
-pub returns-in-Some-Nothing-clause-kept_fit : goal.returns-in-Some-Nothing-clause-kept_fit
-returns-in-Some-Nothing-clause-kept_fit g c = c.in_ok-load_leaf.ensures.kept_fit
-
-pub returns-in-Some-Nothing-clause-same : goal.returns-in-Some-Nothing-clause-same
-returns-in-Some-Nothing-clause-same g c = c.in_ok-load_leaf.ensures.same
 
 pub returns-in-Some-Absent-clause-damaged : goal.returns-in-Some-Absent-clause-damaged
 returns-in-Some-Absent-clause-damaged g c = λ set honest hangs. tt
@@ -250,29 +227,11 @@ returns-in-Some-Absent-clause-looks g c = c.in_ok-load_leaf.ensures.looks
 pub returns-in-Some-Absent-clause-calls : goal.returns-in-Some-Absent-clause-calls
 returns-in-Some-Absent-clause-calls g c = c.in_ok-load_leaf.ensures.calls
 
-pub returns-in-Some-Absent-clause-kept_fit : goal.returns-in-Some-Absent-clause-kept_fit
-returns-in-Some-Absent-clause-kept_fit g c = c.in_ok-load_leaf.ensures.kept_fit
-
-pub returns-in-Some-Absent-clause-same : goal.returns-in-Some-Absent-clause-same
-returns-in-Some-Absent-clause-same g c = c.in_ok-load_leaf.ensures.same
-
 pub returns-in-Some-Absent-clause-ends : goal.returns-in-Some-Absent-clause-ends
 returns-in-Some-Absent-clause-ends g c = λ snap pairs honest stands tight. tt
 
-pub returns-in-Some-There-clause-kept_fit : goal.returns-in-Some-There-clause-kept_fit
-returns-in-Some-There-clause-kept_fit g c = c.judged.ensures.kept_fit
-
-pub returns-in-Some-There-clause-same : goal.returns-in-Some-There-clause-same
-returns-in-Some-There-clause-same g c = c.judged.ensures.same ∙ c.in_ok-load_leaf.ensures.same
-
-pub load_leaf-requires-clause-index : goal.load_leaf-requires-clause-index
-load_leaf-requires-clause-index g c = c.requires.index
-
-pub load_leaf-requires-clause-fits : goal.load_leaf-requires-clause-fits
-load_leaf-requires-clause-fits g c = c.requires.fits
-
-pub judged-requires-clause-fits : goal.judged-requires-clause-fits
-judged-requires-clause-fits g c = c.in_ok-load_leaf.ensures.kept_fit
+pub load_leaf-requires : goal.load_leaf-requires
+load_leaf-requires g c = record { index = c.requires.index }
 
 pub returns-in-Some-There-clause-calls : goal.returns-in-Some-There-clause-calls
 returns-in-Some-There-clause-calls g c = calls_then _ _ _ _ _ _ c.in_ok-load_leaf.ensures.calls c.judged.ensures.calls

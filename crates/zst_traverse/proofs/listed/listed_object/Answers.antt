@@ -3,6 +3,7 @@ use Rattle.std.specs.Prelude.{Option, Some}
 use Rattle.std.proofs.lemmas.Result.{err_from_is_err_and}
 use Rattle.zst_space.specs.FreeSectors.{FreeSectors}
 use Rattle.zst_block.specs.Blocks.{Has}
+use Rattle.zst_block.specs.IoStates.{blocks_of}
 use Rattle.zst_block.proofs.IoCallLemmas.{Looks-then}
 use Rattle.zst_dnode.specs.declared.dnode.Dnode.{Dnode}
 use Rattle.zst_model.specs.fields.Lists.{has_pair}
@@ -23,7 +24,7 @@ returns-in_err-dnode_in-clause-found g c = λ snap honest holds.
     let leaf = c.in_ok-leaf.leaf in
     let was = c.in_err-dnode_in.ensures.looks.reads.honest honest in
     let is = leaf_there _ _ c.args.set.now snap holds (c.args.number / 16) leaf (omega (arith, c.requires.number.1)) c.in_ok-leaf.ensures.index (c.in_ok-leaf.ensures.shows holds.map was holds.tree) in
-    let on = look_on (λ (seen : List ℕ) (space : FreeSectors). LeafIn (Has seen space) (outside pairs (Has seen space)) snap leaf.index leaf.ptr) _ _ _ _ _ _ _ c.in_ok-leaf.ensures.looks is in
+    let on = look_on (λ (seen : List ℕ) (space : FreeSectors). LeafIn (Has seen space) (outside pairs (Has seen space)) snap leaf.index leaf.ptr) c.in_ok-leaf.ensures.looks is in
     let p = err_from_is_err_and c.from_residual-in_err-dnode_in.result c.from_residual-in_err-dnode_in.ensures.1 in
     rw (p.1, p.2) (c.in_err-dnode_in.ensures.found snap pairs honest on)
 
@@ -33,8 +34,8 @@ returns-in-None-clause-found g c = λ snap honest holds.
     let leaf = c.in_ok-leaf.leaf in
     let was = c.in_ok-dnode_in.ensures.looks.reads.honest honest in
     let is = leaf_there _ _ c.args.set.now snap holds (c.args.number / 16) leaf (omega (arith, c.requires.number.1)) c.in_ok-leaf.ensures.index (c.in_ok-leaf.ensures.shows holds.map was holds.tree) in
-    let on = look_on (λ (seen : List ℕ) (space : FreeSectors). LeafIn (Has seen space) (outside pairs (Has seen space)) snap leaf.index leaf.ptr) _ _ _ _ _ _ _ c.in_ok-leaf.ensures.looks is in
-    let has = Has (g.D.Disk.state c.leaf_at.new.io.disk.now).seen c.leaf_at.new.io.space in
+    let on = look_on (λ (seen : List ℕ) (space : FreeSectors). LeafIn (Has seen space) (outside pairs (Has seen space)) snap leaf.index leaf.ptr) c.in_ok-leaf.ensures.looks is in
+    let has = blocks_of c.leaf_at.new.io in
     none_told has (outside pairs has) snap c.args.listed.now c.args.withheld.now c.args.number
     (subst (λ (found : Option Dnode). DnodeIn has (outside pairs has) snap c.args.number found) c.in-None.is (c.in_ok-dnode_in.ensures.found snap pairs honest on))
 
@@ -44,10 +45,10 @@ returns-then-is_listed-clause-found g c = λ snap honest holds.
     let leaf = c.in_ok-leaf.leaf in
     let was = c.in_ok-dnode_in.ensures.looks.reads.honest honest in
     let is = leaf_there _ _ c.args.set.now snap holds (c.args.number / 16) leaf (omega (arith, c.requires.number.1)) c.in_ok-leaf.ensures.index (c.in_ok-leaf.ensures.shows holds.map was holds.tree) in
-    let on = look_on (λ (seen : List ℕ) (space : FreeSectors). LeafIn (Has seen space) (outside pairs (Has seen space)) snap leaf.index leaf.ptr) _ _ _ _ _ _ _ c.in_ok-leaf.ensures.looks is in
-    let has = Has (g.D.Disk.state c.leaf_at.new.io.disk.now).seen c.leaf_at.new.io.space in
+    let on = look_on (λ (seen : List ℕ) (space : FreeSectors). LeafIn (Has seen space) (outside pairs (Has seen space)) snap leaf.index leaf.ptr) c.in_ok-leaf.ensures.looks is in
+    let has = blocks_of c.leaf_at.new.io in
     let found = subst (λ (found : Option Dnode). DnodeIn has (outside pairs has) snap c.args.number found) c.in-Some.is (c.in_ok-dnode_in.ensures.found snap pairs honest on) in
-    let back = look_back (λ (seen : List ℕ) (space : FreeSectors). DnodeIn (Has seen space) (outside pairs (Has seen space)) snap c.args.number (Some c.in-Some.dnode)) _ _ _ _ _ _ _ c.in_ok-leaf.ensures.looks found in
+    let back = look_back (λ (seen : List ℕ) (space : FreeSectors). DnodeIn (Has seen space) (outside pairs (Has seen space)) snap c.args.number (Some c.in-Some.dnode)) c.in_ok-leaf.ensures.looks found in
     object_told _ _ snap c.args.listed.now c.args.withheld.now c.args.number c.in-Some.dnode back (c.is_listed.ensures.some c.if-is_listed.true)
 
 pub returns-else-is_listed-clause-found : goal.returns-else-is_listed-clause-found
@@ -56,8 +57,8 @@ returns-else-is_listed-clause-found g c = λ snap honest holds.
     let leaf = c.in_ok-leaf.leaf in
     let was = c.in_ok-dnode_in.ensures.looks.reads.honest honest in
     let is = leaf_there _ _ c.args.set.now snap holds (c.args.number / 16) leaf (omega (arith, c.requires.number.1)) c.in_ok-leaf.ensures.index (c.in_ok-leaf.ensures.shows holds.map was holds.tree) in
-    let on = look_on (λ (seen : List ℕ) (space : FreeSectors). LeafIn (Has seen space) (outside pairs (Has seen space)) snap leaf.index leaf.ptr) _ _ _ _ _ _ _ c.in_ok-leaf.ensures.looks is in
-    let has = Has (g.D.Disk.state c.leaf_at.new.io.disk.now).seen c.leaf_at.new.io.space in
+    let on = look_on (λ (seen : List ℕ) (space : FreeSectors). LeafIn (Has seen space) (outside pairs (Has seen space)) snap leaf.index leaf.ptr) c.in_ok-leaf.ensures.looks is in
+    let has = blocks_of c.leaf_at.new.io in
     let found = subst (λ (found : Option Dnode). DnodeIn has (outside pairs has) snap c.args.number found) c.in-Some.is (c.in_ok-dnode_in.ensures.found snap pairs honest on) in
     object_unlisted has (outside pairs has) snap c.args.listed.now c.args.withheld.now c.args.number c.in-Some.dnode found (c.is_listed.ensures.none c.if-is_listed.false)
 

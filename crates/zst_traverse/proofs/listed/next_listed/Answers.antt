@@ -1,8 +1,9 @@
-use Rattle.std.proofs.Common.{ℕ, ◌∙◌, List, subst, arith}
+use Rattle.std.proofs.Common.{ℕ, List, subst, arith}
 use Rattle.std.specs.Prelude.{IfSome, Option, Some}
 use Rattle.std.proofs.lemmas.Result.{err_from_is_err_and}
 use Rattle.zst_space.specs.FreeSectors.{FreeSectors}
 use Rattle.zst_block.specs.Blocks.{Has}
+use Rattle.zst_block.specs.IoStates.{blocks_of}
 use Rattle.zst_block.proofs.IoCallLemmas.{Looks-then}
 use Rattle.zst_dnode.specs.Dnode.{DnodeFits}
 use Rattle.zst_dnode.specs.declared.dnode.Dnode.{Dnode}
@@ -35,13 +36,11 @@ loop-number-init g c = record {
   steps = c.in_ok-by_date.ensures.steps;
   calls = c.in_ok-by_date.ensures.calls;
   looks = c.in_ok-by_date.ensures.looks;
-  fits = c.in_ok-by_date.ensures.kept_fit;
-  same = c.in_ok-by_date.ensures.same;
 }
 
 pub returns-in_err-dnode-clause-found : goal.returns-in_err-dnode-clause-found
 returns-in_err-dnode-clause-found g c = λ snap honest holds stands.
-    let on = look_on (λ (seen : List ℕ) (space : FreeSectors). SetHoldsBut (Has seen space) (has_pair c.args.withheld.now) c.args.set.now snap) _ _ _ _ _ _ _ c.loop-number.invariant.looks holds in
+    let on = look_on (λ (seen : List ℕ) (space : FreeSectors). SetHoldsBut (Has seen space) (has_pair c.args.withheld.now) c.args.set.now snap) c.loop-number.invariant.looks holds in
     let p = err_from_is_err_and c.from_residual-in_err-dnode.result c.from_residual-in_err-dnode.ensures.1 in
     rw (p.1, p.2) (c.in_err-dnode.ensures.found snap honest on)
 
@@ -56,10 +55,10 @@ returns-in-Some-2-clause-found g c = λ snap honest holds stands.
     let pairs = has_pair c.args.withheld.now in
     let was = c.in_ok-dnode.ensures.looks.reads.honest honest in
     let invariant = c.loop-number.invariant in
-    let on = look_on (λ (seen : List ℕ) (space : FreeSectors). SetHoldsBut (Has seen space) pairs c.args.set.now snap) _ _ _ _ _ _ _ invariant.looks holds in
-    let has = Has (g.D.Disk.state c.loop-number.io.disk.now).seen c.loop-number.io.space in
+    let on = look_on (λ (seen : List ℕ) (space : FreeSectors). SetHoldsBut (Has seen space) pairs c.args.set.now snap) invariant.looks holds in
+    let has = blocks_of c.loop-number.io in
     let found = subst (λ (found : Option Dnode). FindsObject has (outside pairs has) snap c.args.listed.now c.args.withheld.now c.in-Some.number found) c.in-Some-2.is (c.in_ok-dnode.ensures.found snap honest on) in
-    let back = look_back (λ (seen : List ℕ) (space : FreeSectors). FindsObject (Has seen space) (outside pairs (Has seen space)) snap c.args.listed.now c.args.withheld.now c.in-Some.number (Some c.in-Some-2.dnode)) _ _ _ _ _ _ _ invariant.looks found in
+    let back = look_back (λ (seen : List ℕ) (space : FreeSectors). FindsObject (Has seen space) (outside pairs (Has seen space)) snap c.args.listed.now c.args.withheld.now c.in-Some.number (Some c.in-Some-2.dnode)) invariant.looks found in
     let fits : DnodeFits c.in-Some-2.dnode = subst (λ (found : Option Dnode). IfSome found DnodeFits) c.in-Some-2.is c.in_ok-dnode.ensures.ranges in
     let first = c.in-Some.ensures.first in
     let at = first.from_on in
@@ -93,8 +92,8 @@ loop-number-preserved g c =
       some = omega arith;
       none = λ snap honest holds stands k over under.
           let then = looks.reads.honest honest in
-          let on = look_on (λ (seen : List ℕ) (space : FreeSectors). SetHoldsBut (Has seen space) pairs c.args.set.now snap) _ _ _ _ _ _ _ was.looks holds in
-          let has = Has (g.D.Disk.state c.loop-number.io.disk.now).seen c.loop-number.io.space in
+          let on = look_on (λ (seen : List ℕ) (space : FreeSectors). SetHoldsBut (Has seen space) pairs c.args.set.now snap) was.looks holds in
+          let has = blocks_of c.loop-number.io in
           let found = subst (λ (found : Option Dnode). FindsObject has (outside pairs has) snap c.args.listed.now c.args.withheld.now c.in-Some.number found) c.in-None.is (c.in_ok-dnode.ensures.found snap honest on) in
           past_number _ _ snap c.args.source c.args.listed.now c.args.withheld.now c.args.from c.loop-number.at c.first_found-below.result c.in_ok-by_date.by_date (was.first snap then holds stands) below was.from_on (was.none snap then holds stands)
           c.in-Some.number first found k over under;
@@ -103,16 +102,14 @@ loop-number-preserved g c =
       few = λ snap honest tight stands leaf included.
           let holds = tight.holds in
           let then = looks.reads.honest honest in
-          let on = look_on (λ (seen : List ℕ) (space : FreeSectors). SetHoldsBut (Has seen space) pairs c.args.set.now snap) _ _ _ _ _ _ _ was.looks holds in
-          let has = Has (g.D.Disk.state c.loop-number.io.disk.now).seen c.loop-number.io.space in
+          let on = look_on (λ (seen : List ℕ) (space : FreeSectors). SetHoldsBut (Has seen space) pairs c.args.set.now snap) was.looks holds in
+          let has = blocks_of c.loop-number.io in
           let found = subst (λ (found : Option Dnode). FindsObject has (outside pairs has) snap c.args.listed.now c.args.withheld.now c.in-Some.number found) c.in-None.is (c.in_ok-dnode.ensures.found snap honest on) in
           absurd (no_object _ _ snap c.args.source c.args.listed.now c.args.withheld.now c.args.from c.loop-number.at c.first_found-below.result c.in_ok-by_date.by_date (was.first snap then holds stands) below was.from_on (was.none snap then holds stands)
           c.in-Some.number first included found);
       steps = omega (arith, was.steps, steps);
       calls = omega (arith, was.calls, c.in_ok-dnode.ensures.calls);
       looks = Looks-then was.looks looks;
-      fits = c.in_ok-dnode.ensures.kept_fit;
-      same = c.in_ok-dnode.ensures.same ∙ was.same;
     }
 
 pub returns-clause-found : goal.returns-clause-found

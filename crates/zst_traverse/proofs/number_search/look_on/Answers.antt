@@ -1,8 +1,9 @@
-use Rattle.std.proofs.Common.{◌∙◌, ◌≡◌, ℕ, ◌/◌, ◌^◌, ◌<◌, ◌≤◌, true, List, sym, subst, arith}
+use Rattle.std.proofs.Common.{◌≡◌, ℕ, ◌/◌, ◌^◌, ◌<◌, ◌≤◌, true, List, sym, subst, arith}
 use Rattle.std.specs.Prelude.{Option}
 use Rattle.std.proofs.lemmas.Result.{err_from_is_err_and}
 use Rattle.zst_space.specs.FreeSectors.{FreeSectors}
 use Rattle.zst_block.specs.Blocks.{Has}
+use Rattle.zst_block.specs.IoStates.{blocks_of}
 use Rattle.zst_block.specs.declared.ptr.Ptr.{Ptr}
 use Rattle.zst_block.proofs.IoCallLemmas.{Looks-then}
 use Rattle.zst_model.specs.sends.Inclusion.{is_after}
@@ -28,7 +29,7 @@ returns-in_err-next_late-clause-shows g c = λ snap pairs honest holds.
 pub returns-in_err-leaf-in-Some-clause-shows : goal.returns-in_err-leaf-in-Some-clause-shows
 returns-in_err-leaf-in-Some-clause-shows g c = λ snap pairs honest holds.
     let p = err_from_is_err_and c.from_residual-in_err-leaf-in-Some.result c.from_residual-in_err-leaf-in-Some.ensures.1 in
-    let tree = look_on (λ (seen : List ℕ) (space : FreeSectors). TreeIs (Has seen space) c.args.set.now.tree holds.map) _ _ _ _ _ _ _ c.in_ok-next_late.ensures.looks holds.tree in
+    let tree = look_on (λ (seen : List ℕ) (space : FreeSectors). TreeIs (Has seen space) c.args.set.now.tree holds.map) c.in_ok-next_late.ensures.looks holds.tree in
     rw (p.1, p.2) (c.in_err-leaf-in-Some.ensures.shows holds.map honest tree)
 
 pub returns-in-None-clause-shows : goal.returns-in-None-clause-shows
@@ -43,12 +44,12 @@ returns-in_ok-leaf-in-Some-clause-shows g c = λ snap pairs honest holds.
     let there = c.look.ensures.looks.reads.honest honest in
     let was = c.in_ok-leaf-in-Some.ensures.looks.reads.honest there in
     let first : IsFirstLate holds.map c.args.source (c.args.from / 16) (2 ^ 44) index = subst (λ (found : Option ℕ). FindsLate holds.map c.args.source (c.args.from / 16) (2 ^ 44) found) c.in-Some.is (c.in_ok-next_late.ensures.late holds.map was holds.tree) in
-    let tree = look_on (λ (seen : List ℕ) (space : FreeSectors). TreeIs (Has seen space) c.args.set.now.tree holds.map) _ _ _ _ _ _ _ c.in_ok-next_late.ensures.looks holds.tree in
+    let tree = look_on (λ (seen : List ℕ) (space : FreeSectors). TreeIs (Has seen space) c.args.set.now.tree holds.map) c.in_ok-next_late.ensures.looks holds.tree in
     let shows : Shows holds.map index (leaf.ptr, leaf.count) = c.in_ok-leaf-in-Some.ensures.shows holds.map there tree in
     let stands = stands_for _ _ c.args.set.now snap holds leaf (subst (λ (n : ℕ). Shows holds.map n (leaf.ptr, leaf.count)) (sym c.in_ok-leaf-in-Some.ensures.index) shows) in
     let looks = Looks-then c.in_ok-next_late.ensures.looks c.in_ok-leaf-in-Some.ensures.looks in
-    let on = look_on (λ (seen : List ℕ) (space : FreeSectors). StandsFor (Has seen space) (outside pairs (Has seen space)) snap leaf) _ _ _ _ _ _ _ looks stands in
-    let back = look_back (λ (seen : List ℕ) (space : FreeSectors). Delivers (ShowsAhead (Has seen space) (outside pairs (Has seen space)) snap (choice_after c.args.source) c.max.result) c.look.result) _ _ _ _ _ _ _ looks (c.look.ensures.shows snap pairs honest on) in
+    let on = look_on (λ (seen : List ℕ) (space : FreeSectors). StandsFor (Has seen space) (outside pairs (Has seen space)) snap leaf) looks stands in
+    let back = look_back (λ (seen : List ℕ) (space : FreeSectors). Delivers (ShowsAhead (Has seen space) (outside pairs (Has seen space)) snap (choice_after c.args.source) c.max.result) c.look.result) looks (c.look.ensures.shows snap pairs honest on) in
     let under : index < 2 ^ 44 = first.under in
     let none : NoNumber snap (choice_after c.args.source) c.args.from c.max.result = λ k over less.
     leaves_early _ _ snap c.args.source c.args.set.now holds c.args.from index c.requires.from.0 (omega arith) first.none_before k over (omega arith) in
@@ -62,19 +63,19 @@ returns-in_ok-leaf-in-Some-clause-ends g c = λ snap pairs honest tight start.
     let there = c.look.ensures.looks.reads.honest honest in
     let was = c.in_ok-leaf-in-Some.ensures.looks.reads.honest there in
     let first : IsFirstLate holds.map c.args.source (c.args.from / 16) (2 ^ 44) index = subst (λ (found : Option ℕ). FindsLate holds.map c.args.source (c.args.from / 16) (2 ^ 44) found) c.in-Some.is (c.in_ok-next_late.ensures.late holds.map was holds.tree) in
-    let tree = look_on (λ (seen : List ℕ) (space : FreeSectors). TreeIs (Has seen space) c.args.set.now.tree holds.map) _ _ _ _ _ _ _ c.in_ok-next_late.ensures.looks holds.tree in
+    let tree = look_on (λ (seen : List ℕ) (space : FreeSectors). TreeIs (Has seen space) c.args.set.now.tree holds.map) c.in_ok-next_late.ensures.looks holds.tree in
     let shows : Shows holds.map index (leaf.ptr, leaf.count) = c.in_ok-leaf-in-Some.ensures.shows holds.map there tree in
     let index_is : leaf.index ≡ index = c.in_ok-leaf-in-Some.ensures.index in
     let stands = stands_for _ _ c.args.set.now snap holds leaf (subst (λ (n : ℕ). Shows holds.map n (leaf.ptr, leaf.count)) (sym index_is) shows) in
     let looks = Looks-then c.in_ok-next_late.ensures.looks c.in_ok-leaf-in-Some.ensures.looks in
-    let on = look_on (λ (seen : List ℕ) (space : FreeSectors). StandsFor (Has seen space) (outside pairs (Has seen space)) snap leaf) _ _ _ _ _ _ _ looks stands in
+    let on = look_on (λ (seen : List ℕ) (space : FreeSectors). StandsFor (Has seen space) (outside pairs (Has seen space)) snap leaf) looks stands in
     let under : index < 2 ^ 44 = first.under in
     let from_on : c.args.from / 16 ≤ index = first.from_on in
     let some : 0 < leaf.count = shows.some in
     let same : holds.map index ≡ leaf.ptr = shows.same index (omega arith) (omega arith) under in
-    let has = Has (g.D.Disk.state c.args.io.now.disk.now).seen c.args.io.now.space in
+    let has = blocks_of c.args.io.now in
     let leaf_tight : IsTightLeaf has snap leaf.index leaf.ptr = subst (λ (n : ℕ). IsTightLeaf has snap n leaf.ptr) (sym index_is) (subst (λ (p : Ptr). IsTightLeaf has snap index p) same (tight.tight index under)) in
-    let tight_on = look_on (λ (seen : List ℕ) (space : FreeSectors). IsTightLeaf (Has seen space) snap leaf.index leaf.ptr) _ _ _ _ _ _ _ looks leaf_tight in
+    let tight_on = look_on (λ (seen : List ℕ) (space : FreeSectors). IsTightLeaf (Has seen space) snap leaf.index leaf.ptr) looks leaf_tight in
     let late : is_after c.args.source leaf.ptr.number ≡ true = subst (λ (p : Ptr). is_after c.args.source p.number ≡ true) same first.late in
     if_ok IsNext EndsAll next_all c.look.result (c.look.ensures.late snap pairs honest on tight_on late (omega arith))
 
@@ -109,12 +110,6 @@ returns-in_err-next_late-clause-looks g c =
 pub returns-in_err-next_late-clause-calls : goal.returns-in_err-next_late-clause-calls
 returns-in_err-next_late-clause-calls g c = c.in_err-next_late.ensures.calls
 
-pub returns-in_err-next_late-clause-kept_fit : goal.returns-in_err-next_late-clause-kept_fit
-returns-in_err-next_late-clause-kept_fit g c = c.in_err-next_late.ensures.kept_fit
-
-pub returns-in_err-next_late-clause-same : goal.returns-in_err-next_late-clause-same
-returns-in_err-next_late-clause-same g c = c.in_err-next_late.ensures.same
-
 pub returns-in-None-clause-stands : goal.returns-in-None-clause-stands
 returns-in-None-clause-stands g c = λ honest. tt
 
@@ -126,12 +121,6 @@ returns-in-None-clause-looks g c = c.in_ok-next_late.ensures.looks
 
 pub returns-in-None-clause-calls : goal.returns-in-None-clause-calls
 returns-in-None-clause-calls g c = c.in_ok-next_late.ensures.calls
-
-pub returns-in-None-clause-kept_fit : goal.returns-in-None-clause-kept_fit
-returns-in-None-clause-kept_fit g c = c.in_ok-next_late.ensures.kept_fit
-
-pub returns-in-None-clause-same : goal.returns-in-None-clause-same
-returns-in-None-clause-same g c = c.in_ok-next_late.ensures.same
 
 pub returns-in_err-leaf-in-Some-clause-ranges : goal.returns-in_err-leaf-in-Some-clause-ranges
 returns-in_err-leaf-in-Some-clause-ranges g c =
@@ -161,32 +150,11 @@ returns-in_err-leaf-in-Some-clause-looks g c =
 pub returns-in_err-leaf-in-Some-clause-calls : goal.returns-in_err-leaf-in-Some-clause-calls
 returns-in_err-leaf-in-Some-clause-calls g c = calls_then _ _ _ _ _ _ c.in_ok-next_late.ensures.calls c.in_err-leaf-in-Some.ensures.calls
 
-pub returns-in_err-leaf-in-Some-clause-kept_fit : goal.returns-in_err-leaf-in-Some-clause-kept_fit
-returns-in_err-leaf-in-Some-clause-kept_fit g c = c.in_err-leaf-in-Some.ensures.kept_fit
-
-pub returns-in_err-leaf-in-Some-clause-same : goal.returns-in_err-leaf-in-Some-clause-same
-returns-in_err-leaf-in-Some-clause-same g c = c.in_err-leaf-in-Some.ensures.same ∙ c.in_ok-next_late.ensures.same
-
 pub returns-in_ok-leaf-in-Some-clause-calls : goal.returns-in_ok-leaf-in-Some-clause-calls
 returns-in_ok-leaf-in-Some-clause-calls g c = calls_then _ _ _ _ _ _ c.in_ok-next_late.ensures.calls (calls_then _ _ _ _ _ _ c.in_ok-leaf-in-Some.ensures.calls c.look.ensures.calls)
-
-pub returns-in_ok-leaf-in-Some-clause-kept_fit : goal.returns-in_ok-leaf-in-Some-clause-kept_fit
-returns-in_ok-leaf-in-Some-clause-kept_fit g c = c.look.ensures.kept_fit
-
-pub returns-in_ok-leaf-in-Some-clause-same : goal.returns-in_ok-leaf-in-Some-clause-same
-returns-in_ok-leaf-in-Some-clause-same g c = c.look.ensures.same ∙ (c.in_ok-leaf-in-Some.ensures.same ∙ c.in_ok-next_late.ensures.same)
 
 pub next_late-requires-clause-levels : goal.next_late-requires-clause-levels
 next_late-requires-clause-levels g c = c.requires.levels
 
-pub next_late-requires-clause-fits : goal.next_late-requires-clause-fits
-next_late-requires-clause-fits g c = c.requires.fits
-
 pub leaf_at-requires-clause-levels : goal.leaf_at-requires-clause-levels
 leaf_at-requires-clause-levels g c = c.requires.levels
-
-pub leaf_at-requires-clause-fits : goal.leaf_at-requires-clause-fits
-leaf_at-requires-clause-fits g c = c.in_ok-next_late.ensures.kept_fit
-
-pub look-requires-clause-fits : goal.look-requires-clause-fits
-look-requires-clause-fits g c = c.in_ok-leaf-in-Some.ensures.kept_fit

@@ -1,8 +1,9 @@
-use Rattle.std.proofs.Common.{inr, ⊎_elim, ℕ, List, ◌∙◌, subst, arith}
+use Rattle.std.proofs.Common.{inr, ⊎_elim, ℕ, List, subst, arith}
 use Rattle.std.proofs.lemmas.Bool.{cases_lt}
 use Rattle.std.proofs.lemmas.Result.{err_from_is_err_and}
 use Rattle.zst_space.specs.FreeSectors.{FreeSectors}
 use Rattle.zst_block.specs.Blocks.{Has}
+use Rattle.zst_block.specs.IoStates.{blocks_of, disk_of}
 use Rattle.zst_block.proofs.IoCallLemmas.{Looks-then}
 use Rattle.zst_model.specs.states.State.{number_bound}
 use Rattle.zst_tree.specs.Damage.{IsSeen}
@@ -20,12 +21,12 @@ use Rattle.zst_objset.specs.Dnodes.{outside}
 
 pub returns-in-Next-clause-stands : goal.returns-in-Next-clause-stands
 returns-in-Next-clause-stands g c = λ honest hangs.
-    subst (λ (shown : WalkStep). AheadStands (IsSeen (g.D.Disk.state c.args.io.now.disk.now).seen) c.args.set.now shown) c.in-Next.is (c.in_ok-found.ensures.stands c.args.set.now honest hangs)
+    subst (λ (shown : WalkStep). AheadStands (IsSeen (disk_of c.args.io.now).seen) c.args.set.now shown) c.in-Next.is (c.in_ok-found.ensures.stands c.args.set.now honest hangs)
 
 pub returns-in_err-found-2-clause-found : goal.returns-in_err-found-2-clause-found
 returns-in_err-found-2-clause-found g c = λ snap pairs honest holds stands.
     let p = err_from_is_err_and c.from_residual-in_err-found-2.result c.from_residual-in_err-found-2.ensures.1 in
-    let on = look_on (λ (seen : List ℕ) (space : FreeSectors). SetHoldsBut (Has seen space) pairs c.args.set.now snap) _ _ _ _ _ _ _ c.loop-at.invariant.looks holds in
+    let on = look_on (λ (seen : List ℕ) (space : FreeSectors). SetHoldsBut (Has seen space) pairs c.args.set.now snap) c.loop-at.invariant.looks holds in
     rw (p.1, p.2) (c.in_err-found-2.ensures.shows snap pairs honest on)
 
 pub returns-in_err-found-2-clause-few : goal.returns-in_err-found-2-clause-few
@@ -37,9 +38,9 @@ returns-in_err-found-2-clause-few g c = λ snap pairs honest tight stands leaf.
 pub returns-in-Next-2-clause-found : goal.returns-in-Next-2-clause-found
 returns-in-Next-2-clause-found g c = λ snap pairs honest holds stands.
     let was = c.in_ok-found-2.ensures.looks.reads.honest honest in
-    let on = look_on (λ (seen : List ℕ) (space : FreeSectors). SetHoldsBut (Has seen space) pairs c.args.set.now snap) _ _ _ _ _ _ _ c.loop-at.invariant.looks holds in
-    let shown = subst (λ (shown : WalkStep). ShowsAhead (Has (g.D.Disk.state c.loop-at.io.disk.now).seen c.loop-at.io.space) (outside pairs (Has (g.D.Disk.state c.loop-at.io.disk.now).seen c.loop-at.io.space)) snap (choice_after c.args.source) c.loop-at.at shown) c.in-Next-2.is (c.in_ok-found-2.ensures.shows snap pairs honest on) in
-    let back = look_back (λ (seen : List ℕ) (space : FreeSectors). IsNextNumberIn (Has seen space) (outside pairs (Has seen space)) snap (choice_after c.args.source) c.loop-at.at c.in-Next-2.found) _ _ _ _ _ _ _ c.loop-at.invariant.looks shown in
+    let on = look_on (λ (seen : List ℕ) (space : FreeSectors). SetHoldsBut (Has seen space) pairs c.args.set.now snap) c.loop-at.invariant.looks holds in
+    let shown = subst (λ (shown : WalkStep). ShowsAhead (blocks_of c.loop-at.io) (outside pairs (blocks_of c.loop-at.io)) snap (choice_after c.args.source) c.loop-at.at shown) c.in-Next-2.is (c.in_ok-found-2.ensures.shows snap pairs honest on) in
+    let back = look_back (λ (seen : List ℕ) (space : FreeSectors). IsNextNumberIn (Has seen space) (outside pairs (Has seen space)) snap (choice_after c.args.source) c.loop-at.at c.in-Next-2.found) c.loop-at.invariant.looks shown in
     ahead_behind _ _ snap c.args.source c.args.from c.loop-at.at (ahead.Next c.in-Next-2.found) c.loop-at.invariant.from_on (c.loop-at.invariant.none snap pairs was holds stands) back
 
 pub returns-in-Next-2-clause-few : goal.returns-in-Next-2-clause-few
@@ -54,13 +55,13 @@ loop-at-preserved g c = record {
   some = let on = subst (λ (shown : WalkStep). AheadFits c.loop-at.at shown) c.in-Nothing-2.is c.in_ok-found-2.ensures.ranges in omega (arith, on, c.loop-at.invariant.some);
   none = λ snap pairs honest holds stands k over under.
       let was = c.in_ok-found-2.ensures.looks.reads.honest honest in
-      let on = look_on (λ (seen : List ℕ) (space : FreeSectors). SetHoldsBut (Has seen space) pairs c.args.set.now snap) _ _ _ _ _ _ _ c.loop-at.invariant.looks holds in
-      let shown = subst (λ (shown : WalkStep). ShowsAhead (Has (g.D.Disk.state c.loop-at.io.disk.now).seen c.loop-at.io.space) (outside pairs (Has (g.D.Disk.state c.loop-at.io.disk.now).seen c.loop-at.io.space)) snap (choice_after c.args.source) c.loop-at.at shown) c.in-Nothing-2.is (c.in_ok-found-2.ensures.shows snap pairs honest on) in
+      let on = look_on (λ (seen : List ℕ) (space : FreeSectors). SetHoldsBut (Has seen space) pairs c.args.set.now snap) c.loop-at.invariant.looks holds in
+      let shown = subst (λ (shown : WalkStep). ShowsAhead (blocks_of c.loop-at.io) (outside pairs (blocks_of c.loop-at.io)) snap (choice_after c.args.source) c.loop-at.at shown) c.in-Nothing-2.is (c.in_ok-found-2.ensures.shows snap pairs honest on) in
       ⊎_elim (λ before. c.loop-at.invariant.none snap pairs was holds stands k over before) (λ behind. shown k behind under) (cases_lt k c.loop-at.at);
   few = λ snap pairs honest tight stands leaf.
       let more = c.in_ok-found-2.ensures.steps.1 in
       let was = c.in_ok-found-2.ensures.looks.reads.honest honest in
-      let on = look_on (λ (seen : List ℕ) (space : FreeSectors). SetIsTightIn (Has seen space) (outside pairs (Has seen space)) c.args.set.now snap) _ _ _ _ _ _ _ c.loop-at.invariant.looks tight in
+      let on = look_on (λ (seen : List ℕ) (space : FreeSectors). SetIsTightIn (Has seen space) (outside pairs (Has seen space)) c.args.set.now snap) c.loop-at.invariant.looks tight in
       ⊎_elim
       (λ early. inr (subst EndsAll c.in-Nothing-2.is (c.in_ok-found-2.ensures.ends snap pairs honest on early.0), omega (arith, early.1, more)))
       (λ ended. absurd (omega (arith, ended.0, c.loop-at-test.true)))
@@ -68,8 +69,6 @@ loop-at-preserved g c = record {
   steps = omega (arith, c.loop-at.invariant.steps, c.in_ok-found-2.ensures.steps.0);
   calls = omega (arith, c.loop-at.invariant.calls, c.in_ok-found-2.ensures.calls);
   looks = Looks-then c.loop-at.invariant.looks c.in_ok-found-2.ensures.looks;
-  fits = c.in_ok-found-2.ensures.kept_fit;
-  same = c.in_ok-found-2.ensures.same ∙ c.loop-at.invariant.same;
 }
 
 pub returns-clause-found : goal.returns-clause-found

@@ -1,8 +1,9 @@
 use Rattle.zst_block.proofs.IoCallLemmas.{Looks-then}
-use Rattle.std.proofs.Common.{◌∙◌, ◌≡◌, ℕ, Bool, true, false, List, sym, subst, refl, arith}
+use Rattle.std.proofs.Common.{◌≡◌, ℕ, Bool, true, false, List, sym, subst, refl, arith}
 use Rattle.std.proofs.lemmas.Result.{err_from_is_err_and}
 use Rattle.zst_space.specs.FreeSectors.{FreeSectors}
 use Rattle.zst_block.specs.Blocks.{Has}
+use Rattle.zst_block.specs.IoStates.{blocks_of}
 use Rattle.zst_model.specs.fields.Lists.{has_pair}
 use Rattle.zst_model.specs.sends.Inclusion.{is_after}
 use Rattle.zst_model.specs.states.State.{IsObjectOrNone}
@@ -25,19 +26,19 @@ first_index-from-requires g c = size_some c.args.dnode.now.block_size c.requires
 pub returns-in_err-late-clause-found : goal.returns-in_err-late-clause-found
 returns-in_err-late-clause-found g c = λ snap honest lawful there.
     let p = err_from_is_err_and c.from_residual.result c.from_residual.ensures.1 in
-    let tree = subst (λ (t : Tree). TreeIs (Has (g.D.Disk.state c.args.io.now.disk.now).seen c.args.io.now.space) t there.map) (sym c.tree_of.ensures) there.is.tree in
+    let tree = subst (λ (t : Tree). TreeIs (blocks_of c.args.io.now) t there.map) (sym c.tree_of.ensures) there.is.tree in
     rw (p.1, p.2) (c.in_err-late.ensures.late there.map honest tree)
 
 pub returns-in_err-run-in-Some-clause-found : goal.returns-in_err-run-in-Some-clause-found
 returns-in_err-run-in-Some-clause-found g c = λ snap honest lawful there.
     let p = err_from_is_err_and c.from_residual-in_err-run-in-Some.result c.from_residual-in_err-run-in-Some.ensures.1 in
     let was = c.in_err-run-in-Some.ensures.looks.reads.honest honest in
-    let tree = subst (λ (t : Tree). TreeIs (Has (g.D.Disk.state c.args.io.now.disk.now).seen c.args.io.now.space) t there.map) (sym c.tree_of.ensures) there.is.tree in
+    let tree = subst (λ (t : Tree). TreeIs (blocks_of c.args.io.now) t there.map) (sym c.tree_of.ensures) there.is.tree in
     let withheld = has_pair c.args.withheld.now c.args.point.object in
     let late = late_in there.map c.args.source c.first_index-from.result c.args.dnode.now.end c.in_ok-late.late (c.in_ok-late.ensures.late there.map was tree) in
     let turn = subst (TakesTurn (λ i. is_after c.args.source (there.map i).number) (has_pair c.args.listed.now c.args.point.object) withheld c.first_index-from.result c.args.dnode.now.end) c.in-Some.is
     (c.first_turn.ensures.turn _ _ _ _ late c.next_in-in_listed.ensures c.next_in-in_withheld.ensures) in
-    let on = look_on (λ (seen : List ℕ) (space : FreeSectors). ObjectIn (Has seen space) (outside_indices withheld (Has seen space)) c.args.dnode.now there.object (snap.number_date c.args.point.object) (snap.index_date c.args.point.object) there.map) _ _ _ _ _ _ _ c.in_ok-late.ensures.looks there.is in
+    let on = look_on (λ (seen : List ℕ) (space : FreeSectors). ObjectIn (Has seen space) (outside_indices withheld (Has seen space)) c.args.dnode.now there.object (snap.number_date c.args.point.object) (snap.index_date c.args.point.object) there.map) c.in_ok-late.ensures.looks there.is in
     rw (p.1, p.2) (either c.in-Some.turn.is_withheld
     (λ hidden. absurd (c.in_err-run-in-Some.ensures.ok hidden))
     (λ shown. c.in_err-run-in-Some.ensures.run there.object _ _ there.map withheld honest (subst IsObjectOrNone there.there (lawful.objects c.args.point.object)) shown
@@ -45,7 +46,7 @@ returns-in_err-run-in-Some-clause-found g c = λ snap honest lawful there.
 
 pub returns-in-None-clause-found : goal.returns-in-None-clause-found
 returns-in-None-clause-found g c = λ snap honest lawful there.
-    let tree = subst (λ (t : Tree). TreeIs (Has (g.D.Disk.state c.args.io.now.disk.now).seen c.args.io.now.space) t there.map) (sym c.tree_of.ensures) there.is.tree in
+    let tree = subst (λ (t : Tree). TreeIs (blocks_of c.args.io.now) t there.map) (sym c.tree_of.ensures) there.is.tree in
     let late = late_in there.map c.args.source c.first_index-from.result c.args.dnode.now.end c.in_ok-late.late (c.in_ok-late.ensures.late there.map honest tree) in
     no_pairs_left _ snap c.args.source c.args.listed.now c.args.withheld.now c.args.point c.args.dnode.now there c.first_index-from.result c.first_index-from.ensures c.requires.dnode.end
     (subst (TakesTurn (λ i. is_after c.args.source (there.map i).number) (has_pair c.args.listed.now c.args.point.object) (has_pair c.args.withheld.now c.args.point.object) c.first_index-from.result c.args.dnode.now.end) c.in-None.is
@@ -54,12 +55,12 @@ returns-in-None-clause-found g c = λ snap honest lawful there.
 pub returns-in_ok-run-in-Some-clause-found : goal.returns-in_ok-run-in-Some-clause-found
 returns-in_ok-run-in-Some-clause-found g c = λ snap honest lawful there.
     let was = c.in_ok-run-in-Some.ensures.looks.reads.honest honest in
-    let tree = subst (λ (t : Tree). TreeIs (Has (g.D.Disk.state c.args.io.now.disk.now).seen c.args.io.now.space) t there.map) (sym c.tree_of.ensures) there.is.tree in
+    let tree = subst (λ (t : Tree). TreeIs (blocks_of c.args.io.now) t there.map) (sym c.tree_of.ensures) there.is.tree in
     let withheld = has_pair c.args.withheld.now c.args.point.object in
     let late = late_in there.map c.args.source c.first_index-from.result c.args.dnode.now.end c.in_ok-late.late (c.in_ok-late.ensures.late there.map was tree) in
     let turn = subst (TakesTurn (λ i. is_after c.args.source (there.map i).number) (has_pair c.args.listed.now c.args.point.object) withheld c.first_index-from.result c.args.dnode.now.end) c.in-Some.is
     (c.first_turn.ensures.turn _ _ _ _ late c.next_in-in_listed.ensures c.next_in-in_withheld.ensures) in
-    let on = look_on (λ (seen : List ℕ) (space : FreeSectors). ObjectIn (Has seen space) (outside_indices withheld (Has seen space)) c.args.dnode.now there.object (snap.number_date c.args.point.object) (snap.index_date c.args.point.object) there.map) _ _ _ _ _ _ _ c.in_ok-late.ensures.looks there.is in
+    let on = look_on (λ (seen : List ℕ) (space : FreeSectors). ObjectIn (Has seen space) (outside_indices withheld (Has seen space)) c.args.dnode.now there.object (snap.number_date c.args.point.object) (snap.index_date c.args.point.object) there.map) c.in_ok-late.ensures.looks there.is in
     either c.in-Some.turn.is_withheld
     (λ hidden.
     let told = (c.in_ok-run-in-Some.ensures.withheld hidden).0 in
@@ -68,7 +69,7 @@ returns-in_ok-run-in-Some-clause-found g c = λ snap honest lawful there.
     (λ shown.
     let made = c.in_ok-run-in-Some.ensures.run there.object _ _ there.map withheld honest (subst IsObjectOrNone there.there (lawful.objects c.args.point.object)) shown
     (turn.shown shown c.in-Some.turn.index (omega arith) (let some = turn.some in omega arith)) on in
-    let run = look_back (λ (seen : List ℕ) (space : FreeSectors). IsRun (Has seen space) withheld there.object (snap.index_date c.args.point.object) c.in-Some.turn.index c.in_ok-run-in-Some.run') _ _ _ _ _ _ _ c.in_ok-late.ensures.looks made.0 in
+    let run = look_back (λ (seen : List ℕ) (space : FreeSectors). IsRun (Has seen space) withheld there.object (snap.index_date c.args.point.object) c.in-Some.turn.index c.in_ok-run-in-Some.run') c.in_ok-late.ensures.looks made.0 in
     pairs_next _ snap c.args.source c.args.listed.now c.args.withheld.now c.args.point c.args.dnode.now there c.first_index-from.result c.first_index-from.ensures c.requires.dnode.end c.in-Some.turn turn
     c.in_ok-run-in-Some.run' shown run made.1)
 
@@ -95,12 +96,6 @@ returns-in_err-late-clause-none g c =
 pub returns-in_err-late-clause-calls : goal.returns-in_err-late-clause-calls
 returns-in_err-late-clause-calls g c = c.in_err-late.ensures.calls
 
-pub returns-in_err-late-clause-kept_fit : goal.returns-in_err-late-clause-kept_fit
-returns-in_err-late-clause-kept_fit g c = c.in_err-late.ensures.kept_fit
-
-pub returns-in_err-late-clause-same : goal.returns-in_err-late-clause-same
-returns-in_err-late-clause-same g c = c.in_err-late.ensures.same
-
 pub returns-in-None-clause-ranges : goal.returns-in-None-clause-ranges
 returns-in-None-clause-ranges g c = tt
 
@@ -118,12 +113,6 @@ returns-in-None-clause-none g c = c.in_ok-late.ensures.steps.1
 
 pub returns-in-None-clause-calls : goal.returns-in-None-clause-calls
 returns-in-None-clause-calls g c = c.in_ok-late.ensures.calls
-
-pub returns-in-None-clause-kept_fit : goal.returns-in-None-clause-kept_fit
-returns-in-None-clause-kept_fit g c = c.in_ok-late.ensures.kept_fit
-
-pub returns-in-None-clause-same : goal.returns-in-None-clause-same
-returns-in-None-clause-same g c = c.in_ok-late.ensures.same
 
 pub returns-in_err-run-in-Some-clause-ranges : goal.returns-in_err-run-in-Some-clause-ranges
 returns-in_err-run-in-Some-clause-ranges g c =
@@ -148,12 +137,6 @@ returns-in_err-run-in-Some-clause-looks g c =
 pub returns-in_err-run-in-Some-clause-calls : goal.returns-in_err-run-in-Some-clause-calls
 returns-in_err-run-in-Some-clause-calls g c = calls_then _ _ _ _ _ _ c.in_ok-late.ensures.calls c.in_err-run-in-Some.ensures.calls
 
-pub returns-in_err-run-in-Some-clause-kept_fit : goal.returns-in_err-run-in-Some-clause-kept_fit
-returns-in_err-run-in-Some-clause-kept_fit g c = c.in_err-run-in-Some.ensures.kept_fit
-
-pub returns-in_err-run-in-Some-clause-same : goal.returns-in_err-run-in-Some-clause-same
-returns-in_err-run-in-Some-clause-same g c = c.in_err-run-in-Some.ensures.same ∙ c.in_ok-late.ensures.same
-
 pub returns-in_ok-run-in-Some-clause-damaged : goal.returns-in_ok-run-in-Some-clause-damaged
 returns-in_ok-run-in-Some-clause-damaged g c = λ set honest stands. tt
 
@@ -165,15 +148,3 @@ returns-in_ok-run-in-Some-clause-looks g c = Looks-then c.in_ok-late.ensures.loo
 
 pub returns-in_ok-run-in-Some-clause-calls : goal.returns-in_ok-run-in-Some-clause-calls
 returns-in_ok-run-in-Some-clause-calls g c = calls_then _ _ _ _ _ _ c.in_ok-late.ensures.calls c.in_ok-run-in-Some.ensures.calls
-
-pub returns-in_ok-run-in-Some-clause-kept_fit : goal.returns-in_ok-run-in-Some-clause-kept_fit
-returns-in_ok-run-in-Some-clause-kept_fit g c = c.in_ok-run-in-Some.ensures.kept_fit
-
-pub returns-in_ok-run-in-Some-clause-same : goal.returns-in_ok-run-in-Some-clause-same
-returns-in_ok-run-in-Some-clause-same g c = c.in_ok-run-in-Some.ensures.same ∙ c.in_ok-late.ensures.same
-
-pub next_late-requires-clause-fits : goal.next_late-requires-clause-fits
-next_late-requires-clause-fits g c = c.requires.fits
-
-pub run_of-requires-clause-fits : goal.run_of-requires-clause-fits
-run_of-requires-clause-fits g c = c.in_ok-late.ensures.kept_fit

@@ -1,6 +1,6 @@
 use Rattle.std.proofs.Common.{sym, subst, refl, arith}
 use Rattle.std.proofs.lemmas.Result.{err_from_is_err_and}
-use Rattle.zst_block.specs.Blocks.{Has}
+use Rattle.zst_block.specs.IoStates.{blocks_of, disk_of}
 use Rattle.zst_tree.specs.Damage.{HangsIn, IsSeen, MayHave, NamesNode, TellsNode}
 use Rattle.zst_tree.specs.Indices.{TreeIs}
 use Rattle.zst_tree.specs.declared.tree.Tree.{Tree}
@@ -11,39 +11,39 @@ use Rattle.zst_traverse.proofs.pairs.run_at.Goals as goal
 pub returns-in_err-ptr-clause-run : goal.returns-in_err-ptr-clause-run
 returns-in_err-ptr-clause-run g c = λ object date dates map withheld honest lawful read is.
     let p = err_from_is_err_and c.from_residual.result c.from_residual.ensures.1 in
-    let tree = subst (λ (t : Tree). TreeIs (Has (g.D.Disk.state c.args.io.now.disk.now).seen c.args.io.now.space) t map) (sym c.tree_of.ensures) is.tree in
+    let tree = subst (λ (t : Tree). TreeIs (blocks_of c.args.io.now) t map) (sym c.tree_of.ensures) is.tree in
     rw (p.1, p.2) (c.in_err-ptr.ensures.shows map honest tree)
 
 pub returns-in_err-ptr-clause-damaged : goal.returns-in_err-ptr-clause-damaged
 returns-in_err-ptr-clause-damaged g c = λ set honest stands.
     let p = err_from_is_err_and c.from_residual.result c.from_residual.ensures.1 in
-    let seen = IsSeen (g.D.Disk.state c.args.io.now.disk.now).seen in
-    let size = (g.D.Disk.state c.args.io.now.disk.now).size in
+    let seen = IsSeen (disk_of c.args.io.now).seen in
+    let size = (disk_of c.args.io.now).size in
     rw (p.1, p.2) (tree_named_told seen size set c.args.dnode.now stands c.in_err-ptr.field-0.0
     (subst (λ (t : Tree). TellsNode seen size NamesNode t.levels t.root c.in_err-ptr.field-0.0) c.tree_of.ensures (c.in_err-ptr.ensures.damaged honest)))
 
 pub returns-in_default-clause-run : goal.returns-in_default-clause-run
 returns-in_default-clause-run g c = λ object date dates map withheld honest lawful read is.
-    let has = Has (g.D.Disk.state c.args.io.now.disk.now).seen c.args.io.now.space in
+    let has = blocks_of c.args.io.now in
     let tree = subst (λ (t : Tree). TreeIs has t map) (sym c.tree_of.ensures) is.tree in
     absurd (run_has_cell _ _ c.args.dnode.now object date dates map lawful withheld is c.args.index read c.requires.index c.requires.dnode.end c.in_ok-ptr.ptr c.in_ok-ptr.alike (c.in_ok-ptr.ensures.shows map honest tree) (cc))
 
 pub returns-in_default-clause-damaged : goal.returns-in_default-clause-damaged
 returns-in_default-clause-damaged g c = λ set honest stands.
-    let seen = IsSeen (g.D.Disk.state c.args.io.now.disk.now).seen in
+    let seen = IsSeen (disk_of c.args.io.now).seen in
     let dnode = c.args.dnode.now in
     let hangs = subst (λ (t : Tree). HangsIn (MayHave seen) t c.in_ok-ptr.ptr) c.tree_of.ensures (c.in_ok-ptr.ensures.hangs honest) in
-    rw c.of_layout.ensures (no_cell_told seen (g.D.Disk.state c.args.io.now.disk.now).size set dnode stands c.in_ok-ptr.ptr hangs (no_cell c.in_ok-ptr.ptr dnode.block_size (cc)))
+    rw c.of_layout.ensures (no_cell_told seen (disk_of c.args.io.now).size set dnode stands c.in_ok-ptr.ptr hangs (no_cell c.in_ok-ptr.ptr dnode.block_size (cc)))
 
 pub returns-clause-stands : goal.returns-clause-stands
 returns-clause-stands g c = λ set honest stands.
-    let seen = IsSeen (g.D.Disk.state c.args.io.now.disk.now).seen in
+    let seen = IsSeen (disk_of c.args.io.now).seen in
     let hangs = subst (λ (t : Tree). HangsIn (MayHave seen) t c.in_ok-ptr.ptr) c.tree_of.ensures (c.in_ok-ptr.ensures.hangs honest) in
     cell_stands seen set c.args.dnode.now stands c.in_ok-ptr.ptr hangs _ (cc)
 
 pub returns-clause-run : goal.returns-clause-run
 returns-clause-run g c = λ object date dates map withheld honest lawful read is.
-    let has = Has (g.D.Disk.state c.args.io.now.disk.now).seen c.args.io.now.space in
+    let has = blocks_of c.args.io.now in
     let tree = subst (λ (t : Tree). TreeIs has t map) (sym c.tree_of.ensures) is.tree in
     let count = c.count_of-count.ensures in
     is_run has withheld c.args.dnode.now object date dates map is c.args.index c.requires.index c.requires.dnode.end _ c.in_ok-ptr.alike (c.in_ok-ptr.ensures.shows map honest tree) refl count.some count.most.0 (omega (arith, count.most.1, c.requires.index)) (cc) count.one
@@ -69,12 +69,6 @@ returns-in_err-ptr-clause-steps g c = c.in_err-ptr.ensures.steps
 pub returns-in_err-ptr-clause-calls : goal.returns-in_err-ptr-clause-calls
 returns-in_err-ptr-clause-calls g c = c.in_err-ptr.ensures.calls
 
-pub returns-in_err-ptr-clause-kept_fit : goal.returns-in_err-ptr-clause-kept_fit
-returns-in_err-ptr-clause-kept_fit g c = c.in_err-ptr.ensures.kept_fit
-
-pub returns-in_err-ptr-clause-same : goal.returns-in_err-ptr-clause-same
-returns-in_err-ptr-clause-same g c = c.in_err-ptr.ensures.same
-
 pub returns-in_default-clause-ranges : goal.returns-in_default-clause-ranges
 returns-in_default-clause-ranges g c = tt
 
@@ -87,12 +81,6 @@ returns-in_default-clause-steps g c = c.in_ok-ptr.ensures.steps
 pub returns-in_default-clause-calls : goal.returns-in_default-clause-calls
 returns-in_default-clause-calls g c = c.in_ok-ptr.ensures.calls
 
-pub returns-in_default-clause-kept_fit : goal.returns-in_default-clause-kept_fit
-returns-in_default-clause-kept_fit g c = c.in_ok-ptr.ensures.kept_fit
-
-pub returns-in_default-clause-same : goal.returns-in_default-clause-same
-returns-in_default-clause-same g c = c.in_ok-ptr.ensures.same
-
 pub returns-clause-damaged : goal.returns-clause-damaged
 returns-clause-damaged g c = λ set honest stands. tt
 
@@ -104,12 +92,3 @@ returns-clause-steps g c = c.in_ok-ptr.ensures.steps
 
 pub returns-clause-calls : goal.returns-clause-calls
 returns-clause-calls g c = c.in_ok-ptr.ensures.calls
-
-pub returns-clause-kept_fit : goal.returns-clause-kept_fit
-returns-clause-kept_fit g c = c.in_ok-ptr.ensures.kept_fit
-
-pub returns-clause-same : goal.returns-clause-same
-returns-clause-same g c = c.in_ok-ptr.ensures.same
-
-pub get-requires-clause-fits : goal.get-requires-clause-fits
-get-requires-clause-fits g c = c.requires.fits

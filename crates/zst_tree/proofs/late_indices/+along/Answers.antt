@@ -43,7 +43,7 @@ returns-clause-reaches g t c = λ map honest stands.
     let was_honest = c.in_ok-reach.ensures.looks.reads.honest honest in
     let parts = c.in_ok-load_counted.ensures.parts c.args.base map inner.0 inner.1 was_honest stands in
     let now = Has (g.D.Disk.state c.along.new.io.disk.now).seen c.along.new.io.space in
-    let later : Parts now (c.args.level - 1) c.load_counted.new.io.node c.args.base map = there_after _ _ _ _ _ _ _ c.in_ok-reach.ensures.looks (λ (seen : List ℕ) (s : FreeSectors). Parts (Has seen s) (c.args.level - 1) c.load_counted.new.io.node c.args.base map) parts in
+    let later : Parts now (c.args.level - 1) c.load_counted.new.io.node c.args.base map = there_after c.in_ok-reach.ensures.looks (λ (seen : List ℕ) (s : FreeSectors). Parts (Has seen s) (c.args.level - 1) c.load_counted.new.io.node c.args.base map) parts in
     rw c.nearer.ensures
     (later_nearer map c.args.number now c.args.level c.args.base c.place_of-place.result.child c.place_of-place.result.rest c.args.offset c.start_of-start.result c.in_ok-reach.reach c.later_from-behind.result inner.0 c.place_of-place.ensures.child c.place_of-place.ensures.rest c.place_of-place.ensures.sum c.start_of-start.ensures.value
     (c.in_ok-reach.ensures.reaches map honest (rw (c.child_at-child.ensures.child, c.start_of-start.ensures.value) (parts.below c.place_of-place.result.child c.place_of-place.ensures.child)))
@@ -59,7 +59,7 @@ pub returns-in_err-reach-clause-damaged : goal.returns-in_err-reach-clause-damag
 returns-in_err-reach-clause-damaged g t c = λ honest.
     let inner = c.stands_throughout.ensures.inner c.if-stands_throughout.false in
     let p = err_from_is_err_and c.from_residual-in_err-reach.result c.from_residual-in_err-reach.ensures.1 in
-    rw (p.1, p.2) (fault_below _ _ _ _ _ _ _ c.in_ok-load_counted.ensures.looks (λ seen. SumsUp (IsSeen seen)) c.args.level c.args.ptr c.load_counted.new.io.node c.place_of-place.result.child inner.0 inner.1
+    rw (p.1, p.2) (fault_below c.in_ok-load_counted.ensures.looks (λ seen. SumsUp (IsSeen seen)) c.args.level c.args.ptr c.load_counted.new.io.node c.place_of-place.result.child inner.0 inner.1
     (c.in_ok-load_counted.ensures.block (c.in_err-reach.ensures.looks.reads.honest honest)) c.place_of-place.ensures.child _ (rw c.child_at-child.ensures.child at (c.in_err-reach.ensures.damaged honest)))
 
 pub returns-clause-late : goal.returns-clause-late
@@ -68,7 +68,7 @@ returns-clause-late g t c = rw c.nearer.ensures (IfThere-nearer (λ (beside : Br
 pub returns-clause-below : goal.returns-clause-below
 returns-clause-below g t c = λ honest.
     let inner = c.stands_throughout.ensures.inner c.if-stands_throughout.false in
-    rw c.nearer.ensures (beside_below _ _ _ _ _ _ _ c.in_ok-load_counted.ensures.looks (λ seen. SumsUp (IsSeen seen)) c.args.level c.args.ptr c.load_counted.new.io.node c.place_of-place.result.child inner.0 inner.1
+    rw c.nearer.ensures (beside_below c.in_ok-load_counted.ensures.looks (λ seen. SumsUp (IsSeen seen)) c.args.level c.args.ptr c.load_counted.new.io.node c.place_of-place.result.child inner.0 inner.1
     (c.in_ok-load_counted.ensures.block (c.in_ok-reach.ensures.looks.reads.honest honest)) c.place_of-place.ensures.child c.in_ok-reach.reach c.later_from-behind.result
     (rw c.child_at-child.ensures.child at (c.in_ok-reach.ensures.below honest)) c.later_from-behind.ensures.hangs)
 
@@ -76,25 +76,13 @@ pub returns-then-ptr-number-clause-damaged : goal.returns-then-ptr-number-clause
 returns-then-ptr-number-clause-damaged g t c = λ honest. tt
 
 pub returns-then-ptr-number-clause-looks : goal.returns-then-ptr-number-clause-looks
-returns-then-ptr-number-clause-looks g t c = Looks-none _ _ _
-
-pub returns-then-ptr-number-clause-kept_fit : goal.returns-then-ptr-number-clause-kept_fit
-returns-then-ptr-number-clause-kept_fit g t c = c.requires.fits
-
-pub returns-then-ptr-number-clause-same : goal.returns-then-ptr-number-clause-same
-returns-then-ptr-number-clause-same g t c = refl
+returns-then-ptr-number-clause-looks g t c = Looks-none _
 
 pub returns-then-stands_throughout-clause-damaged : goal.returns-then-stands_throughout-clause-damaged
 returns-then-stands_throughout-clause-damaged g t c = λ honest. tt
 
 pub returns-then-stands_throughout-clause-looks : goal.returns-then-stands_throughout-clause-looks
-returns-then-stands_throughout-clause-looks g t c = Looks-none _ _ _
-
-pub returns-then-stands_throughout-clause-kept_fit : goal.returns-then-stands_throughout-clause-kept_fit
-returns-then-stands_throughout-clause-kept_fit g t c = c.requires.fits
-
-pub returns-then-stands_throughout-clause-same : goal.returns-then-stands_throughout-clause-same
-returns-then-stands_throughout-clause-same g t c = refl
+returns-then-stands_throughout-clause-looks g t c = Looks-none _
 
 pub returns-then-ptr-number-clause-inside : goal.returns-then-ptr-number-clause-inside
 returns-then-ptr-number-clause-inside g t c = tt
@@ -131,12 +119,6 @@ returns-in_err-load_counted-clause-looks g t c =
     let p = err_from_is_err_and c.from_residual.result c.from_residual.ensures.1 in
     rw (p.1, p.2) c.in_err-load_counted.ensures.looks
 
-pub returns-in_err-load_counted-clause-kept_fit : goal.returns-in_err-load_counted-clause-kept_fit
-returns-in_err-load_counted-clause-kept_fit g t c = c.in_err-load_counted.ensures.kept_fit
-
-pub returns-in_err-load_counted-clause-same : goal.returns-in_err-load_counted-clause-same
-returns-in_err-load_counted-clause-same g t c = c.in_err-load_counted.ensures.same
-
 pub returns-in_err-reach-clause-inside : goal.returns-in_err-reach-clause-inside
 returns-in_err-reach-clause-inside g t c =
     let p = err_from_is_err_and c.from_residual-in_err-reach.result c.from_residual-in_err-reach.ensures.1 in
@@ -157,20 +139,8 @@ returns-in_err-reach-clause-looks g t c =
     let p = err_from_is_err_and c.from_residual-in_err-reach.result c.from_residual-in_err-reach.ensures.1 in
     rw (p.1, p.2) (Looks-then c.in_ok-load_counted.ensures.looks c.in_err-reach.ensures.looks)
 
-pub returns-in_err-reach-clause-kept_fit : goal.returns-in_err-reach-clause-kept_fit
-returns-in_err-reach-clause-kept_fit g t c = c.in_err-reach.ensures.kept_fit
-
-pub returns-in_err-reach-clause-same : goal.returns-in_err-reach-clause-same
-returns-in_err-reach-clause-same g t c = c.in_err-reach.ensures.same ∙ c.in_ok-load_counted.ensures.same
-
 pub returns-clause-damaged : goal.returns-clause-damaged
 returns-clause-damaged g t c = λ honest. tt
 
 pub returns-clause-looks : goal.returns-clause-looks
 returns-clause-looks g t c = Looks-then c.in_ok-load_counted.ensures.looks c.in_ok-reach.ensures.looks
-
-pub returns-clause-kept_fit : goal.returns-clause-kept_fit
-returns-clause-kept_fit g t c = c.in_ok-reach.ensures.kept_fit
-
-pub returns-clause-same : goal.returns-clause-same
-returns-clause-same g t c = c.in_ok-reach.ensures.same ∙ c.in_ok-load_counted.ensures.same

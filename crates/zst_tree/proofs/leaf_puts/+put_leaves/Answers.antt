@@ -15,7 +15,7 @@ use Rattle.zst_tree.proofs.leaf_puts.+put_leaves.Goals as goal
 pub returns-then-level-eq1-clause-put : goal.returns-then-level-eq1-clause-put
 returns-then-level-eq1-clause-put g t c = λ group base map honest at all s.
     let opened = c.in_ok-open.ensures in
-    let kept = kept_looks _ _ _ _ _ _ _ opened.looks in
+    let kept = kept_looks opened.looks in
     c.close.ensures.whole base (with_leaves map c.args.leaves.now)
     (first_parts _ c.args.level c.args.part base group map (with_leaves map c.args.leaves.now) _ _ c.if-level-eq1.true c.requires.part at (c.put_each.ensures.parts _ _ group map all)
     (Parts-grows _ _ kept _ _ base map (opened.parts base map (c.close.ensures.works.fills.honest honest) s)))
@@ -25,7 +25,7 @@ returns-in_err-made-clause-put g t c = λ group base map honest at all s.
     let place = c.place_of-place in
     let inner : 0 < c.args.level - 1 = omega (arith, c.if-level-eq1.false, c.requires.inner) in
     let parts = c.in_ok-open-2.ensures.parts base map (c.in_err-made.ensures.works.fills.honest honest) s in
-    let low = child_stands _ map _ _ _ _ c.child_at-low.ensures.child (Subtree-grows _ _ (kept_looks _ _ _ _ _ _ _ c.in_ok-open-2.ensures.looks) _ _ _ map (parts.below place.result.child place.ensures.child)) in
+    let low = child_stands _ map _ _ _ _ c.child_at-low.ensures.child (Subtree-grows _ _ (kept_looks c.in_ok-open-2.ensures.looks) _ _ _ map (parts.below place.result.child place.ensures.child)) in
     let p = err_from_is_err_and c.from_residual-in_err-made.result c.from_residual-in_err-made.ensures.1 in
     rw (p.1, p.2) (c.in_err-made.ensures.put group _ map honest (part_at c.args.level base c.args.part place.result.child place.result.rest group inner place.ensures.sum at) all low)
 
@@ -34,8 +34,8 @@ returns-clause-put g t c = λ group base map honest at all s.
     let place = c.place_of-place in
     let inner : 0 < c.args.level - 1 = omega (arith, c.if-level-eq1.false, c.requires.inner) in
     let told = c.mend_one.ensures.works.fills.honest honest in
-    let looked = kept_looks _ _ _ _ _ _ _ c.in_ok-open-2.ensures.looks in
-    let worked = kept_works _ _ _ _ _ _ _ _ _ c.in_ok-made.ensures.works in
+    let looked = kept_looks c.in_ok-open-2.ensures.looks in
+    let worked = kept_works c.in_ok-made.ensures.works in
     let parts = c.in_ok-open-2.ensures.parts base map (c.in_ok-made.ensures.works.fills.honest told) s in
     let low = child_stands _ map _ _ _ _ c.child_at-low.ensures.child (Subtree-grows _ _ looked _ _ _ map (parts.below place.result.child place.ensures.child)) in
     let down = part_at c.args.level base c.args.part place.result.child place.result.rest group inner place.ensures.sum at in
@@ -45,7 +45,7 @@ returns-clause-put g t c = λ group base map honest at all s.
 
 pub returns-clause-damaged : goal.returns-clause-damaged
 returns-clause-damaged g t c = λ honest.
-    let opened = fills_looks _ _ _ _ _ _ _ c.in_ok-open-2.ensures.looks in
+    let opened = fills_looks c.in_ok-open-2.ensures.looks in
     let filled = FillsFree-then _ _ _ _ _ _ opened c.in_ok-made.ensures.works.fills in
     told_after _ _ _ _ filled NamesNode c.args.level c.args.ptr c.args.level c.args.ptr (same_now _ _ _ _ filled NamesNode c.args.level c.args.ptr) c.mend_one.result (c.mend_one.ensures.damaged honest)
 

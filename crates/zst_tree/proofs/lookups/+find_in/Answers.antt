@@ -1,5 +1,5 @@
 use Rattle.zst_block.proofs.IoCallLemmas.{Looks-then, Looks-none}
-use Rattle.std.proofs.Common.{◌∙◌, refl, rules, ◌+◌, ◌-◌, ◌*◌, List, ℕ, arith}
+use Rattle.std.proofs.Common.{rules, ◌+◌, ◌-◌, ◌*◌, List, ℕ, arith}
 use Rattle.std.proofs.lemmas.Result.{IfOk-weaker, err_from_is_err_and}
 use Rattle.zst_space.specs.FreeSectors.{FreeSectors}
 use Rattle.zst_block.specs.Blocks.{Has}
@@ -32,7 +32,7 @@ returns-clause-finds g t c = λ base map honest stands.
     let parts = c.in_ok-load_counted.ensures.parts base map (omega arith) (search rules) was_honest stands in
     delivers_if _ _ c.find_in.result
     (λ found finds. finds_child _ c.args.level c.args.ptr c.args.offset c.place_of-place.result.child c.place_of-place.result.rest c.load_counted.new.io.node found (omega arith) loaded.node c.place_of-place.ensures.rest c.place_of-place.ensures.sum
-    (there_before _ _ _ _ _ _ _ before (λ (seen : List ℕ) (s : FreeSectors). Finds (Has seen s) (c.args.level - 1) (child c.load_counted.new.io.node c.place_of-place.result.child) c.place_of-place.result.rest found) (rw c.child_at-child.ensures.child at finds)))
+    (there_before before (λ (seen : List ℕ) (s : FreeSectors). Finds (Has seen s) (c.args.level - 1) (child c.load_counted.new.io.node c.place_of-place.result.child) c.place_of-place.result.rest found) (rw c.child_at-child.ensures.child at finds)))
     (c.find_in.ensures.finds (base + c.place_of-place.result.child * span (c.args.level - 1)) map honest (rw c.child_at-child.ensures.child (parts.below c.place_of-place.result.child c.place_of-place.ensures.child)))
 
 pub returns-clause-range : goal.returns-clause-range
@@ -47,7 +47,7 @@ returns-in_err-load_counted-clause-damaged g t c = λ honest.
 
 pub returns-clause-damaged : goal.returns-clause-damaged
 returns-clause-damaged g t c = λ honest.
-    told_below _ _ _ _ _ _ _ c.in_ok-load_counted.ensures.looks (λ seen. NamesNode) c.args.level c.args.ptr c.load_counted.new.io.node c.place_of-place.result.child (omega arith) (search rules)
+    told_below c.in_ok-load_counted.ensures.looks (λ seen. NamesNode) c.args.level c.args.ptr c.load_counted.new.io.node c.place_of-place.result.child (omega arith) (search rules)
     (c.in_ok-load_counted.ensures.block (c.find_in.ensures.looks.reads.honest honest)) c.place_of-place.ensures.child c.find_in.result (rw c.child_at-child.ensures.child at (c.find_in.ensures.damaged honest))
 
 pub returns-then-level-eq0-clause-hangs : goal.returns-then-level-eq0-clause-hangs
@@ -58,7 +58,7 @@ returns-then-is_flat-clause-hangs g t c = λ honest. hangs_flat _ c.args.level c
 
 pub returns-clause-hangs : goal.returns-clause-hangs
 returns-clause-hangs g t c = λ honest. IfOk-weaker c.find_in.result _ _
-    (λ found hangs. hangs_below _ _ _ _ _ _ _ c.in_ok-load_counted.ensures.looks (λ seen. NamesNode) c.args.level c.args.ptr c.load_counted.new.io.node c.place_of-place.result.child (omega arith) (search rules)
+    (λ found hangs. hangs_below c.in_ok-load_counted.ensures.looks (λ seen. NamesNode) c.args.level c.args.ptr c.load_counted.new.io.node c.place_of-place.result.child (omega arith) (search rules)
     (c.in_ok-load_counted.ensures.block (c.find_in.ensures.looks.reads.honest honest)) c.place_of-place.ensures.child found.0 hangs)
     (rw c.child_at-child.ensures.child at (c.find_in.ensures.hangs honest))
 
@@ -66,25 +66,13 @@ pub returns-then-level-eq0-clause-damaged : goal.returns-then-level-eq0-clause-d
 returns-then-level-eq0-clause-damaged g t c = λ honest. tt
 
 pub returns-then-level-eq0-clause-looks : goal.returns-then-level-eq0-clause-looks
-returns-then-level-eq0-clause-looks g t c = Looks-none _ _ _
-
-pub returns-then-level-eq0-clause-kept_fit : goal.returns-then-level-eq0-clause-kept_fit
-returns-then-level-eq0-clause-kept_fit g t c = c.requires.fits
-
-pub returns-then-level-eq0-clause-same : goal.returns-then-level-eq0-clause-same
-returns-then-level-eq0-clause-same g t c = refl
+returns-then-level-eq0-clause-looks g t c = Looks-none _
 
 pub returns-then-is_flat-clause-damaged : goal.returns-then-is_flat-clause-damaged
 returns-then-is_flat-clause-damaged g t c = λ honest. tt
 
 pub returns-then-is_flat-clause-looks : goal.returns-then-is_flat-clause-looks
-returns-then-is_flat-clause-looks g t c = Looks-none _ _ _
-
-pub returns-then-is_flat-clause-kept_fit : goal.returns-then-is_flat-clause-kept_fit
-returns-then-is_flat-clause-kept_fit g t c = c.requires.fits
-
-pub returns-then-is_flat-clause-same : goal.returns-then-is_flat-clause-same
-returns-then-is_flat-clause-same g t c = refl
+returns-then-is_flat-clause-looks g t c = Looks-none _
 
 pub returns-in_err-load_counted-clause-range : goal.returns-in_err-load_counted-clause-range
 returns-in_err-load_counted-clause-range g t c =
@@ -101,17 +89,5 @@ returns-in_err-load_counted-clause-looks g t c =
     let p = err_from_is_err_and c.from_residual.result c.from_residual.ensures.1 in
     rw (p.1, p.2) c.in_err-load_counted.ensures.looks
 
-pub returns-in_err-load_counted-clause-kept_fit : goal.returns-in_err-load_counted-clause-kept_fit
-returns-in_err-load_counted-clause-kept_fit g t c = c.in_err-load_counted.ensures.kept_fit
-
-pub returns-in_err-load_counted-clause-same : goal.returns-in_err-load_counted-clause-same
-returns-in_err-load_counted-clause-same g t c = c.in_err-load_counted.ensures.same
-
 pub returns-clause-looks : goal.returns-clause-looks
 returns-clause-looks g t c = Looks-then c.in_ok-load_counted.ensures.looks c.find_in.ensures.looks
-
-pub returns-clause-kept_fit : goal.returns-clause-kept_fit
-returns-clause-kept_fit g t c = c.find_in.ensures.kept_fit
-
-pub returns-clause-same : goal.returns-clause-same
-returns-clause-same g t c = c.find_in.ensures.same ∙ c.in_ok-load_counted.ensures.same

@@ -20,7 +20,7 @@ returns-then-not-is_node-clause-parts g c = λ base map some inner honest stands
 
 pub returns-clause-parts : goal.returns-clause-parts
 returns-clause-parts g c = λ base map some inner honest stands.
-    loaded_parts _ _ _ _ _ _ _ c.load.ensures.looks c.args.level c.args.ptr base map c.load.new.io.node c.load.result some inner
+    loaded_parts c.load.ensures.looks c.args.level c.args.ptr base map c.load.new.io.node c.load.result some inner
     (λ bytes node. c.load.ensures.there bytes honest node.there node.pointers.long) stands
 
 pub returns-then-not-is_node-clause-names : goal.returns-then-not-is_node-clause-names

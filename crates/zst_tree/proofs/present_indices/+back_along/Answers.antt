@@ -45,7 +45,7 @@ returns-clause-reaches g t c = λ map honest stands.
     let was_honest = c.in_ok-reach.ensures.looks.reads.honest honest in
     let parts = c.in_ok-load_node.ensures.parts c.args.base map inner.0 inner.1 was_honest stands in
     let now = Has (g.D.Disk.state c.back_along.new.io.disk.now).seen c.back_along.new.io.space in
-    let later : Parts now (c.args.level - 1) c.load_node.new.io.node c.args.base map = there_after _ _ _ _ _ _ _ c.in_ok-reach.ensures.looks (λ (seen : List ℕ) (s : FreeSectors). Parts (Has seen s) (c.args.level - 1) c.load_node.new.io.node c.args.base map) parts in
+    let later : Parts now (c.args.level - 1) c.load_node.new.io.node c.args.base map = there_after c.in_ok-reach.ensures.looks (λ (seen : List ℕ) (s : FreeSectors). Parts (Has seen s) (c.args.level - 1) c.load_node.new.io.node c.args.base map) parts in
     rw c.nearer.ensures
     (earlier_nearer map now c.args.level c.args.base c.place_of-place.result.child c.place_of-place.result.rest c.args.offset c.start_of-start.result c.in_ok-reach.reach c.earlier_from-before.result inner.0 c.place_of-place.ensures.child c.place_of-place.ensures.rest c.place_of-place.ensures.sum c.start_of-start.ensures.value
     (c.in_ok-reach.ensures.reaches map honest (rw (c.child_at-child.ensures.child, c.start_of-start.ensures.value) (parts.below c.place_of-place.result.child c.place_of-place.ensures.child)))
@@ -61,7 +61,7 @@ pub returns-in_err-reach-clause-damaged : goal.returns-in_err-reach-clause-damag
 returns-in_err-reach-clause-damaged g t c = λ honest.
     let inner = c.stands_throughout.ensures.inner c.if-stands_throughout.false in
     let p = err_from_is_err_and c.from_residual-in_err-reach.result c.from_residual-in_err-reach.ensures.1 in
-    rw (p.1, p.2) (fault_below _ _ _ _ _ _ _ c.in_ok-load_node.ensures.looks (λ seen. SumsUp (IsSeen seen)) c.args.level c.args.ptr c.load_node.new.io.node c.place_of-place.result.child inner.0 inner.1
+    rw (p.1, p.2) (fault_below c.in_ok-load_node.ensures.looks (λ seen. SumsUp (IsSeen seen)) c.args.level c.args.ptr c.load_node.new.io.node c.place_of-place.result.child inner.0 inner.1
     (c.in_ok-load_node.ensures.block (c.in_err-reach.ensures.looks.reads.honest honest)) c.place_of-place.ensures.child _ (rw c.child_at-child.ensures.child at (c.in_err-reach.ensures.damaged honest)))
 
 pub returns-clause-present : goal.returns-clause-present
@@ -70,7 +70,7 @@ returns-clause-present g t c = rw c.nearer.ensures (IfThere-nearer (λ (beside :
 pub returns-clause-below : goal.returns-clause-below
 returns-clause-below g t c = λ honest.
     let inner = c.stands_throughout.ensures.inner c.if-stands_throughout.false in
-    rw c.nearer.ensures (beside_below _ _ _ _ _ _ _ c.in_ok-load_node.ensures.looks (λ seen. SumsUp (IsSeen seen)) c.args.level c.args.ptr c.load_node.new.io.node c.place_of-place.result.child inner.0 inner.1
+    rw c.nearer.ensures (beside_below c.in_ok-load_node.ensures.looks (λ seen. SumsUp (IsSeen seen)) c.args.level c.args.ptr c.load_node.new.io.node c.place_of-place.result.child inner.0 inner.1
     (c.in_ok-load_node.ensures.block (c.in_ok-reach.ensures.looks.reads.honest honest)) c.place_of-place.ensures.child c.in_ok-reach.reach c.earlier_from-before.result
     (rw c.child_at-child.ensures.child at (c.in_ok-reach.ensures.below honest)) c.earlier_from-before.ensures.hangs)
 
@@ -78,13 +78,7 @@ pub returns-then-not-is_present-clause-damaged : goal.returns-then-not-is_presen
 returns-then-not-is_present-clause-damaged g t c = λ honest. tt
 
 pub returns-then-not-is_present-clause-looks : goal.returns-then-not-is_present-clause-looks
-returns-then-not-is_present-clause-looks g t c = Looks-none _ _ _
-
-pub returns-then-not-is_present-clause-kept_fit : goal.returns-then-not-is_present-clause-kept_fit
-returns-then-not-is_present-clause-kept_fit g t c = c.requires.fits
-
-pub returns-then-not-is_present-clause-same : goal.returns-then-not-is_present-clause-same
-returns-then-not-is_present-clause-same g t c = refl
+returns-then-not-is_present-clause-looks g t c = Looks-none _
 
 pub returns-then-not-is_present-clause-present : goal.returns-then-not-is_present-clause-present
 returns-then-not-is_present-clause-present g t c = tt
@@ -96,13 +90,7 @@ pub returns-then-stands_throughout-clause-damaged : goal.returns-then-stands_thr
 returns-then-stands_throughout-clause-damaged g t c = λ honest. tt
 
 pub returns-then-stands_throughout-clause-looks : goal.returns-then-stands_throughout-clause-looks
-returns-then-stands_throughout-clause-looks g t c = Looks-none _ _ _
-
-pub returns-then-stands_throughout-clause-kept_fit : goal.returns-then-stands_throughout-clause-kept_fit
-returns-then-stands_throughout-clause-kept_fit g t c = c.requires.fits
-
-pub returns-then-stands_throughout-clause-same : goal.returns-then-stands_throughout-clause-same
-returns-then-stands_throughout-clause-same g t c = refl
+returns-then-stands_throughout-clause-looks g t c = Looks-none _
 
 pub returns-then-stands_throughout-clause-present : goal.returns-then-stands_throughout-clause-present
 returns-then-stands_throughout-clause-present g t c = tt
@@ -133,12 +121,6 @@ returns-in_err-load_node-clause-looks g t c =
     let p = err_from_is_err_and c.from_residual.result c.from_residual.ensures.1 in
     rw (p.1, p.2) c.in_err-load_node.ensures.looks
 
-pub returns-in_err-load_node-clause-kept_fit : goal.returns-in_err-load_node-clause-kept_fit
-returns-in_err-load_node-clause-kept_fit g t c = c.in_err-load_node.ensures.kept_fit
-
-pub returns-in_err-load_node-clause-same : goal.returns-in_err-load_node-clause-same
-returns-in_err-load_node-clause-same g t c = c.in_err-load_node.ensures.same
-
 pub returns-in_err-reach-clause-inside : goal.returns-in_err-reach-clause-inside
 returns-in_err-reach-clause-inside g t c =
     let p = err_from_is_err_and c.from_residual-in_err-reach.result c.from_residual-in_err-reach.ensures.1 in
@@ -159,20 +141,8 @@ returns-in_err-reach-clause-looks g t c =
     let p = err_from_is_err_and c.from_residual-in_err-reach.result c.from_residual-in_err-reach.ensures.1 in
     rw (p.1, p.2) (Looks-then c.in_ok-load_node.ensures.looks c.in_err-reach.ensures.looks)
 
-pub returns-in_err-reach-clause-kept_fit : goal.returns-in_err-reach-clause-kept_fit
-returns-in_err-reach-clause-kept_fit g t c = c.in_err-reach.ensures.kept_fit
-
-pub returns-in_err-reach-clause-same : goal.returns-in_err-reach-clause-same
-returns-in_err-reach-clause-same g t c = c.in_err-reach.ensures.same ∙ c.in_ok-load_node.ensures.same
-
 pub returns-clause-damaged : goal.returns-clause-damaged
 returns-clause-damaged g t c = λ honest. tt
 
 pub returns-clause-looks : goal.returns-clause-looks
 returns-clause-looks g t c = Looks-then c.in_ok-load_node.ensures.looks c.in_ok-reach.ensures.looks
-
-pub returns-clause-kept_fit : goal.returns-clause-kept_fit
-returns-clause-kept_fit g t c = c.in_ok-reach.ensures.kept_fit
-
-pub returns-clause-same : goal.returns-clause-same
-returns-clause-same g t c = c.in_ok-reach.ensures.same ∙ c.in_ok-load_node.ensures.same

@@ -62,7 +62,7 @@ returns-in-None-clause-damaged g t c = λ present honest.
 pub returns-in-Some-clause-damaged : goal.returns-in-Some-clause-damaged
 returns-in-Some-clause-damaged g t c = λ present honest.
     let inner = c.stands_throughout.ensures.inner c.if-stands_throughout.false in
-    told_below _ _ _ _ _ _ _ c.in_ok-load_node.ensures.looks (λ seen. SumsUp (IsSeen seen)) c.args.level c.args.ptr c.load_node.new.io.node c.in-Some.k inner.0 inner.1
+    told_below c.in_ok-load_node.ensures.looks (λ seen. SumsUp (IsSeen seen)) c.args.level c.args.ptr c.load_node.new.io.node c.in-Some.k inner.0 inner.1
     (c.in_ok-load_node.ensures.block (c.last_in.ensures.looks.reads.honest honest)) c.in-Some.ensures.0 c.last_in.result
     (rw c.child_at-child.ensures.child at (c.last_in.ensures.damaged (rw c.child_at-child.ensures.child c.in-Some.ensures.1) honest))
 
@@ -70,13 +70,7 @@ pub returns-then-stands_throughout-clause-damaged : goal.returns-then-stands_thr
 returns-then-stands_throughout-clause-damaged g t c = λ present honest. tt
 
 pub returns-then-stands_throughout-clause-looks : goal.returns-then-stands_throughout-clause-looks
-returns-then-stands_throughout-clause-looks g t c = Looks-none _ _ _
-
-pub returns-then-stands_throughout-clause-kept_fit : goal.returns-then-stands_throughout-clause-kept_fit
-returns-then-stands_throughout-clause-kept_fit g t c = c.requires.fits
-
-pub returns-then-stands_throughout-clause-same : goal.returns-then-stands_throughout-clause-same
-returns-then-stands_throughout-clause-same g t c = refl
+returns-then-stands_throughout-clause-looks g t c = Looks-none _
 
 pub returns-in_err-load_node-clause-range : goal.returns-in_err-load_node-clause-range
 returns-in_err-load_node-clause-range g t c =
@@ -88,26 +82,8 @@ returns-in_err-load_node-clause-looks g t c =
     let p = err_from_is_err_and c.from_residual.result c.from_residual.ensures.1 in
     rw (p.1, p.2) c.in_err-load_node.ensures.looks
 
-pub returns-in_err-load_node-clause-kept_fit : goal.returns-in_err-load_node-clause-kept_fit
-returns-in_err-load_node-clause-kept_fit g t c = c.in_err-load_node.ensures.kept_fit
-
-pub returns-in_err-load_node-clause-same : goal.returns-in_err-load_node-clause-same
-returns-in_err-load_node-clause-same g t c = c.in_err-load_node.ensures.same
-
 pub returns-in-None-clause-range : goal.returns-in-None-clause-range
 returns-in-None-clause-range g t c = tt
 
-pub returns-in-None-clause-kept_fit : goal.returns-in-None-clause-kept_fit
-returns-in-None-clause-kept_fit g t c = c.in_ok-load_node.ensures.kept_fit
-
-pub returns-in-None-clause-same : goal.returns-in-None-clause-same
-returns-in-None-clause-same g t c = c.in_ok-load_node.ensures.same
-
 pub returns-in-Some-clause-looks : goal.returns-in-Some-clause-looks
 returns-in-Some-clause-looks g t c = Looks-then c.in_ok-load_node.ensures.looks c.last_in.ensures.looks
-
-pub returns-in-Some-clause-kept_fit : goal.returns-in-Some-clause-kept_fit
-returns-in-Some-clause-kept_fit g t c = c.last_in.ensures.kept_fit
-
-pub returns-in-Some-clause-same : goal.returns-in-Some-clause-same
-returns-in-Some-clause-same g t c = c.last_in.ensures.same ∙ c.in_ok-load_node.ensures.same

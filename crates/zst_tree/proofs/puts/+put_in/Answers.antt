@@ -21,12 +21,12 @@ returns-then-is_whole-clause-put g t c = λ base map put honest s changed.
     all_changed _ map put _ base _ _ _ changed whole.0 whole.1 c.requires.lawful c.requires.leaf
 
 pub returns-then-is_whole-clause-works : goal.returns-then-is_whole-clause-works
-returns-then-is_whole-clause-works g t c = Works-looks c.requires.fits (Looks-none _ _ _)
+returns-then-is_whole-clause-works g t c = Works-looks (Looks-none _)
 
 pub returns-in_err-open-clause-works : goal.returns-in_err-open-clause-works
 returns-in_err-open-clause-works g t c =
     let p = err_from_is_err_and c.from_residual.result c.from_residual.ensures.1 in
-    rw (p.1, p.2) (Works-looks c.requires.fits c.in_err-open.ensures.looks)
+    rw (p.1, p.2) (Works-looks c.in_err-open.ensures.looks)
 
 pub returns-in_err-made-clause-put : goal.returns-in_err-made-clause-put
 returns-in_err-made-clause-put g t c = λ base map put honest s changed.
@@ -36,7 +36,7 @@ returns-in_err-made-clause-put g t c = λ base map put honest s changed.
     ap (λ n. n * span (c.args.level - 1) + c.ends_of-ends.result.below) c.if-ends.true ∙ ends.below.0 in
     let lt : c.ends_of-ends.result.low < 128 = omega arith in
     let parts = c.in_ok-open.ensures.parts base map (c.in_err-made.ensures.works.fills.honest honest) s in
-    let low = child_stands _ map _ _ _ _ c.child_at-low.ensures.child (Subtree-grows _ _ (kept_looks _ _ _ _ _ _ _ c.in_ok-open.ensures.looks) _ _ _ map (parts.below c.ends_of-ends.result.low lt)) in
+    let low = child_stands _ map _ _ _ _ c.child_at-low.ensures.child (Subtree-grows _ _ (kept_looks c.in_ok-open.ensures.looks) _ _ _ map (parts.below c.ends_of-ends.result.low lt)) in
     let p = err_from_is_err_and c.from_residual-in_err-made.result c.from_residual-in_err-made.ensures.1 in
     rw (p.1, p.2) (c.in_err-made.ensures.put _ map put honest low (one_changed map put _ base _ _ _ changed h c.ends_of-ends.result.low _ _ lt ends.first.0 eb))
 
@@ -54,8 +54,8 @@ returns-then-ends-clause-put g t c = λ base map put honest s changed.
     ap (λ n. n * span (c.args.level - 1) + c.ends_of-ends.result.below) c.if-ends.true ∙ ends.below.0 in
     let lt : c.ends_of-ends.result.low < 128 = omega arith in
     let told = c.mend_one.ensures.works.fills.honest honest in
-    let looked = kept_looks _ _ _ _ _ _ _ c.in_ok-open.ensures.looks in
-    let worked = kept_works _ _ _ _ _ _ _ _ _ c.in_ok-made.ensures.works in
+    let looked = kept_looks c.in_ok-open.ensures.looks in
+    let worked = kept_works c.in_ok-made.ensures.works in
     let parts = c.in_ok-open.ensures.parts base map (c.in_ok-made.ensures.works.fills.honest told) s in
     let low = child_stands _ map _ _ _ _ c.child_at-low.ensures.child (Subtree-grows _ _ looked _ _ _ map (parts.below c.ends_of-ends.result.low lt)) in
     c.mend_one.ensures.mended base map put honest (Subtree-grows _ _ worked _ _ _ map (Subtree-grows _ _ looked _ _ _ map s))
@@ -74,7 +74,7 @@ returns-in_err-new_low-clause-put g t c = λ base map put honest s changed.
     let order : c.ends_of-ends.result.low < c.ends_of-ends.result.high = omega arith in
     let lt : c.ends_of-ends.result.high < 128 = omega arith in
     let parts = c.in_ok-open.ensures.parts base map (c.in_err-new_low.ensures.works.fills.honest honest) s in
-    let low = child_stands _ map _ _ _ _ c.child_at-low.ensures.child (Subtree-grows _ _ (kept_looks _ _ _ _ _ _ _ c.in_ok-open.ensures.looks) _ _ _ map (parts.below c.ends_of-ends.result.low (omega arith))) in
+    let low = child_stands _ map _ _ _ _ c.child_at-low.ensures.child (Subtree-grows _ _ (kept_looks c.in_ok-open.ensures.looks) _ _ _ map (parts.below c.ends_of-ends.result.low (omega arith))) in
     let p = err_from_is_err_and c.from_residual-in_err-new_low.result c.from_residual-in_err-new_low.ensures.1 in
     rw (p.1, p.2) (c.in_err-new_low.ensures.put _ map put honest low
     (rw c.span_of-part.ensures (low_changed map put _ base _ _ _ changed h c.ends_of-ends.result.low c.ends_of-ends.result.high _ _ order lt ends.first.0 ends.first.1 ends.below.0 ends.below.1 ends.below.2)))
@@ -93,8 +93,8 @@ returns-in_err-new_high-clause-put g t c = λ base map put honest s changed.
     let order : c.ends_of-ends.result.low < c.ends_of-ends.result.high = omega arith in
     let lt : c.ends_of-ends.result.high < 128 = omega arith in
     let parts = c.in_ok-open.ensures.parts base map (c.in_ok-new_low.ensures.works.fills.honest (c.in_err-new_high.ensures.works.fills.honest honest)) s in
-    let looked = kept_looks _ _ _ _ _ _ _ c.in_ok-open.ensures.looks in
-    let worked = kept_works _ _ _ _ _ _ _ _ _ c.in_ok-new_low.ensures.works in
+    let looked = kept_looks c.in_ok-open.ensures.looks in
+    let worked = kept_works c.in_ok-new_low.ensures.works in
     let high = child_stands _ map _ _ _ _ c.child_at-high.ensures.child (Subtree-grows _ _ worked _ _ _ map (Subtree-grows _ _ looked _ _ _ map (parts.below c.ends_of-ends.result.high lt))) in
     let p = err_from_is_err_and c.from_residual-in_err-new_high.result c.from_residual-in_err-new_high.ensures.1 in
     rw (p.1, p.2) (c.in_err-new_high.ensures.put _ map put honest high
@@ -115,9 +115,9 @@ returns-clause-put g t c = λ base map put honest s changed.
     let lt : c.ends_of-ends.result.high < 128 = omega arith in
     let told_high = c.mend_two.ensures.works.fills.honest honest in
     let told_low = c.in_ok-new_high.ensures.works.fills.honest told_high in
-    let looked = kept_looks _ _ _ _ _ _ _ c.in_ok-open.ensures.looks in
-    let one = kept_works _ _ _ _ _ _ _ _ _ c.in_ok-new_low.ensures.works in
-    let two = kept_works _ _ _ _ _ _ _ _ _ c.in_ok-new_high.ensures.works in
+    let looked = kept_looks c.in_ok-open.ensures.looks in
+    let one = kept_works c.in_ok-new_low.ensures.works in
+    let two = kept_works c.in_ok-new_high.ensures.works in
     let parts = c.in_ok-open.ensures.parts base map (c.in_ok-new_low.ensures.works.fills.honest told_low) s in
     let low = child_stands _ map _ _ _ _ c.child_at-low.ensures.child (Subtree-grows _ _ looked _ _ _ map (parts.below c.ends_of-ends.result.low (omega arith))) in
     let high = child_stands _ map _ _ _ _ c.child_at-high.ensures.child (Subtree-grows _ _ one _ _ _ map (Subtree-grows _ _ looked _ _ _ map (parts.below c.ends_of-ends.result.high lt))) in
@@ -142,12 +142,12 @@ returns-in_err-made-clause-damaged g t c = λ honest.
     let lt : c.ends_of-ends.result.low < 128 = omega (arith, c.if-ends.true, c.ends_of-ends.ensures.order.1) in
     let below = c.in_ok-open.ensures.below (c.in_err-made.ensures.works.fills.honest honest) c.ends_of-ends.result.low lt in
     let p = err_from_is_err_and c.from_residual-in_err-made.result c.from_residual-in_err-made.ensures.1 in
-    let opened = fills_looks _ _ _ _ _ _ _ c.in_ok-open.ensures.looks in
+    let opened = fills_looks c.in_ok-open.ensures.looks in
     rw (p.1, p.2) (fault_after _ _ _ _ opened NamesNode c.args.level c.args.ptr (c.args.level - 1) c.child_at-low.result (below_now _ _ _ _ opened NamesNode c.args.level c.args.ptr (c.args.level - 1) c.child_at-low.result (rw c.child_at-low.ensures.child below)) _ (c.in_err-made.ensures.damaged honest))
 
 pub returns-then-ends-clause-damaged : goal.returns-then-ends-clause-damaged
 returns-then-ends-clause-damaged g t c = λ honest.
-    let opened = fills_looks _ _ _ _ _ _ _ c.in_ok-open.ensures.looks in
+    let opened = fills_looks c.in_ok-open.ensures.looks in
     let filled = FillsFree-then _ _ _ _ _ _ opened c.in_ok-made.ensures.works.fills in
     told_after _ _ _ _ filled NamesNode c.args.level c.args.ptr c.args.level c.args.ptr (same_now _ _ _ _ filled NamesNode c.args.level c.args.ptr) c.mend_one.result (c.mend_one.ensures.damaged honest)
 
@@ -156,19 +156,19 @@ returns-in_err-new_low-clause-damaged g t c = λ honest.
     let order : c.ends_of-ends.result.low < c.ends_of-ends.result.high = omega arith in
     let below = c.in_ok-open.ensures.below (c.in_err-new_low.ensures.works.fills.honest honest) c.ends_of-ends.result.low (omega arith) in
     let p = err_from_is_err_and c.from_residual-in_err-new_low.result c.from_residual-in_err-new_low.ensures.1 in
-    let opened = fills_looks _ _ _ _ _ _ _ c.in_ok-open.ensures.looks in
+    let opened = fills_looks c.in_ok-open.ensures.looks in
     rw (p.1, p.2) (fault_after _ _ _ _ opened NamesNode c.args.level c.args.ptr (c.args.level - 1) c.child_at-low.result (below_now _ _ _ _ opened NamesNode c.args.level c.args.ptr (c.args.level - 1) c.child_at-low.result (rw c.child_at-low.ensures.child below)) _ (c.in_err-new_low.ensures.damaged honest))
 
 pub returns-in_err-new_high-clause-damaged : goal.returns-in_err-new_high-clause-damaged
 returns-in_err-new_high-clause-damaged g t c = λ honest.
     let below = c.in_ok-open.ensures.below (c.in_ok-new_low.ensures.works.fills.honest (c.in_err-new_high.ensures.works.fills.honest honest)) c.ends_of-ends.result.high c.ends_of-ends.ensures.order.1 in
     let p = err_from_is_err_and c.from_residual-in_err-new_high.result c.from_residual-in_err-new_high.ensures.1 in
-    let filled = FillsFree-then _ _ _ _ _ _ (fills_looks _ _ _ _ _ _ _ c.in_ok-open.ensures.looks) c.in_ok-new_low.ensures.works.fills in
+    let filled = FillsFree-then _ _ _ _ _ _ (fills_looks c.in_ok-open.ensures.looks) c.in_ok-new_low.ensures.works.fills in
     rw (p.1, p.2) (fault_after _ _ _ _ filled NamesNode c.args.level c.args.ptr (c.args.level - 1) c.child_at-high.result (below_now _ _ _ _ filled NamesNode c.args.level c.args.ptr (c.args.level - 1) c.child_at-high.result (rw c.child_at-high.ensures.child below)) _ (c.in_err-new_high.ensures.damaged honest))
 
 pub returns-clause-damaged : goal.returns-clause-damaged
 returns-clause-damaged g t c = λ honest.
-    let opened = fills_looks _ _ _ _ _ _ _ c.in_ok-open.ensures.looks in
+    let opened = fills_looks c.in_ok-open.ensures.looks in
     let filled = FillsFree-then _ _ _ _ _ _ (FillsFree-then _ _ _ _ _ _ opened c.in_ok-new_low.ensures.works.fills) c.in_ok-new_high.ensures.works.fills in
     told_after _ _ _ _ filled NamesNode c.args.level c.args.ptr c.args.level c.args.ptr (same_now _ _ _ _ filled NamesNode c.args.level c.args.ptr) c.mend_two.result (c.mend_two.ensures.damaged honest)
 
@@ -187,7 +187,7 @@ returns-then-ends-clause-within g t c = λ honest.
     let told = c.mend_one.ensures.works.fills.honest honest in
     let read = c.in_ok-made.ensures.works.fills.honest told in
     let lt : c.ends_of-ends.result.low < 128 = omega (arith, c.if-ends.true, c.ends_of-ends.ensures.order.1) in
-    let opened = fills_looks _ _ _ _ _ _ _ c.in_ok-open.ensures.looks in
+    let opened = fills_looks c.in_ok-open.ensures.looks in
     let filled = FillsFree-then _ _ _ _ _ _ opened c.in_ok-made.ensures.works.fills in
     let low = opened_within _ _ _ (λ image spares. spares) (spares_before _ _ _ _ opened) _ c.args.level c.args.ptr c.args.leaf (c.args.level - 1) c.child_at-low.result
     (rw c.child_at-low.ensures.child (c.in_ok-open.ensures.below read c.ends_of-ends.result.low lt)) (rw c.child_at-low.ensures.child (c.in_ok-open.ensures.hangs read c.ends_of-ends.result.low lt)) in
@@ -201,7 +201,7 @@ returns-clause-within g t c = λ honest.
     let told_high = c.mend_two.ensures.works.fills.honest honest in
     let told_low = c.in_ok-new_high.ensures.works.fills.honest told_high in
     let read = c.in_ok-new_low.ensures.works.fills.honest told_low in
-    let opened = fills_looks _ _ _ _ _ _ _ c.in_ok-open.ensures.looks in
+    let opened = fills_looks c.in_ok-open.ensures.looks in
     let one = FillsFree-then _ _ _ _ _ _ opened c.in_ok-new_low.ensures.works.fills in
     let two = FillsFree-then _ _ _ _ _ _ one c.in_ok-new_high.ensures.works.fills in
     let low = opened_within _ _ _ (λ image spares. spares) (spares_before _ _ _ _ opened) _ c.args.level c.args.ptr c.args.leaf (c.args.level - 1) c.child_at-low.result
@@ -218,9 +218,6 @@ returns-clause-within g t c = λ honest.
 pub returns-then-is_whole-clause-damaged : goal.returns-then-is_whole-clause-damaged
 returns-then-is_whole-clause-damaged g t c = λ honest. tt
 
-pub returns-then-is_whole-clause-same : goal.returns-then-is_whole-clause-same
-returns-then-is_whole-clause-same g t c = refl
-
 pub returns-in_err-open-clause-damaged : goal.returns-in_err-open-clause-damaged
 returns-in_err-open-clause-damaged g t c = λ honest.
     let p = err_from_is_err_and c.from_residual.result c.from_residual.ensures.1 in
@@ -236,9 +233,6 @@ returns-in_err-open-clause-within g t c = λ honest.
     let p = err_from_is_err_and c.from_residual.result c.from_residual.ensures.1 in
     rw p.1 tt
 
-pub returns-in_err-open-clause-same : goal.returns-in_err-open-clause-same
-returns-in_err-open-clause-same g t c = c.in_err-open.ensures.same
-
 pub returns-in_err-made-clause-root : goal.returns-in_err-made-clause-root
 returns-in_err-made-clause-root g t c =
     let p = err_from_is_err_and c.from_residual-in_err-made.result c.from_residual-in_err-made.ensures.1 in
@@ -248,12 +242,6 @@ pub returns-in_err-made-clause-within : goal.returns-in_err-made-clause-within
 returns-in_err-made-clause-within g t c = λ honest.
     let p = err_from_is_err_and c.from_residual-in_err-made.result c.from_residual-in_err-made.ensures.1 in
     rw p.1 tt
-
-pub returns-in_err-made-clause-same : goal.returns-in_err-made-clause-same
-returns-in_err-made-clause-same g t c = c.in_err-made.ensures.same ∙ c.in_ok-open.ensures.same
-
-pub returns-then-ends-clause-same : goal.returns-then-ends-clause-same
-returns-then-ends-clause-same g t c = c.mend_one.ensures.same ∙ (c.in_ok-made.ensures.same ∙ c.in_ok-open.ensures.same)
 
 pub returns-in_err-new_low-clause-root : goal.returns-in_err-new_low-clause-root
 returns-in_err-new_low-clause-root g t c =
@@ -265,9 +253,6 @@ returns-in_err-new_low-clause-within g t c = λ honest.
     let p = err_from_is_err_and c.from_residual-in_err-new_low.result c.from_residual-in_err-new_low.ensures.1 in
     rw p.1 tt
 
-pub returns-in_err-new_low-clause-same : goal.returns-in_err-new_low-clause-same
-returns-in_err-new_low-clause-same g t c = c.in_err-new_low.ensures.same ∙ c.in_ok-open.ensures.same
-
 pub returns-in_err-new_high-clause-root : goal.returns-in_err-new_high-clause-root
 returns-in_err-new_high-clause-root g t c =
     let p = err_from_is_err_and c.from_residual-in_err-new_high.result c.from_residual-in_err-new_high.ensures.1 in
@@ -277,21 +262,6 @@ pub returns-in_err-new_high-clause-within : goal.returns-in_err-new_high-clause-
 returns-in_err-new_high-clause-within g t c = λ honest.
     let p = err_from_is_err_and c.from_residual-in_err-new_high.result c.from_residual-in_err-new_high.ensures.1 in
     rw p.1 tt
-
-pub returns-in_err-new_high-clause-same : goal.returns-in_err-new_high-clause-same
-returns-in_err-new_high-clause-same g t c = c.in_err-new_high.ensures.same ∙ (c.in_ok-new_low.ensures.same ∙ c.in_ok-open.ensures.same)
-
-pub returns-clause-same : goal.returns-clause-same
-returns-clause-same g t c = c.mend_two.ensures.same ∙ (c.in_ok-new_high.ensures.same ∙ (c.in_ok-new_low.ensures.same ∙ c.in_ok-open.ensures.same))
-
-pub open-requires-clause-fits : goal.open-requires-clause-fits
-open-requires-clause-fits g t c = c.requires.fits
-
-pub mend_one-requires-clause-fits : goal.mend_one-requires-clause-fits
-mend_one-requires-clause-fits g t c = c.in_ok-made.ensures.works.fits
-
-pub mend_two-requires-clause-fits : goal.mend_two-requires-clause-fits
-mend_two-requires-clause-fits g t c = c.in_ok-new_high.ensures.works.fits
 
 pub mend_two-requires-clause-lawful : goal.mend_two-requires-clause-lawful
 mend_two-requires-clause-lawful g t c = c.requires.lawful

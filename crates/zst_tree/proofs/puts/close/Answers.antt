@@ -8,7 +8,7 @@ use Rattle.zst_tree.proofs.puts.close.Goals as goal
 pub returns-clause-whole : goal.returns-clause-whole
 returns-clause-whole g c = λ base map parts.
     let saved = c.in_ok-ptr.ensures in
-    let kept = kept_works _ _ _ _ _ _ _ _ _ saved.works in
+    let kept = kept_works saved.works in
     closes _ map c.args.level base c.args.io.now.node _ c.requires.inner (has_kind _ _ c.in_ok-ptr.ptr _ _ saved.wrote)
     (ap (λ (p : Ptr). p.level) saved.pointer) c.summary_of-summary.ensures.kind (ap (λ (p : Ptr). p.number) saved.pointer ∙ c.summary_of-summary.ensures.number)
     (Parts-grows _ _ kept (c.args.level - 1) c.args.io.now.node base map parts)
@@ -40,11 +40,5 @@ returns-in_err-ptr-clause-works g c =
     let p = err_from_is_err_and c.from_residual.result c.from_residual.ensures.1 in
     rw (p.1, p.2) c.in_err-ptr.ensures.works
 
-pub returns-in_err-ptr-clause-same : goal.returns-in_err-ptr-clause-same
-returns-in_err-ptr-clause-same g c = c.in_err-ptr.ensures.same
-
 pub returns-clause-works : goal.returns-clause-works
 returns-clause-works g c = c.in_ok-ptr.ensures.works
-
-pub returns-clause-same : goal.returns-clause-same
-returns-clause-same g c = c.in_ok-ptr.ensures.same

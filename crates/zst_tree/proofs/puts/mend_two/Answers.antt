@@ -18,7 +18,7 @@ use Rattle.zst_tree.proofs.puts.mend_two.Goals as goal
 pub returns-clause-mended : goal.returns-clause-mended
 returns-clause-mended g c = λ base map put honest s s_low s_high beside same.
     let opened = c.in_ok-open.ensures in
-    let kept = kept_looks _ _ _ _ _ _ _ opened.looks in
+    let kept = kept_looks opened.looks in
     c.close.ensures.whole base put
     (mixed_parts _ map put (c.args.level - 1) base _ (ap (λ n. base + n) (span-over c.args.level c.requires.inner)) _ _ c.args.mend.low c.args.mend.new_low c.args.mend.high c.args.mend.new_high c.args.leaf c.requires.flat c.requires.lawful
     (mixes _ _ _ _ _ _ _ _ _ c.requires.order c.requires.high c.put_child.ensures.puts c.fill.ensures.fills c.put_child-2.ensures.puts)
@@ -35,7 +35,7 @@ pub returns-clause-within : goal.returns-clause-within
 returns-clause-within g c = λ image space honest up within_low within_high.
     let opened = c.in_ok-open.ensures in
     let read = c.close.ensures.works.fills.honest honest in
-    let fills = FillsFree-then _ _ _ _ _ _ (fills_looks _ _ _ _ _ _ _ opened.looks) c.close.ensures.works.fills in
+    let fills = FillsFree-then _ _ _ _ _ _ (fills_looks opened.looks) c.close.ensures.works.fills in
     let down = spares_before _ _ _ _ fills in
     IfOk-both _ _ _ c.close.result
     (λ made wrote names. node_within _ _ _ (g.met.D.Disk.seen_size c.close.new.io.disk.now ∙ fills.size) made _ wrote (SparesTaken space image) c.args.level c.args.ptr c.args.leaf c.args.level c.requires.inner names
@@ -63,25 +63,7 @@ returns-in_err-open-clause-within g c = λ image space honest spares low high.
 pub returns-in_err-open-clause-works : goal.returns-in_err-open-clause-works
 returns-in_err-open-clause-works g c =
     let p = err_from_is_err_and c.from_residual.result c.from_residual.ensures.1 in
-    rw (p.1, p.2) (Works-looks c.requires.fits c.in_err-open.ensures.looks)
-
-pub returns-in_err-open-clause-same : goal.returns-in_err-open-clause-same
-returns-in_err-open-clause-same g c = c.in_err-open.ensures.same
+    rw (p.1, p.2) (Works-looks c.in_err-open.ensures.looks)
 
 pub returns-clause-names : goal.returns-clause-names
 returns-clause-names g c = c.close.ensures.names
-
-pub returns-clause-same : goal.returns-clause-same
-returns-clause-same g c = c.close.ensures.same ∙ c.in_ok-open.ensures.same
-
-pub open-requires-clause-inner : goal.open-requires-clause-inner
-open-requires-clause-inner g c = c.requires.inner
-
-pub open-requires-clause-fits : goal.open-requires-clause-fits
-open-requires-clause-fits g c = c.requires.fits
-
-pub close-requires-clause-inner : goal.close-requires-clause-inner
-close-requires-clause-inner g c = c.requires.inner
-
-pub close-requires-clause-fits : goal.close-requires-clause-fits
-close-requires-clause-fits g c = c.in_ok-open.ensures.kept_fit

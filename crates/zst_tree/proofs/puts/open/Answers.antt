@@ -1,5 +1,5 @@
 use Rattle.zst_block.proofs.IoCallLemmas.{Looks-none}
-use Rattle.std.proofs.Common.{refl, ◌≡◌, ◌-◌, true, rules, sym, subst, arith}
+use Rattle.std.proofs.Common.{◌≡◌, ◌-◌, true, rules, sym, subst, arith}
 use Rattle.zst_block.specs.Ptr.{is_flat}
 use Rattle.zst_block.specs.declared.ptr.Ptr.{Ptr}
 use Rattle.zst_tree.proofs.SubtreeCases.{node_below}
@@ -40,19 +40,7 @@ pub returns-then-is_flat-clause-damaged : goal.returns-then-is_flat-clause-damag
 returns-then-is_flat-clause-damaged g c = λ honest. tt
 
 pub returns-then-is_flat-clause-looks : goal.returns-then-is_flat-clause-looks
-returns-then-is_flat-clause-looks g c = Looks-none _ _ _
-
-pub returns-then-is_flat-clause-kept_fit : goal.returns-then-is_flat-clause-kept_fit
-returns-then-is_flat-clause-kept_fit g c = c.requires.fits
-
-pub returns-then-is_flat-clause-same : goal.returns-then-is_flat-clause-same
-returns-then-is_flat-clause-same g c = refl
+returns-then-is_flat-clause-looks g c = Looks-none _
 
 pub returns-clause-looks : goal.returns-clause-looks
 returns-clause-looks g c = c.load_node.ensures.looks
-
-pub returns-clause-kept_fit : goal.returns-clause-kept_fit
-returns-clause-kept_fit g c = c.load_node.ensures.kept_fit
-
-pub returns-clause-same : goal.returns-clause-same
-returns-clause-same g c = c.load_node.ensures.same

@@ -1,4 +1,4 @@
-use Rattle.std.proofs.Common.{◌∙◌, refl, arith}
+use Rattle.std.proofs.Common.{arith}
 use Rattle.std.proofs.lemmas.Result.{IfOk-weaker, err_from_is_err_and}
 use Rattle.zst_block.proofs.IoCallLemmas.{Works-then, Works-more}
 use Rattle.zst_tree.proofs.ChangedTrees.{IsWithin-self, IsWithin-size, IsWithin-then}
@@ -23,9 +23,6 @@ returns-in_err-taller-clause-never_damaged g t c = λ sector stated found is.
 pub returns-then-is_enough-clause-never_damaged : goal.returns-then-is_enough-clause-never_damaged
 returns-then-is_enough-clause-never_damaged g t c = λ sector stated found is. absurd (cc)
 
-pub returns-then-is_enough-clause-same : goal.returns-then-is_enough-clause-same
-returns-then-is_enough-clause-same g t c = refl
-
 pub returns-in_err-taller-clause-size : goal.returns-in_err-taller-clause-size
 returns-in_err-taller-clause-size g t c =
     let p = err_from_is_err_and c.from_residual.result c.from_residual.ensures.1 in
@@ -41,14 +38,5 @@ returns-in_err-taller-clause-root g t c =
     let p = err_from_is_err_and c.from_residual.result c.from_residual.ensures.1 in
     rw p.1 tt
 
-pub returns-in_err-taller-clause-same : goal.returns-in_err-taller-clause-same
-returns-in_err-taller-clause-same g t c = c.in_err-taller.ensures.same
-
 pub returns-clause-never_damaged : goal.returns-clause-never_damaged
 returns-clause-never_damaged g t c = c.grow_to.ensures.never_damaged
-
-pub returns-clause-same : goal.returns-clause-same
-returns-clause-same g t c = c.grow_to.ensures.same ∙ c.in_ok-taller.ensures.same
-
-pub raise-requires-clause-fits : goal.raise-requires-clause-fits
-raise-requires-clause-fits g t c = c.requires.fits

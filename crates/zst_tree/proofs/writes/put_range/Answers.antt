@@ -1,4 +1,4 @@
-use Rattle.std.proofs.Common.{◌∙◌, refl, zero-add, arith}
+use Rattle.std.proofs.Common.{refl, zero-add, arith}
 use Rattle.std.proofs.lemmas.Result.{err_from_is_err_and}
 use Rattle.zst_block.proofs.IoCallLemmas.{Works-then, Works-more}
 use Rattle.zst_tree.specs.Damage.{NamesNode}
@@ -77,9 +77,6 @@ returns-in_err-grown-clause-kept g c =
 pub returns-in_err-grown-clause-levels : goal.returns-in_err-grown-clause-levels
 returns-in_err-grown-clause-levels g c = c.requires.levels
 
-pub returns-in_err-grown-clause-same : goal.returns-in_err-grown-clause-same
-returns-in_err-grown-clause-same g c = c.in_err-grown.ensures.same
-
 pub returns-in_err-grown-clause-within : goal.returns-in_err-grown-clause-within
 returns-in_err-grown-clause-within g c = λ honest.
     let p = err_from_is_err_and c.from_residual.result c.from_residual.ensures.1 in
@@ -97,9 +94,6 @@ returns-in_err-root-clause-kept g c =
 
 pub returns-in_err-root-clause-levels : goal.returns-in_err-root-clause-levels
 returns-in_err-root-clause-levels g c = c.requires.levels
-
-pub returns-in_err-root-clause-same : goal.returns-in_err-root-clause-same
-returns-in_err-root-clause-same g c = c.in_err-root.ensures.same ∙ c.in_ok-grown.ensures.same
 
 pub returns-in_err-root-clause-within : goal.returns-in_err-root-clause-within
 returns-in_err-root-clause-within g c = λ honest.
@@ -120,20 +114,11 @@ returns-clause-damaged g c = λ honest. tt
 pub returns-clause-levels : goal.returns-clause-levels
 returns-clause-levels g c = c.in_ok-grown.ensures.size.1
 
-pub returns-clause-same : goal.returns-clause-same
-returns-clause-same g c = c.in_ok-root.ensures.same ∙ c.in_ok-grown.ensures.same
-
 pub grow_to-requires-clause-levels : goal.grow_to-requires-clause-levels
 grow_to-requires-clause-levels g c = c.requires.levels
 
-pub grow_to-requires-clause-fits : goal.grow_to-requires-clause-fits
-grow_to-requires-clause-fits g c = c.requires.fits
-
 pub grow_to-requires-clause-need : goal.grow_to-requires-clause-need
 grow_to-requires-clause-need g c = c.requires.below
-
-pub put_in-requires-clause-fits : goal.put_in-requires-clause-fits
-put_in-requires-clause-fits g c = c.in_ok-grown.ensures.works.fits
 
 pub put_in-requires-clause-level : goal.put_in-requires-clause-level
 put_in-requires-clause-level g c = c.in_ok-grown.ensures.size.1

@@ -43,17 +43,11 @@ returns-in_err-root-clause-names g c =
     let p = err_from_is_err_and c.from_residual.result c.from_residual.ensures.1 in
     rw p.1 tt
 
-pub returns-in_err-root-clause-same : goal.returns-in_err-root-clause-same
-returns-in_err-root-clause-same g c = c.in_err-root.ensures.same
-
 pub returns-clause-taller : goal.returns-clause-taller
 returns-clause-taller g c = refl
 
 pub returns-clause-never_damaged : goal.returns-clause-never_damaged
 returns-clause-never_damaged g c = λ sector stated found is. absurd (cc)
-
-pub returns-clause-same : goal.returns-clause-same
-returns-clause-same g c = c.in_ok-root.ensures.same
 
 pub returns-clause-works : goal.returns-clause-works
 returns-clause-works g c = c.in_ok-root.ensures.works

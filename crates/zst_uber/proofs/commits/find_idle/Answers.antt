@@ -1,12 +1,12 @@
 use Rattle.std.proofs.Common.{◌≡◌, List, ℕ, slice_index, refl, sym, ◌∙◌, ap, subst}
 use Rattle.std.specs.Prelude.{◌↔◌, IsTrue}
 use Rattle.zst_uber.specs.Slots.{gate_of, latest_slot, other}
-use Rattle.zst_uber.specs.declared.slot.Slot.{Slot}
-use Rattle.zst_uber.specs.declared.slot.Slot.TheVariants.{First, Second}
+use Rattle.zst_uber.specs.declared.body_slot.BodySlot.{BodySlot}
+use Rattle.zst_uber.specs.declared.body_slot.BodySlot.TheVariants.{First, Second}
 use Rattle.zst_uber.proofs.SlotsLaws.{gate_in_front, latest_slot_in_front}
 use Rattle.zst_uber.proofs.commits.find_idle.Goals as goal
 
-other_twice : (t : Slot) → other (other t) ≡ t
+other_twice : (t : BodySlot) → other (other t) ≡ t
 other_twice First = refl
 other_twice Second = refl
 
@@ -17,7 +17,7 @@ returns-clause-idle g c = λ told.
     ∙ sym (ap (λ (front : List ℕ). latest_slot front) (c.in_ok-count.ensures.bytes told))
     ∙ sym c.latest_in-slot.ensures.slot
     ∙ sym (other_twice _)
-    ∙ ap (λ (t : Slot). other t) (sym c.other-idle.ensures)
+    ∙ ap (λ (t : BodySlot). other t) (sym c.other-idle.ensures)
 
 pub returns-clause-gate : goal.returns-clause-gate
 returns-clause-gate g c = λ told.

@@ -1,16 +1,29 @@
-use Rattle.std.proofs.Common.{◌≡◌, ◌+◌, ◌||◌, ◌∙◌, ap, subst, sym}
+use Rattle.std.proofs.Common.{◌≡◌, ◌+◌, ◌||◌, ◌∙◌, ap, subst, sym, ℕ}
+use Rattle.zst_block.specs.Blocks.{FitsDisk}
+use Rattle.zst_image.specs.Reads.{free_by}
 use Rattle.zst_pool.specs.FinishedRows.{rows_with_finished}
 use Rattle.zst_space.specs.FreeSectors.{FreeSectors}
-use Rattle.zst_pool.specs.Calls.{CallGrows, IsCallFault, IsCallFull}
+use Rattle.zst_pool.specs.Calls.{CallDid, CallGrows, IsCallFault, IsCallFull, keeping}
 use Rattle.zst_pool.specs.Faults.{is_full}
+use Rattle.zst_pool.specs.Partials.{partial_finished}
 use Rattle.zst_pool.specs.declared.fault.PoolFault.TheVariants.{Full}
+use Rattle.zst_pool.proofs.PoolsAtRest.{free_by_fits}
 use Rattle.zst_pool.proofs.CallLemmas.{blocks_last, can_still, cause_told, fault_has, fault_made, free_again, kept_has, ready_still, tells_disk}
 use Rattle.zst_pool.proofs.pool.Pool.finish_partial.Goals as goal
 
+pub settle_command-requires-clause-fits : goal.settle_command-requires-clause-fits
+settle_command-requires-clause-fits g c =
+    let can = c.requires.works c.if-self.false in
+    let body = c.args.self.now.kept.body in
+    subst (λ (size : ℕ). FitsDisk size (free_by body)) (sym c.commit_finished-committed.ensures.size) (free_by_fits (g.D.Disk.state c.args.self.now.io.disk.now).size body can.ready.in_range)
+
 pub returns-clause-did : goal.returns-clause-did
 returns-clause-did g c = λ tight start running plain told standing way is.
-    rw (c.settle_command.ensures.disk, c.settle_command.ensures.kept)
-    (c.commit_finished-committed.ensures.did tight start running plain (rw (sym c.settle_command.ensures.disk) told) way is)
+    let settled = c.settle_command in
+    let did = λ (disk : g.row.D.Denot). CallDid tight (g.D.Disk.state start) (g.D.Disk.state disk) c.args.self.now.kept running (partial_finished plain running) in
+    let honest = subst (λ (disk : g.row.D.Denot). (g.D.Disk.state disk).honest) settled.ensures.disk told in
+    subst (λ (disk : g.row.D.Denot). did disk (keeping settled.new.self.kept settled.result)) (sym settled.ensures.disk)
+    (subst (did c.commit_finished-committed.new.io.disk.now) (sym settled.ensures.kept) (c.commit_finished-committed.ensures.did tight start running plain honest way is))
 
 pub returns-clause-rows : goal.returns-clause-rows
 returns-clause-rows g c =

@@ -5,6 +5,7 @@ use Rattle.zst_model.specs.pools.AnswerLines.{ok_line}
 use Rattle.zst_model.specs.pools.Step.{stepped}
 use Rattle.zst_image.specs.declared.pool_state.PoolState.{PoolState}
 use Rattle.zst_block.specs.Blocks.{FitsDisk, Has}
+use Rattle.zst_block.specs.IoStates.{io_of}
 use Rattle.zst_space.specs.FreeSectors.{FreeSectors}
 use Rattle.zst_image.specs.Reads.{RunsBy, bound_of, free_by}
 use Rattle.zst_image.specs.Commits.{Ready}
@@ -31,8 +32,23 @@ use Rattle.zst_pool.proofs.pool.Pool.step.Goals.{After-settle_command, After-tel
 -- what was run, over the disk that the pool then has
 ran : (g : Over) (c : After-settle_command g) (answer : Result PoolState PoolFault) → answer ≡ c.run-ran.result
     → Runs (λ pool. stepped [] c.args.now c.args.command pool) (cost_of c.args.command) (TellsDamage c.args.command c.args.self.now.kept.dir (g.D.Disk.state c.args.self.now.io.disk.now) (free_by c.args.self.now.kept.body)) c.args.self.now.kept
-    (g.D.Disk.state c.args.self.now.io.disk.now) c.args.self.now.io.failed (g.D.Disk.state c.settle_command.new.self.io.disk.now) c.run-ran.new.io.space c.settle_command.new.self.io.failed answer
-ran g c answer same = rw (c.settle_command.ensures.disk, c.settle_command.ensures.failed, same) c.run-ran.ensures.runs
+    (record { disk = g.D.Disk.state c.args.self.now.io.disk.now; space = c.new-2.result; failed = c.args.self.now.io.failed; reference = c.args.self.now.io.disk.ghost_name })
+    (record { disk = g.D.Disk.state c.settle_command.new.self.io.disk.now; space = c.run-ran.new.io.space; failed = c.settle_command.new.self.io.failed; reference = c.run-ran.new.io.disk.ghost_name }) answer
+ran g c answer same =
+    let settled = c.settle_command in
+    let runs = λ (disk : g.row.D.Denot) (failed : Bool).
+    Runs (λ pool. stepped [] c.args.now c.args.command pool) (cost_of c.args.command) (TellsDamage c.args.command c.args.self.now.kept.dir (g.D.Disk.state c.args.self.now.io.disk.now) (free_by c.args.self.now.kept.body)) c.args.self.now.kept
+    (record { disk = g.D.Disk.state c.args.self.now.io.disk.now; space = c.new-2.result; failed = c.args.self.now.io.failed; reference = c.args.self.now.io.disk.ghost_name })
+    (record { disk = g.D.Disk.state disk; space = c.run-ran.new.io.space; failed = failed; reference = c.run-ran.new.io.disk.ghost_name }) in
+    subst (runs settled.new.self.io.disk.now settled.new.self.io.failed) (sym same)
+    (subst (λ (failed : Bool). runs settled.new.self.io.disk.now failed c.run-ran.result) (sym settled.ensures.failed)
+    (subst (λ (disk : g.row.D.Denot). runs disk c.run-ran.new.io.failed c.run-ran.result) (sym settled.ensures.disk) c.run-ran.ensures.runs))
+
+pub settle_command-requires-clause-fits : goal.settle_command-requires-clause-fits
+settle_command-requires-clause-fits g c =
+    let ready = c.requires.ready c.if-self.false in
+    let body = c.args.self.now.kept.body in
+    subst (λ (size : ℕ). FitsDisk size (free_by body)) (sym c.run-ran.ensures.runs.ran.size) (free_by_fits (g.D.Disk.state c.args.self.now.io.disk.now).size body ready.in_range)
 
 planned : (g : Over) (c : After-settle_command g) (answer : Result PoolState PoolFault) → answer ≡ c.run-ran.result
     → Plans (λ pool. stepped [] c.args.now c.args.command pool) (numbers_end c.args.command) (indices_end c.args.command) c.args.self.now.kept answer
@@ -87,6 +103,9 @@ returns-clause-works g c = λ standing.
 
 pub returns-clause-space : goal.returns-clause-space
 returns-clause-space g c = λ told. c.settle_command.ensures.space (subst (λ (r : Result PoolState PoolFault). is_full r ≡ false) c.in_ok-settle_command.ensures.kept refl)
+
+pub returns-clause-same : goal.returns-clause-same
+returns-clause-same g c = c.settle_command.ensures.same ∙ c.run-ran.ensures.runs.ran.same
 
 -- where it was refused
 
@@ -170,6 +189,9 @@ returns-in_err-settle_command-clause-ready g c = λ standing.
     let here = g.D.Disk.state c.settle_command.new.self.io.disk.now in
     subst (λ (k : PoolState). Ready here k.body) (sym c.in_err-settle_command.ensures.stays) (runs.ran.stays standing)
 
+pub returns-in_err-settle_command-clause-same : goal.returns-in_err-settle_command-clause-same
+returns-in_err-settle_command-clause-same g c = c.settle_command.ensures.same ∙ c.run-ran.ensures.runs.ran.same
+
 -- where no memory was left for its reply
 
 pub returns-in_err-reply-clause-answer : goal.returns-in_err-reply-clause-answer
@@ -218,14 +240,8 @@ free g c = rw (c.new-2.ensures, c.new.ensures.items) refl
 
 tells : (g : Over) (c : After-tell g)
     → Tells (λ pool. stepped [] c.args.now c.args.command pool) (TellsDamage c.args.command c.args.self.now.kept.dir (g.D.Disk.state c.args.self.now.io.disk.now) (free_by c.args.self.now.kept.body)) c.args.self.now.kept
-    (g.D.Disk.state c.args.self.now.io.disk.now) c.new-2.result c.args.self.now.io.failed (g.D.Disk.state c.tell.new.io.disk.now) c.tell.new.io.space c.tell.new.io.failed c.tell.result
+    (record { disk = g.D.Disk.state c.args.self.now.io.disk.now; space = c.new-2.result; failed = c.args.self.now.io.failed; reference = c.args.self.now.io.disk.ghost_name }) (io_of c.tell.new.io) c.tell.result
 tells g c = c.tell.ensures.tells c.args.now
-
-pub tell-requires-clause-fits : goal.tell-requires-clause-fits
-tell-requires-clause-fits g c =
-    let kept = c.args.self.now.kept in
-    let ready = c.requires.ready c.if-self.false in
-    subst (FitsDisk (g.D.Disk.state c.args.self.now.io.disk.now).size) (rw (c.new-2.ensures, c.new.ensures.items) refl) (free_by_fits (g.D.Disk.state c.args.self.now.io.disk.now).size kept.body ready.in_range)
 
 pub returns-then-not-commits-clause-moments : goal.returns-then-not-commits-clause-moments
 returns-then-not-commits-clause-moments g c = λ tight running told rested.
@@ -298,3 +314,6 @@ returns-then-not-commits-clause-cause g c = cause_told (g.D.Disk.state c.args.se
 
 pub returns-then-not-commits-clause-honest : goal.returns-then-not-commits-clause-honest
 returns-then-not-commits-clause-honest g c = λ told. (c.tell.ensures.tells c.args.now).looks.reads.honest told
+
+pub returns-then-not-commits-clause-same : goal.returns-then-not-commits-clause-same
+returns-then-not-commits-clause-same g c = (c.tell.ensures.tells c.args.now).looks.same

@@ -52,7 +52,7 @@ use Rattle.zst_recv.proofs.recv.Recv.feed.Goals.{After-has_partial-held, After-r
 can_commit : (g : Over) (c : After-read g) → CanCommit (g.D.Disk.state c.read.new.io.disk.now) c.read.new.io.space c.renew.new.self.kept.body
 can_commit g c =
     commit_still (g.D.Disk.state c.renew.new.self.io.disk.now) (g.D.Disk.state c.read.new.io.disk.now) c.renew.new.self.io.space c.read.new.io.space c.renew.new.self.kept (c.renew.ensures.works (c.requires.ready c.if-pool.false))
-    c.read.ensures.fills.fills c.read.ensures.fills.fits c.read.ensures.fills.sectors
+    c.read.ensures.fills.fills c.read.new.io.fits c.read.ensures.fills.sectors
 
 -- how a piece was read: the pool is under way since it was at rest, and of the piece was taken what the definition takes before its first fault
 record ReadsPiece (g : Over) (c : After-read g) (tight : Bool) (running : Pool) (text : List ℕ) (stage : Stage) (result : Result (Unit {0}) RecvFault) : Type 0 where
@@ -592,5 +592,5 @@ pub returns-in-Ok-put-clause-grows : goal.returns-in-Ok-put-clause-grows
 returns-in-Ok-put-clause-grows g c = λ text handed stands.
     let records = records_behind handed (text ++ c.args.piece.now) in
     let spends = subst (λ (s : FreeSectors). Spends records s c.read.new.io.space None) c.renew.ensures.space (c.in-Ok.ensures.spends text handed stands) in
-    piece_grows records c.args.pool.now.kept c.put.new.pool.kept c.read.new.io.space spends.takes c.read.ensures.fills.fits.extents.end
+    piece_grows records c.args.pool.now.kept c.put.new.pool.kept c.read.new.io.space spends.takes c.read.new.io.fits.extents.end
     (subst (λ (k : PoolState). (c.put.new.pool.kept ≡ k) ⊎ CallGrows c.read.new.io.space k c.put.new.pool.kept) c.renew.ensures.kept c.in-Ok-put.ensures.grows)

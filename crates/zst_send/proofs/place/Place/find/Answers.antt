@@ -1,8 +1,8 @@
 use Rattle.std.proofs.Common.{Option, Some, ◌<◌, sym, subst}
+use Rattle.zst_block.specs.IoStates.{blocks_of, disk_of}
 use Rattle.zst_send.specs.Costs.{cells_due}
 use Rattle.zst_send.proofs.LookCosts.{found_counts}
 use Rattle.std.proofs.lemmas.Result.{err_from_is_err_and}
-use Rattle.zst_block.specs.Blocks.{Has}
 use Rattle.zst_model.specs.sends.View.{view_of}
 use Rattle.zst_traverse.specs.Cells.{IsNextCell, choice_after}
 use Rattle.zst_traverse.specs.declared.walk_entry.WalkEntry.{WalkEntry}
@@ -25,7 +25,7 @@ returns-in_err-found-clause-found g c = λ header snap honest holds of.
 
 pub returns-in_default-clause-found : goal.returns-in_default-clause-found
 returns-in_default-clause-found g c = λ header snap honest holds of.
-    let has = Has (g.D.Disk.state c.next_found.new.io.disk.now).seen c.next_found.new.io.space in
+    let has = blocks_of c.next_found.new.io in
     let old = c.args.self.now in
     let laws : WalkLaws = record { ends = c.walk_ends.ensures; object = c.object_is_next.ensures; gone = c.gone_run_is_next.ensures; blocks = c.block_run_is_next.ensures } in
     let next = subst (λ (f : Option WalkEntry). IsNextCell has snap (choice_after c.args.source) old.point old.slot f) c.in_default.is (c.in_ok-found.ensures.found snap honest holds) in
@@ -36,7 +36,7 @@ due_of-due-requires-clause-found g c = (c.args.self.now.point, rw c.in-Some.is a
 
 pub returns-clause-found : goal.returns-clause-found
 returns-clause-found g c = λ header snap honest holds of.
-    let has = Has (g.D.Disk.state c.next_found.new.io.disk.now).seen c.next_found.new.io.space in
+    let has = blocks_of c.next_found.new.io in
     let old = c.args.self.now in
     let laws : WalkLaws = record { ends = c.walk_ends.ensures; object = c.object_is_next.ensures; gone = c.gone_run_is_next.ensures; blocks = c.block_run_is_next.ensures } in
     let next = subst (λ (f : Option WalkEntry). IsNextCell has snap (choice_after c.args.source) old.point old.slot f) c.in-Some.is (c.in_ok-found.ensures.found snap honest holds) in
@@ -47,7 +47,7 @@ returns-clause-found g c = λ header snap honest holds of.
 
 pub returns-clause-stands : goal.returns-clause-stands
 returns-clause-stands g c = λ images among honest.
-    let seen = (g.D.Disk.state c.args.io.now.disk.now).seen in
+    let seen = (disk_of c.args.io.now).seen in
     let set = c.args.set.now in
     let found = c.in-Some.found in
     let place = c.place_after-place.result in
@@ -62,7 +62,7 @@ returns-in_err-found-clause-counted g c = λ snap honest holds of.
 
 pub returns-clause-counted : goal.returns-clause-counted
 returns-clause-counted g c = λ snap honest holds of.
-    let has = Has (g.D.Disk.state c.next_found.new.io.disk.now).seen c.next_found.new.io.space in
+    let has = blocks_of c.next_found.new.io in
     let old = c.args.self.now in
     let next = subst (λ (f : Option WalkEntry). IsNextCell has snap (choice_after c.args.source) old.point old.slot f) c.in-Some.is (c.in_ok-found.ensures.found snap honest holds) in
     let counts = found_counts has snap (choice_after c.args.source) old c.in-Some.found c.requires.place.some of next in

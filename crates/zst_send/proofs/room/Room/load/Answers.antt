@@ -1,6 +1,7 @@
 use Rattle.std.proofs.Common.{rules, ◌≡◌, ℕ, List, length, take, arith, ap, subst, sym, ◌∙◌}
 use Rattle.zst_space.specs.FreeSectors.{FreeSectors}
 use Rattle.zst_block.specs.Blocks.{Has}
+use Rattle.zst_block.specs.IoStates.{blocks_of, disk_of}
 use Rattle.zst_objset.proofs.LeafLaws.{look_on}
 use Rattle.zst_block.proofs.BlocksLaws.{IsBlock-length}
 use Rattle.std.proofs.lemmas.List.{places, with_items_is}
@@ -17,7 +18,7 @@ returns-then-ptr-gt-LONGEST_PAYLOAD-clause-there g c = λ bytes honest loaded th
 pub returns-in_err-read_front-clause-damaged : goal.returns-in_err-read_front-clause-damaged
 returns-in_err-read_front-clause-damaged g c = λ honest.
     let p = err_from_is_err_and c.from_residual.result c.from_residual.ensures.1 in
-    rw (p.1, p.2) (load_told (IsSeen (g.D.Disk.state c.args.io.now.disk.now).seen) (g.D.Disk.state c.args.io.now.disk.now).size c.args.ptr.now _ (c.in_err-read_front.ensures.damaged honest))
+    rw (p.1, p.2) (load_told (IsSeen (disk_of c.args.io.now).seen) (disk_of c.args.io.now).size c.args.ptr.now _ (c.in_err-read_front.ensures.damaged honest))
 
 pub returns-in_err-read_front-clause-there : goal.returns-in_err-read_front-clause-there
 returns-in_err-read_front-clause-there g c = λ bytes honest loaded there less.
@@ -41,10 +42,8 @@ returns-clause-damaged g c = λ honest. tt
 
 pub returns-clause-loaded : goal.returns-clause-loaded
 returns-clause-loaded g c = λ bytes honest loaded there.
-    let old = g.D.Disk.state c.args.io.now.disk.now in
-    let new = g.D.Disk.state c.read_front.new.io.disk.now in
     let ptr = c.args.ptr.now in
     let read = c.read_front.new.room in
-    let here = subst (λ (b : List ℕ). Has old.seen c.args.io.now.space ptr b) (sym (c.in_ok-read_front.ensures.there bytes honest there)) there in
-    subst (λ (l : List ℕ). Has new.seen c.read_front.new.io.space ptr (take ptr.length l)) (sym (with_items_is c.args.self.now.bytes read (search (rules, places))))
-    (look_on (λ (seen : List ℕ) (space : FreeSectors). Has seen space ptr (take ptr.length read)) _ _ _ _ _ _ _ c.in_ok-read_front.ensures.looks here)
+    let here = subst (blocks_of c.args.io.now ptr) (sym (c.in_ok-read_front.ensures.there bytes honest there)) there in
+    subst (λ (l : List ℕ). blocks_of c.read_front.new.io ptr (take ptr.length l)) (sym (with_items_is c.args.self.now.bytes read (search (rules, places))))
+    (look_on (λ (seen : List ℕ) (space : FreeSectors). Has seen space ptr (take ptr.length read)) c.in_ok-read_front.ensures.looks here)

@@ -2,6 +2,7 @@ use Rattle.std.proofs.Common.{◌≡◌, ℕ, ◌+◌, List, ◌++◌, take, dro
 use Rattle.std.proofs.lemmas.List.{take-append-drop, length-take-le}
 use Rattle.zst_space.specs.FreeSectors.{FreeSectors}
 use Rattle.zst_block.specs.Blocks.{Has}
+use Rattle.zst_block.specs.IoStates.{blocks_of, disk_of}
 use Rattle.zst_model.specs.sends.Inclusion.{Choice}
 use Rattle.zst_model.specs.sends.View.{view_of}
 use Rattle.zst_objset.proofs.LeafLaws.{look_on}
@@ -32,9 +33,9 @@ pub returns-clause-takes_from : goal.returns-clause-takes_from
 returns-clause-takes_from g c = λ sent start given left honest sends.
     let snap = sent.snapshot.objects in
     let to : ℕ = c.args.self.now.subject.to in
-    let at = subst (λ (choice : Choice). StandsAt (Has (g.D.Disk.state c.args.pool.now.io.disk.now).seen c.args.pool.now.io.space) snap (view_of (begun sent start) snap choice) to c.args.self.now.stand left) sends.choice sends.stands in
+    let at = subst (λ (choice : Choice). StandsAt (blocks_of c.args.pool.now.io) snap (view_of (begun sent start) snap choice) to c.args.self.now.stand left) sends.choice sends.stands in
     let fills = c.in_ok-count.ensures.fills (begun sent start) snap left honest sends.holds sends.loaded at in
-    let had = subst (λ (choice : Choice). HasPut (Has (g.D.Disk.state c.args.pool.now.io.disk.now).seen c.args.pool.now.io.space) snap (view_of (begun sent start) snap choice) (stated_point start) (length (front_of (begun sent start))) sends.put (length given) c.args.self.now.stand) sends.choice sends.has_put in
+    let had = subst (λ (choice : Choice). HasPut (blocks_of c.args.pool.now.io) snap (view_of (begun sent start) snap choice) (stated_point start) (length (front_of (begun sent start))) sends.put (length given) c.args.self.now.stand) sends.choice sends.has_put in
     let puts = c.in_ok-count.ensures.puts (begun sent start) snap (stated_point start) (length (front_of (begun sent start))) sends.put (length given) honest sends.holds had in
     let less : c.in_ok-count.count ≤ length left = omega (arith, fills.count_is) in
     let long : length (given ++ take c.in_ok-count.count left) ≡ length given + c.in_ok-count.count = length-append given (take c.in_ok-count.count left) ∙ ap (λ (n : ℕ). length given + n) (length-take-le c.in_ok-count.count left less) in (
@@ -42,13 +43,13 @@ returns-clause-takes_from g c = λ sent start given left honest sends.
       fills.given,
       record {
         text = append_assoc given (take c.in_ok-count.count left) (drop c.in_ok-count.count left) ∙ ap (λ (l : List ℕ). given ++ l) (take-append-drop c.in_ok-count.count left) ∙ sends.text;
-        holds = look_on (λ (seen : List ℕ) (space : FreeSectors). SetHolds (Has seen space) c.args.self.now.subject.set snap) _ _ _ _ _ _ _ c.in_ok-count.ensures.looks sends.holds;
+        holds = look_on (λ (seen : List ℕ) (space : FreeSectors). SetHolds (Has seen space) c.args.self.now.subject.set snap) c.in_ok-count.ensures.looks sends.holds;
         choice = sends.choice;
         to = sends.to;
-        stands = subst (λ (choice : Choice). StandsAt (Has (g.D.Disk.state c.fill.new.io.disk.now).seen c.fill.new.io.space) snap (view_of (begun sent start) snap choice) to c.fill.new.self (drop c.in_ok-count.count left)) (sym sends.choice) fills.stands;
+        stands = subst (λ (choice : Choice). StandsAt (blocks_of c.fill.new.io) snap (view_of (begun sent start) snap choice) to c.fill.new.self (drop c.in_ok-count.count left)) (sym sends.choice) fills.stands;
         put = sends.put ++ puts.more;
-        has_put = subst (λ (n : ℕ). HasPut (Has (g.D.Disk.state c.fill.new.io.disk.now).seen c.fill.new.io.space) snap (begun_view sent start) (stated_point start) (length (front_of (begun sent start))) (sends.put ++ puts.more) n c.fill.new.self) (sym long)
-            (subst (λ (choice : Choice). HasPut (Has (g.D.Disk.state c.fill.new.io.disk.now).seen c.fill.new.io.space) snap (view_of (begun sent start) snap choice) (stated_point start) (length (front_of (begun sent start))) (sends.put ++ puts.more) (length given + c.in_ok-count.count) c.fill.new.self) (sym sends.choice) puts.now);
+        has_put = subst (λ (n : ℕ). HasPut (blocks_of c.fill.new.io) snap (begun_view sent start) (stated_point start) (length (front_of (begun sent start))) (sends.put ++ puts.more) n c.fill.new.self) (sym long)
+            (subst (λ (choice : Choice). HasPut (blocks_of c.fill.new.io) snap (view_of (begun sent start) snap choice) (stated_point start) (length (front_of (begun sent start))) (sends.put ++ puts.more) (length given + c.in_ok-count.count) c.fill.new.self) (sym sends.choice) puts.now);
         loaded = c.in_ok-count.ensures.loaded (begun sent start) snap left honest sends.holds sends.loaded at;
       },
     )
@@ -65,10 +66,10 @@ take_refused blocks.DiskFault none never = tt
 pub returns-in_err-count-clause-takes_from : goal.returns-in_err-count-clause-takes_from
 returns-in_err-count-clause-takes_from g c = λ sent start given left honest sends.
     let snap = sent.snapshot.objects in
-    let at = subst (λ (choice : Choice). StandsAt (Has (g.D.Disk.state c.args.pool.now.io.disk.now).seen c.args.pool.now.io.space) snap (view_of (begun sent start) snap choice) c.args.self.now.subject.to c.args.self.now.stand left) sends.choice sends.stands in
-    let same = look_on (λ (seen : List ℕ) (space : FreeSectors). SendsFrom (Has seen space) c.args.self.now sent start given left) _ _ _ _ _ _ _ c.in_err-count.ensures.looks sends in
+    let at = subst (λ (choice : Choice). StandsAt (blocks_of c.args.pool.now.io) snap (view_of (begun sent start) snap choice) c.args.self.now.subject.to c.args.self.now.stand left) sends.choice sends.stands in
+    let same = look_on (λ (seen : List ℕ) (space : FreeSectors). SendsFrom (Has seen space) c.args.self.now sent start given left) c.in_err-count.ensures.looks sends in
     let loaded = c.in_err-count.ensures.loaded (begun sent start) snap left honest sends.holds sends.loaded at in
-    let still : SendsFrom (Has (g.D.Disk.state c.fill.new.io.disk.now).seen c.fill.new.io.space) (record c.args.self.now { room = c.fill.new.room }) sent start given left =
+    let still : SendsFrom (blocks_of c.fill.new.io) (record c.args.self.now { room = c.fill.new.room }) sent start given left =
     record { text = same.text; holds = same.holds; choice = same.choice; to = same.to; stands = same.stands; put = same.put; has_put = same.has_put; loaded = loaded } in
     let fills = c.in_err-count.ensures.fills (begun sent start) snap left honest sends.holds sends.loaded at in
     let p = err_from_is_err_and c.from_residual.result c.from_residual.ensures.1 in
@@ -81,7 +82,7 @@ pub returns-in_err-count-clause-damaged : goal.returns-in_err-count-clause-damag
 returns-in_err-count-clause-damaged g c = λ images among honest was.
     let p = err_from_is_err_and c.from_residual.result c.from_residual.ensures.1 in
     let told = c.in_err-count.ensures.damaged images among honest was in
-    let Is = IsDamagedSend (IsAmong images) (g.D.Disk.state c.args.pool.now.io.disk.now).size c.args.self.now.subject.set in
+    let Is = IsDamagedSend (IsAmong images) (disk_of c.args.pool.now.io).size c.args.self.now.subject.set in
     rw (p.1, p.2) (set_told Is Is (λ sector stated found damaged. damaged) (Unit {0}) (set_faults.Block c.in_err-count.field-0.0) told)
 
 pub returns-in_err-count-clause-unplanned : goal.returns-in_err-count-clause-unplanned
@@ -101,11 +102,11 @@ returns-in_err-count-clause-pays g c = λ sent start given left honest sends tig
 pub returns-clause-pays : goal.returns-clause-pays
 returns-clause-pays g c = λ sent start given left honest sends tight.
     let snap = sent.snapshot.objects in
-    let has = Has (g.D.Disk.state c.args.pool.now.io.disk.now).seen c.args.pool.now.io.space in
+    let has = blocks_of c.args.pool.now.io in
     let had = subst (λ (choice : Choice). HasPut has snap (view_of (begun sent start) snap choice) (stated_point start) (length (front_of (begun sent start))) sends.put (length given) c.args.self.now.stand) sends.choice sends.has_put in
     let puts = c.in_ok-count.ensures.puts (begun sent start) snap (stated_point start) (length (front_of (begun sent start))) sends.put (length given) honest sends.holds had in
     let pays = take_pays _ snap (view_of (begun sent start) snap (choice_after c.args.self.now.subject.source)) _ (stated_point start) (length (front_of (begun sent start))) sends.put (length given) c.in_ok-count.count c.args.self.now.stand c.fill.new.self _ _ tight puts in
-    subst (λ (choice : Choice). (g.D.Disk.state c.fill.new.io.disk.now).calls ≤ (g.D.Disk.state c.args.pool.now.io.disk.now).calls
+    subst (λ (choice : Choice). (disk_of c.fill.new.io).calls ≤ (disk_of c.args.pool.now.io).calls
     + (64 * (cells_in snap (touched (length given) c.in_ok-count.count (length (front_of (begun sent start))) (items (view_of (begun sent start) snap choice) (stated_point start))) + 2) + blocks_in (touched (length given) c.in_ok-count.count (length (front_of (begun sent start))) (items (view_of (begun sent start) snap choice) (stated_point start))))) (sym sends.choice) pays
 
 pub returns-then-pool-clause-ahead : goal.returns-then-pool-clause-ahead
@@ -119,12 +120,12 @@ returns-in_err-count-clause-ahead g c = λ sent start given left honest sends ti
 pub returns-clause-ahead : goal.returns-clause-ahead
 returns-clause-ahead g c = λ sent start given left honest sends tight.
     let snap = sent.snapshot.objects in
-    let has = Has (g.D.Disk.state c.args.pool.now.io.disk.now).seen c.args.pool.now.io.space in
+    let has = blocks_of c.args.pool.now.io in
     let had = subst (λ (choice : Choice). HasPut has snap (view_of (begun sent start) snap choice) (stated_point start) (length (front_of (begun sent start))) sends.put (length given) c.args.self.now.stand) sends.choice sends.has_put in
     let puts = c.in_ok-count.ensures.puts (begun sent start) snap (stated_point start) (length (front_of (begun sent start))) sends.put (length given) honest sends.holds had in
     let pays = take_puts has _ snap (view_of (begun sent start) snap (choice_after c.args.self.now.subject.source)) _ (stated_point start) (length (front_of (begun sent start))) sends.put (length given) c.in_ok-count.count c.args.self.now.stand c.fill.new.self _ _ tight had puts in (
       had.later,
       subst (λ (choice : Choice). AreLeft has snap (view_of (begun sent start) snap choice) c.args.self.now.stand.walk c.args.self.now.stand.ended had.later) (sym sends.choice) had.are_left,
-      subst (λ (choice : Choice). Pays (Has (g.D.Disk.state c.fill.new.io.disk.now).seen c.fill.new.io.space) snap (view_of (begun sent start) snap choice) had.later c.args.self.now.stand c.fill.new.self
-          ((g.D.Disk.state c.args.pool.now.io.disk.now).calls + 1) (g.D.Disk.state c.fill.new.io.disk.now).calls) (sym sends.choice) pays,
+      subst (λ (choice : Choice). Pays (blocks_of c.fill.new.io) snap (view_of (begun sent start) snap choice) had.later c.args.self.now.stand c.fill.new.self
+          ((disk_of c.args.pool.now.io).calls + 1) (disk_of c.fill.new.io).calls) (sym sends.choice) pays,
     )

@@ -3,6 +3,7 @@ use Rattle.std.specs.Prelude.{Option, Some, None, true}
 use Rattle.std.proofs.lemmas.Result.{err_from_is_err_and}
 use Rattle.zst_space.specs.FreeSectors.{FreeSectors}
 use Rattle.zst_block.specs.Blocks.{Has}
+use Rattle.zst_block.specs.IoStates.{blocks_of}
 use Rattle.zst_block.proofs.IoCallLemmas.{Looks-then}
 use Rattle.zst_model.specs.sends.View.{View, view_of}
 use Rattle.zst_objset.proofs.LeafLaws.{look_on}
@@ -33,8 +34,8 @@ returns-in_err-self-in-Some-clause-advances g c = λ header snap left honest hol
     let p = err_from_is_err_and c.from_residual-in_err-self-in-Some.result c.from_residual-in_err-self-in-Some.ensures.1 in
     let on = continues _ snap view c.args.subject.now.to c.args.self.now left at c.requires.stand c.requires.given c.if-self.false in
     let was = c.in_err-self-in-Some.ensures.looks.reads.honest honest in
-    let still = look_on (λ (seen : List ℕ) (space : FreeSectors). IsLoaded (Has seen space) c.args.room.now) _ _ _ _ _ _ _ c.in_ok-due.ensures.looks loaded in
-    let gives = subst (λ (d : Option DueItems). Gives (Has (g.D.Disk.state c.next.new.io.disk.now).seen c.next.new.io.space) snap view (items_left view c.args.self.now.walk on.held) c.next.new.self d) c.in-Some.is (c.in_ok-due.ensures.gives header snap on.held was holds on.walk) in
+    let still = look_on (λ (seen : List ℕ) (space : FreeSectors). IsLoaded (Has seen space) c.args.room.now) c.in_ok-due.ensures.looks loaded in
+    let gives = subst (λ (d : Option DueItems). Gives (blocks_of c.next.new.io) snap view (items_left view c.args.self.now.walk on.held) c.next.new.self d) c.in-Some.is (c.in_ok-due.ensures.gives header snap on.held was holds on.walk) in
     rw (p.1, p.2) (c.in_err-self-in-Some.ensures.put on.text gives.0 honest still on.written gives.2)
 
 pub returns-in_err-self-in-Some-clause-loaded : goal.returns-in_err-self-in-Some-clause-loaded
@@ -42,8 +43,8 @@ returns-in_err-self-in-Some-clause-loaded g c = λ header snap left honest holds
     let view : View = view_of header snap (choice_after c.args.subject.now.source) in
     let on = continues _ snap view c.args.subject.now.to c.args.self.now left at c.requires.stand c.requires.given c.if-self.false in
     let was = c.in_err-self-in-Some.ensures.looks.reads.honest honest in
-    let still = look_on (λ (seen : List ℕ) (space : FreeSectors). IsLoaded (Has seen space) c.args.room.now) _ _ _ _ _ _ _ c.in_ok-due.ensures.looks loaded in
-    let gives = subst (λ (d : Option DueItems). Gives (Has (g.D.Disk.state c.next.new.io.disk.now).seen c.next.new.io.space) snap view (items_left view c.args.self.now.walk on.held) c.next.new.self d) c.in-Some.is (c.in_ok-due.ensures.gives header snap on.held was holds on.walk) in
+    let still = look_on (λ (seen : List ℕ) (space : FreeSectors). IsLoaded (Has seen space) c.args.room.now) c.in_ok-due.ensures.looks loaded in
+    let gives = subst (λ (d : Option DueItems). Gives (blocks_of c.next.new.io) snap view (items_left view c.args.self.now.walk on.held) c.next.new.self d) c.in-Some.is (c.in_ok-due.ensures.gives header snap on.held was holds on.walk) in
     c.in_err-self-in-Some.ensures.loaded gives.0 honest still gives.2
 
 pub returns-in_ok-self-in-Some-clause-advances : goal.returns-in_ok-self-in-Some-clause-advances
@@ -51,10 +52,10 @@ returns-in_ok-self-in-Some-clause-advances g c = λ header snap left honest hold
     let view : View = view_of header snap (choice_after c.args.subject.now.source) in
     let on = continues _ snap view c.args.subject.now.to c.args.self.now left at c.requires.stand c.requires.given c.if-self.false in
     let was = c.in_ok-self-in-Some.ensures.looks.reads.honest honest in
-    let still = look_on (λ (seen : List ℕ) (space : FreeSectors). IsLoaded (Has seen space) c.args.room.now) _ _ _ _ _ _ _ c.in_ok-due.ensures.looks loaded in
-    let gives = subst (λ (d : Option DueItems). Gives (Has (g.D.Disk.state c.next.new.io.disk.now).seen c.next.new.io.space) snap view (items_left view c.args.self.now.walk on.held) c.next.new.self d) c.in-Some.is (c.in_ok-due.ensures.gives header snap on.held was holds on.walk) in
+    let still = look_on (λ (seen : List ℕ) (space : FreeSectors). IsLoaded (Has seen space) c.args.room.now) c.in_ok-due.ensures.looks loaded in
+    let gives = subst (λ (d : Option DueItems). Gives (blocks_of c.next.new.io) snap view (items_left view c.args.self.now.walk on.held) c.next.new.self d) c.in-Some.is (c.in_ok-due.ensures.gives header snap on.held was holds on.walk) in
     let put = c.in_ok-self-in-Some.ensures.put on.text gives.0 honest still on.written gives.2 in
-    let walk = look_on (λ (seen : List ℕ) (space : FreeSectors). IsWalk (Has seen space) snap c.next.new.self gives.1) _ _ _ _ _ _ _ c.in_ok-self-in-Some.ensures.looks gives.3 in
+    let walk = look_on (λ (seen : List ℕ) (space : FreeSectors). IsWalk (Has seen space) snap c.next.new.self gives.1) c.in_ok-self-in-Some.ensures.looks gives.3 in
     item_put _ snap view c.args.subject.now.to left on.text (items_left view c.args.self.now.walk on.held) gives.0 gives.1
     (record { walk = c.next.new.self; writer = c.put.new.writer; work = c.in_ok-self-in-Some.field-0; ended = c.args.self.now.ended }) on.left_is gives.4 walk put c.if-self.false
 
@@ -63,15 +64,15 @@ returns-in_ok-self-in-Some-clause-loaded g c = λ header snap left honest holds 
     let view : View = view_of header snap (choice_after c.args.subject.now.source) in
     let on = continues _ snap view c.args.subject.now.to c.args.self.now left at c.requires.stand c.requires.given c.if-self.false in
     let was = c.in_ok-self-in-Some.ensures.looks.reads.honest honest in
-    let still = look_on (λ (seen : List ℕ) (space : FreeSectors). IsLoaded (Has seen space) c.args.room.now) _ _ _ _ _ _ _ c.in_ok-due.ensures.looks loaded in
-    let gives = subst (λ (d : Option DueItems). Gives (Has (g.D.Disk.state c.next.new.io.disk.now).seen c.next.new.io.space) snap view (items_left view c.args.self.now.walk on.held) c.next.new.self d) c.in-Some.is (c.in_ok-due.ensures.gives header snap on.held was holds on.walk) in
+    let still = look_on (λ (seen : List ℕ) (space : FreeSectors). IsLoaded (Has seen space) c.args.room.now) c.in_ok-due.ensures.looks loaded in
+    let gives = subst (λ (d : Option DueItems). Gives (blocks_of c.next.new.io) snap view (items_left view c.args.self.now.walk on.held) c.next.new.self d) c.in-Some.is (c.in_ok-due.ensures.gives header snap on.held was holds on.walk) in
     c.in_ok-self-in-Some.ensures.loaded gives.0 honest still gives.2
 
 pub returns-in-None-clause-advances : goal.returns-in-None-clause-advances
 returns-in-None-clause-advances g c = λ header snap left honest holds loaded at.
     let view : View = view_of header snap (choice_after c.args.subject.now.source) in
     let on = continues _ snap view c.args.subject.now.to c.args.self.now left at c.requires.stand c.requires.given c.if-self.false in
-    let gives = subst (λ (d : Option DueItems). Gives (Has (g.D.Disk.state c.next.new.io.disk.now).seen c.next.new.io.space) snap view (items_left view c.args.self.now.walk on.held) c.next.new.self d) c.in-None.is (c.in_ok-due.ensures.gives header snap on.held honest holds on.walk) in
+    let gives = subst (λ (d : Option DueItems). Gives (blocks_of c.next.new.io) snap view (items_left view c.args.self.now.walk on.held) c.next.new.self d) c.in-None.is (c.in_ok-due.ensures.gives header snap on.held honest holds on.walk) in
     end_put _ snap view c.args.subject.now.to left on.text _ (items_left view c.args.self.now.walk on.held)
     (record { walk = c.next.new.self; writer = c.alone-self.new.writer; work = c.alone-self.result; ended = true }) on.left_is gives.0
     (c.alone-self.ensures.written on.text on.written) (c.alone-self.ensures.head on.text on.written) c.alone-self.ensures.payload c.alone-self.ensures.given refl
@@ -127,9 +128,9 @@ pub returns-in_ok-self-in-Some-clause-puts : goal.returns-in_ok-self-in-Some-cla
 returns-in_ok-self-in-Some-clause-puts g c = λ header snap point front put place honest holds had.
     let view : View = view_of header snap (choice_after c.args.subject.now.source) in
     let was = c.in_ok-self-in-Some.ensures.looks.reads.honest honest in
-    let on = subst (λ (e : Bool). AreLeft (Has (g.D.Disk.state c.args.io.now.disk.now).seen c.args.io.now.space) snap view c.args.self.now.walk e had.later) c.if-self.false had.are_left in
-    let gives = subst (λ (d : Option DueItems). Gives (Has (g.D.Disk.state c.next.new.io.disk.now).seen c.next.new.io.space) snap view (items_left view c.args.self.now.walk on.0) c.next.new.self d) c.in-Some.is (c.in_ok-due.ensures.gives header snap on.0 was holds on.1) in
-    let walk = look_on (λ (seen : List ℕ) (space : FreeSectors). IsWalk (Has seen space) snap c.next.new.self gives.1) _ _ _ _ _ _ _ c.in_ok-self-in-Some.ensures.looks gives.3 in
+    let on = subst (λ (e : Bool). AreLeft (blocks_of c.args.io.now) snap view c.args.self.now.walk e had.later) c.if-self.false had.are_left in
+    let gives = subst (λ (d : Option DueItems). Gives (blocks_of c.next.new.io) snap view (items_left view c.args.self.now.walk on.0) c.next.new.self d) c.in-Some.is (c.in_ok-due.ensures.gives header snap on.0 was holds on.1) in
+    let walk = look_on (λ (seen : List ℕ) (space : FreeSectors). IsWalk (Has seen space) snap c.next.new.self gives.1) c.in_ok-self-in-Some.ensures.looks gives.3 in
     let at = put_ends _ snap view point front put place c.args.self.now had c.if-self.false c.requires.given in
     let new : SendState = record { walk = c.next.new.self; writer = c.put.new.writer; work = c.in_ok-self-in-Some.field-0; ended = c.args.self.now.ended } in
     record {
@@ -147,8 +148,8 @@ returns-in_ok-self-in-Some-clause-puts g c = λ header snap point front put plac
 pub returns-in-None-clause-puts : goal.returns-in-None-clause-puts
 returns-in-None-clause-puts g c = λ header snap point front put place honest holds had.
     let view : View = view_of header snap (choice_after c.args.subject.now.source) in
-    let on = subst (λ (e : Bool). AreLeft (Has (g.D.Disk.state c.args.io.now.disk.now).seen c.args.io.now.space) snap view c.args.self.now.walk e had.later) c.if-self.false had.are_left in
-    let gives = subst (λ (d : Option DueItems). Gives (Has (g.D.Disk.state c.next.new.io.disk.now).seen c.next.new.io.space) snap view (items_left view c.args.self.now.walk on.0) c.next.new.self d) c.in-None.is (c.in_ok-due.ensures.gives header snap on.0 honest holds on.1) in
+    let on = subst (λ (e : Bool). AreLeft (blocks_of c.args.io.now) snap view c.args.self.now.walk e had.later) c.if-self.false had.are_left in
+    let gives = subst (λ (d : Option DueItems). Gives (blocks_of c.next.new.io) snap view (items_left view c.args.self.now.walk on.0) c.next.new.self d) c.in-None.is (c.in_ok-due.ensures.gives header snap on.0 honest holds on.1) in
     let at = put_ends _ snap view point front put place c.args.self.now had c.if-self.false c.requires.given in
     let new : SendState = record { walk = c.next.new.self; writer = c.alone-self.new.writer; work = c.alone-self.result; ended = true } in
     record {
@@ -164,7 +165,7 @@ returns-in-None-clause-puts g c = λ header snap point front put place honest ho
 
 pub returns-in_err-due-clause-loaded : goal.returns-in_err-due-clause-loaded
 returns-in_err-due-clause-loaded g c = λ header snap left honest holds loaded at.
-    look_on (λ (seen : List ℕ) (space : FreeSectors). IsLoaded (Has seen space) c.args.room.now) _ _ _ _ _ _ _ c.in_err-due.ensures.looks loaded
+    look_on (λ (seen : List ℕ) (space : FreeSectors). IsLoaded (Has seen space) c.args.room.now) c.in_err-due.ensures.looks loaded
 
 pub returns-in_err-due-clause-looks : goal.returns-in_err-due-clause-looks
 returns-in_err-due-clause-looks g c =
@@ -184,7 +185,7 @@ returns-in_ok-self-in-Some-clause-kept g c = λ held. c.in_ok-self-in-Some.ensur
 
 pub returns-in-None-clause-loaded : goal.returns-in-None-clause-loaded
 returns-in-None-clause-loaded g c = λ header snap left honest holds loaded at.
-    look_on (λ (seen : List ℕ) (space : FreeSectors). IsLoaded (Has seen space) c.args.room.now) _ _ _ _ _ _ _ c.in_ok-due.ensures.looks loaded
+    look_on (λ (seen : List ℕ) (space : FreeSectors). IsLoaded (Has seen space) c.args.room.now) c.in_ok-due.ensures.looks loaded
 
 pub returns-in-None-clause-looks : goal.returns-in-None-clause-looks
 returns-in-None-clause-looks g c = c.in_ok-due.ensures.looks

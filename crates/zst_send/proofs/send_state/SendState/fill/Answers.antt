@@ -4,6 +4,7 @@ use Rattle.std.specs.Prelude.{Ok}
 use Rattle.std.proofs.lemmas.Result.{err_from_is_err_and}
 use Rattle.zst_space.specs.FreeSectors.{FreeSectors}
 use Rattle.zst_block.specs.Blocks.{Has}
+use Rattle.zst_block.specs.IoStates.{blocks_of, disk_of}
 use Rattle.zst_block.proofs.IoCallLemmas.{Looks-then}
 use Rattle.zst_model.specs.sends.View.{View, view_of}
 use Rattle.zst_objset.proofs.LeafLaws.{look_back, look_on}
@@ -25,14 +26,14 @@ pub returns-in_err-has_more-clause-fills : goal.returns-in_err-has_more-clause-f
 returns-in_err-has_more-clause-fills g c = λ header snap left honest holds loaded at.
     let p = err_from_is_err_and c.from_residual.result c.from_residual.ensures.1 in
     let was = c.in_err-has_more.ensures.looks.reads.honest honest in
-    let on = look_on (λ (seen : List ℕ) (space : FreeSectors). SetHolds (Has seen space) c.args.subject.now.set snap) _ _ _ _ _ _ _ c.loop-count.invariant.looks holds in
+    let on = look_on (λ (seen : List ℕ) (space : FreeSectors). SetHolds (Has seen space) c.args.subject.now.set snap) c.loop-count.invariant.looks holds in
     let given = c.loop-count.invariant.stands header snap left was holds loaded at in
     rw (p.1, p.2) (c.in_err-has_more.ensures.advances header snap (drop c.loop-count.count left) honest on given.loaded given.stands)
 
 pub returns-in_err-has_more-clause-loaded : goal.returns-in_err-has_more-clause-loaded
 returns-in_err-has_more-clause-loaded g c = λ header snap left honest holds loaded at.
     let was = c.in_err-has_more.ensures.looks.reads.honest honest in
-    let on = look_on (λ (seen : List ℕ) (space : FreeSectors). SetHolds (Has seen space) c.args.subject.now.set snap) _ _ _ _ _ _ _ c.loop-count.invariant.looks holds in
+    let on = look_on (λ (seen : List ℕ) (space : FreeSectors). SetHolds (Has seen space) c.args.subject.now.set snap) c.loop-count.invariant.looks holds in
     let given = c.loop-count.invariant.stands header snap left was holds loaded at in
     c.in_err-has_more.ensures.loaded header snap (drop c.loop-count.count left) honest on given.loaded given.stands
 
@@ -40,15 +41,15 @@ pub returns-then-not-branch-clause-fills : goal.returns-then-not-branch-clause-f
 returns-then-not-branch-clause-fills g c = λ header snap left honest holds loaded at.
     let view : View = view_of header snap (choice_after c.args.subject.now.source) in
     let was = c.in_ok-has_more.ensures.looks.reads.honest honest in
-    let on = look_on (λ (seen : List ℕ) (space : FreeSectors). SetHolds (Has seen space) c.args.subject.now.set snap) _ _ _ _ _ _ _ c.loop-count.invariant.looks holds in
+    let on = look_on (λ (seen : List ℕ) (space : FreeSectors). SetHolds (Has seen space) c.args.subject.now.set snap) c.loop-count.invariant.looks holds in
     let given = c.loop-count.invariant.stands header snap left was holds loaded at in
-    let ended = subst (λ (b : Bool). Advances (Has (g.D.Disk.state c.has_more.new.io.disk.now).seen c.has_more.new.io.space) snap view c.args.subject.now.to (drop c.loop-count.count left) c.has_more.new.self b) c.if-not-branch.true (c.in_ok-has_more.ensures.advances header snap (drop c.loop-count.count left) honest on given.loaded given.stands) in
+    let ended = subst (λ (b : Bool). Advances (blocks_of c.has_more.new.io) snap view c.args.subject.now.to (drop c.loop-count.count left) c.has_more.new.self b) c.if-not-branch.true (c.in_ok-has_more.ensures.advances header snap (drop c.loop-count.count left) honest on given.loaded given.stands) in
     filled_all _ snap view c.args.subject.now.to left c.loop-count.into c.loop-count.count c.has_more.new.self given.less given.same c.loop-count.invariant.count ended.0 ended.1
 
 pub returns-then-not-branch-clause-loaded : goal.returns-then-not-branch-clause-loaded
 returns-then-not-branch-clause-loaded g c = λ header snap left honest holds loaded at.
     let was = c.in_ok-has_more.ensures.looks.reads.honest honest in
-    let on = look_on (λ (seen : List ℕ) (space : FreeSectors). SetHolds (Has seen space) c.args.subject.now.set snap) _ _ _ _ _ _ _ c.loop-count.invariant.looks holds in
+    let on = look_on (λ (seen : List ℕ) (space : FreeSectors). SetHolds (Has seen space) c.args.subject.now.set snap) c.loop-count.invariant.looks holds in
     let given = c.loop-count.invariant.stands header snap left was holds loaded at in
     c.in_ok-has_more.ensures.loaded header snap (drop c.loop-count.count left) honest on given.loaded given.stands
 
@@ -57,9 +58,9 @@ returns-in_err-count-clause-fills g c = λ header snap left honest holds loaded 
     let p = err_from_is_err_and c.from_residual-in_err-count.result c.from_residual-in_err-count.ensures.1 in
     let mid = c.in_err-count.ensures.looks.reads.honest honest in
     let was = c.in_ok-has_more.ensures.looks.reads.honest mid in
-    let on = look_on (λ (seen : List ℕ) (space : FreeSectors). SetHolds (Has seen space) c.args.subject.now.set snap) _ _ _ _ _ _ _ c.loop-count.invariant.looks holds in
+    let on = look_on (λ (seen : List ℕ) (space : FreeSectors). SetHolds (Has seen space) c.args.subject.now.set snap) c.loop-count.invariant.looks holds in
     let given = c.loop-count.invariant.stands header snap left was holds loaded at in
-    let at_next = subst (λ (b : Bool). Advances (Has (g.D.Disk.state c.has_more.new.io.disk.now).seen c.has_more.new.io.space) snap (view_of header snap (choice_after c.args.subject.now.source)) c.args.subject.now.to (drop c.loop-count.count left) c.has_more.new.self b) c.if-not-branch.false (c.in_ok-has_more.ensures.advances header snap (drop c.loop-count.count left) mid on given.loaded given.stands) in
+    let at_next = subst (λ (b : Bool). Advances (blocks_of c.has_more.new.io) snap (view_of header snap (choice_after c.args.subject.now.source)) c.args.subject.now.to (drop c.loop-count.count left) c.has_more.new.self b) c.if-not-branch.false (c.in_ok-has_more.ensures.advances header snap (drop c.loop-count.count left) mid on given.loaded given.stands) in
     let still = c.in_ok-has_more.ensures.loaded header snap (drop c.loop-count.count left) mid on given.loaded given.stands in
     rw (p.1, p.2) (c.in_err-count.ensures.gives at_next.pending honest still at_next.work)
 
@@ -67,9 +68,9 @@ pub returns-in_err-count-clause-loaded : goal.returns-in_err-count-clause-loaded
 returns-in_err-count-clause-loaded g c = λ header snap left honest holds loaded at.
     let mid = c.in_err-count.ensures.looks.reads.honest honest in
     let was = c.in_ok-has_more.ensures.looks.reads.honest mid in
-    let on = look_on (λ (seen : List ℕ) (space : FreeSectors). SetHolds (Has seen space) c.args.subject.now.set snap) _ _ _ _ _ _ _ c.loop-count.invariant.looks holds in
+    let on = look_on (λ (seen : List ℕ) (space : FreeSectors). SetHolds (Has seen space) c.args.subject.now.set snap) c.loop-count.invariant.looks holds in
     let given = c.loop-count.invariant.stands header snap left was holds loaded at in
-    let at_next = subst (λ (b : Bool). Advances (Has (g.D.Disk.state c.has_more.new.io.disk.now).seen c.has_more.new.io.space) snap (view_of header snap (choice_after c.args.subject.now.source)) c.args.subject.now.to (drop c.loop-count.count left) c.has_more.new.self b) c.if-not-branch.false (c.in_ok-has_more.ensures.advances header snap (drop c.loop-count.count left) mid on given.loaded given.stands) in
+    let at_next = subst (λ (b : Bool). Advances (blocks_of c.has_more.new.io) snap (view_of header snap (choice_after c.args.subject.now.source)) c.args.subject.now.to (drop c.loop-count.count left) c.has_more.new.self b) c.if-not-branch.false (c.in_ok-has_more.ensures.advances header snap (drop c.loop-count.count left) mid on given.loaded given.stands) in
     let still = c.in_ok-has_more.ensures.loaded header snap (drop c.loop-count.count left) mid on given.loaded given.stands in
     c.in_err-count.ensures.loaded at_next.pending honest still at_next.work
 
@@ -83,8 +84,6 @@ loop-count-init g c = record {
   into = search rules;
   count = search rules;
   looks = search rules;
-  fits = search rules;
-  same = search rules;
 }
 
 pub loop-count-preserved : goal.loop-count-preserved
@@ -92,32 +91,32 @@ loop-count-preserved g c = record {
   stands = λ header snap left honest holds loaded at.
       let mid = c.in_ok-count.ensures.looks.reads.honest honest in
       let was = c.in_ok-has_more.ensures.looks.reads.honest mid in
-      let on = look_on (λ (seen : List ℕ) (space : FreeSectors). SetHolds (Has seen space) c.args.subject.now.set snap) _ _ _ _ _ _ _ c.loop-count.invariant.looks holds in
+      let on = look_on (λ (seen : List ℕ) (space : FreeSectors). SetHolds (Has seen space) c.args.subject.now.set snap) c.loop-count.invariant.looks holds in
       let given = c.loop-count.invariant.stands header snap left was holds loaded at in
-      let at_next = subst (λ (b : Bool). Advances (Has (g.D.Disk.state c.has_more.new.io.disk.now).seen c.has_more.new.io.space) snap (view_of header snap (choice_after c.args.subject.now.source)) c.args.subject.now.to (drop c.loop-count.count left) c.has_more.new.self b) c.if-not-branch.false (c.in_ok-has_more.ensures.advances header snap (drop c.loop-count.count left) mid on given.loaded given.stands) in
+      let at_next = subst (λ (b : Bool). Advances (blocks_of c.has_more.new.io) snap (view_of header snap (choice_after c.args.subject.now.source)) c.args.subject.now.to (drop c.loop-count.count left) c.has_more.new.self b) c.if-not-branch.false (c.in_ok-has_more.ensures.advances header snap (drop c.loop-count.count left) mid on given.loaded given.stands) in
       let still = c.in_ok-has_more.ensures.loaded header snap (drop c.loop-count.count left) mid on given.loaded given.stands in
       let gives = c.in_ok-count.ensures.gives at_next.pending honest still at_next.work in
-      let work = look_back (λ (seen : List ℕ) (space : FreeSectors). IsWork (Has seen space) c.give.new.self (drop c.in_ok-count.field-0 at_next.pending)) _ _ _ _ _ _ _ c.in_ok-count.ensures.looks gives.2 in
-      let room = look_back (λ (seen : List ℕ) (space : FreeSectors). IsLoaded (Has seen space) c.give.new.room) _ _ _ _ _ _ _ c.in_ok-count.ensures.looks (c.in_ok-count.ensures.loaded at_next.pending honest still at_next.work) in
+      let work = look_back (λ (seen : List ℕ) (space : FreeSectors). IsWork (Has seen space) c.give.new.self (drop c.in_ok-count.field-0 at_next.pending)) c.in_ok-count.ensures.looks gives.2 in
+      let room = look_back (λ (seen : List ℕ) (space : FreeSectors). IsLoaded (Has seen space) c.give.new.room) c.in_ok-count.ensures.looks (c.in_ok-count.ensures.loaded at_next.pending honest still at_next.work) in
       let most : c.in_ok-count.field-0 ≤ length c.give.new.into = omega (arith, c.in_ok-count.ensures.count.1, c.in_ok-count.ensures.into) in
       let more = given_on _ snap (view_of header snap (choice_after c.args.subject.now.source)) c.args.subject.now.to left c.loop-count.into c.give.new.into c.loop-count.count c.in_ok-count.field-0 c.has_more.new.self c.give.new.self c.give.new.room
       given.less given.same c.loop-count.invariant.count at_next gives.0 gives.1 most work room in
       look_on (λ (seen : List ℕ) (space : FreeSectors). HasGiven (Has seen space) snap (view_of header snap (choice_after c.args.subject.now.source)) c.args.subject.now.to left
       (put_mid c.loop-count.count (length c.loop-count.into - c.loop-count.count) c.loop-count.into c.give.new.into) (c.loop-count.count + c.in_ok-count.field-0)
-      (record c.has_more.new.self { work = c.give.new.self }) c.give.new.room) _ _ _ _ _ _ _ c.in_ok-count.ensures.looks more;
+      (record c.has_more.new.self { work = c.give.new.self }) c.give.new.room) c.in_ok-count.ensures.looks more;
   paid = λ header snap point front put place honest holds had.
       let view : View = view_of header snap (choice_after c.args.subject.now.source) in
       let mid = c.in_ok-count.ensures.looks.reads.honest honest in
       let was = c.in_ok-has_more.ensures.looks.reads.honest mid in
-      let on = look_on (λ (seen : List ℕ) (space : FreeSectors). SetHolds (Has seen space) c.args.subject.now.set snap) _ _ _ _ _ _ _ c.loop-count.invariant.looks holds in
+      let on = look_on (λ (seen : List ℕ) (space : FreeSectors). SetHolds (Has seen space) c.args.subject.now.set snap) c.loop-count.invariant.looks holds in
       let had_paid = c.loop-count.invariant.paid header snap point front put place was holds had in
       let puts = c.in_ok-has_more.ensures.puts header snap point front (put ++ had_paid.on.more) (place + c.loop-count.count) mid on had_paid.on.now in
       let paid = paid_on _ _ snap view _ _ point front put place c.loop-count.count c.in_ok-count.field-0 c.args.self.now c.loop-count.self c.has_more.new.self c.give.new.self c.loop-count.room.holds c.has_more.new.room.holds c.give.new.room.holds _ _ _ _
-      (λ tight. look_on (λ (seen : List ℕ) (space : FreeSectors). SetIsTight (Has seen space) c.args.subject.now.set snap) _ _ _ _ _ _ _ c.loop-count.invariant.looks tight)
+      (λ tight. look_on (λ (seen : List ℕ) (space : FreeSectors). SetIsTight (Has seen space) c.args.subject.now.set snap) c.loop-count.invariant.looks tight)
       had_paid puts c.in_ok-count.ensures.payload c.in_ok-count.ensures.moved c.in_ok-count.ensures.count.0 (c.in_ok-has_more.ensures.more (ap (λ (b : Bool). Ok b) c.if-not-branch.false))
       c.in_ok-count.ensures.calls c.in_ok-count.ensures.once c.in_ok-count.ensures.kept in
-      look_on (λ (seen : List ℕ) (space : FreeSectors). Paid (Has seen space) snap view (SetIsTight (Has (g.D.Disk.state c.args.io.now.disk.now).seen c.args.io.now.space) c.args.subject.now.set snap) point front put place (c.loop-count.count + c.in_ok-count.field-0)
-      c.args.self.now (record c.has_more.new.self { work = c.give.new.self }) c.give.new.room.holds (g.D.Disk.state c.args.io.now.disk.now).calls (g.D.Disk.state c.give.new.io.disk.now).calls) _ _ _ _ _ _ _ c.in_ok-count.ensures.looks paid;
+      look_on (λ (seen : List ℕ) (space : FreeSectors). Paid (Has seen space) snap view (SetIsTight (blocks_of c.args.io.now) c.args.subject.now.set snap) point front put place (c.loop-count.count + c.in_ok-count.field-0)
+      c.args.self.now (record c.has_more.new.self { work = c.give.new.self }) c.give.new.room.holds (disk_of c.args.io.now).calls (disk_of c.give.new.io).calls) c.in_ok-count.ensures.looks paid;
   knows = λ images among honest was.
       let mid = c.in_ok-count.ensures.looks.reads.honest honest in
       let had = c.loop-count.invariant.knows images among (c.in_ok-has_more.ensures.looks.reads.honest mid) was in
@@ -128,8 +127,6 @@ loop-count-preserved g c = record {
   into = search rules;
   count = search rules;
   looks = Looks-then (Looks-then c.loop-count.invariant.looks c.in_ok-has_more.ensures.looks) c.in_ok-count.ensures.looks;
-  fits = c.in_ok-count.ensures.kept_fit;
-  same = c.in_ok-count.ensures.same ∙ c.in_ok-has_more.ensures.same ∙ c.loop-count.invariant.same;
 }
 
 pub returns-clause-fills : goal.returns-clause-fills
@@ -184,13 +181,13 @@ pub returns-then-not-branch-clause-puts : goal.returns-then-not-branch-clause-pu
 returns-then-not-branch-clause-puts g c = λ header snap point front put place honest holds had.
     let view : View = view_of header snap (choice_after c.args.subject.now.source) in
     let was = c.in_ok-has_more.ensures.looks.reads.honest honest in
-    let tight = SetIsTight (Has (g.D.Disk.state c.args.io.now.disk.now).seen c.args.io.now.space) c.args.subject.now.set snap in
-    let before : ℕ = (g.D.Disk.state c.args.io.now.disk.now).calls in
+    let tight = SetIsTight (blocks_of c.args.io.now) c.args.subject.now.set snap in
+    let before : ℕ = (disk_of c.args.io.now).calls in
     let on = (c.loop-count.invariant.paid header snap point front put place was holds had).on in
     let rests = c.in_ok-has_more.ensures.rests (ap (λ (b : Bool). Ok b) c.if-not-branch.true) in
-    look_on (λ (seen : List ℕ) (space : FreeSectors). PutsIn (Has seen space) snap view tight point front put place c.loop-count.count c.args.self.now c.has_more.new.self before (g.D.Disk.state c.has_more.new.io.disk.now).calls) _ _ _ _ _ _ _ c.in_ok-has_more.ensures.looks
-    (subst (λ (calls : ℕ). PutsIn (Has (g.D.Disk.state c.loop-count.io.disk.now).seen c.loop-count.io.space) snap view tight point front put place c.loop-count.count c.args.self.now c.has_more.new.self before calls) (sym rests.1)
-    (subst (λ (stand : SendState). PutsIn (Has (g.D.Disk.state c.loop-count.io.disk.now).seen c.loop-count.io.space) snap view tight point front put place c.loop-count.count c.args.self.now stand before (g.D.Disk.state c.loop-count.io.disk.now).calls) (sym rests.0) on))
+    look_on (λ (seen : List ℕ) (space : FreeSectors). PutsIn (Has seen space) snap view tight point front put place c.loop-count.count c.args.self.now c.has_more.new.self before (disk_of c.has_more.new.io).calls) c.in_ok-has_more.ensures.looks
+    (subst (λ (calls : ℕ). PutsIn (blocks_of c.loop-count.io) snap view tight point front put place c.loop-count.count c.args.self.now c.has_more.new.self before calls) (sym rests.1)
+    (subst (λ (stand : SendState). PutsIn (blocks_of c.loop-count.io) snap view tight point front put place c.loop-count.count c.args.self.now stand before (disk_of c.loop-count.io).calls) (sym rests.0) on))
 
 pub returns-in_err-count-clause-puts : goal.returns-in_err-count-clause-puts
 returns-in_err-count-clause-puts g c = λ header snap point front put place honest holds had.

@@ -1,6 +1,6 @@
 use Rattle.std.proofs.Common.{◌≡◌, ℕ, ◌+◌, ◌*◌, ◌<◌, ◌≤◌, List, [], ◌++◌, ◌∙◌, ap, arith, min, refl, subst}
 use Rattle.std.specs.Prelude.{Option, Some, None, Ok, Err, Result}
-use Rattle.zst_block.specs.Blocks.{Has}
+use Rattle.zst_block.specs.IoStates.{blocks_of}
 use Rattle.zst_block.specs.declared.fault.BlockFault.{BlockFault}
 use Rattle.zst_model.specs.declared.states.item.Item.{Item}
 use Rattle.zst_model.specs.sends.Items.{joined}
@@ -28,7 +28,7 @@ found_first has snap view held old new empty (Some due) (items, are, goes, of) =
 
 pub returns-in-None-clause-goes : goal.returns-in-None-clause-goes
 returns-in-None-clause-goes g c = λ header snap held honest holds walk.
-    let empty : held ≡ [] = subst (λ (h : Option DueItems). AreHeld (Has (g.D.Disk.state c.args.io.now.disk.now).seen c.args.io.now.space) h held) c.in-None.is walk.held_are in
+    let empty : held ≡ [] = subst (λ (h : Option DueItems). AreHeld (blocks_of c.args.io.now) h held) c.in-None.is walk.held_are in
     delivers_if _ _ c.find.result (found_first _ snap (view_of header snap (choice_after c.args.source)) held c.args.self.now.place c.find.new.self empty) (c.find.ensures.found header snap honest holds walk.place_is)
 
 pub returns-in-Some-clause-stands : goal.returns-in-Some-clause-stands

@@ -1,4 +1,4 @@
-use Rattle.std.proofs.Common.{ℕ, List, ap, arith, subst, sym, ◌∙◌}
+use Rattle.std.proofs.Common.{ℕ, List, ap, arith, sym, ◌∙◌}
 use Rattle.std.specs.Prelude.{Ok, Some}
 use Rattle.std.proofs.lemmas.Result.{err_from_is_err_and}
 use Rattle.zst_space.specs.FreeSectors.{FreeSectors}
@@ -12,6 +12,7 @@ use Rattle.zst_objset.specs.TightSets.{SetIsTight}
 use Rattle.zst_traverse.specs.Cells.{choice_after}
 use Rattle.zst_traverse.specs.Damage.{IsDamagedCell}
 use Rattle.zst_tree.specs.Damage.{IsSeen}
+use Rattle.zst_tree.proofs.Damage.{seen_before}
 use Rattle.zst_send.specs.Places.{ComesFirst}
 use Rattle.zst_send.proofs.LookCosts.{joined_counts, look_ahead}
 use Rattle.zst_send.proofs.ItemRuns.{RunComes, run_begins, run_ends, run_goes_on}
@@ -28,7 +29,7 @@ pub loop-both-init : goal.loop-both-init
 loop-both-init g c = record {
   comes = λ header snap left honest holds first.
       let view : View = view_of header snap (choice_after c.args.source) in
-      let on = look_on (λ (seen : List ℕ) (space : FreeSectors). ComesFirst (Has seen space) snap view left c.args.self.now.place (Some c.args.run)) _ _ _ _ _ _ _ c.in_ok-next.ensures.looks first in
+      let on = look_on (λ (seen : List ℕ) (space : FreeSectors). ComesFirst (Has seen space) snap view left c.args.self.now.place (Some c.args.run)) c.in_ok-next.ensures.looks first in
       run_begins _ snap view left c.args.self.now.place c.find.new.self c.args.run c.in_ok-next.next c.requires.run.0 on (c.in_ok-next.ensures.found header snap honest holds first.3);
   paid = λ header snap left honest tight first.
       let counted = c.in_ok-next.ensures.counted snap honest tight.holds first.3 in
@@ -40,15 +41,13 @@ loop-both-init g c = record {
   run_fits = c.requires.run.1;
   next = c.in_ok-next.ensures.ranges;
   looks = c.in_ok-next.ensures.looks;
-  fits = c.in_ok-next.ensures.kept_fit;
-  same = c.in_ok-next.ensures.same;
 }
 
 pub returns-in_err-next-2-clause-gives : goal.returns-in_err-next-2-clause-gives
 returns-in_err-next-2-clause-gives g c = λ header snap left honest holds first.
     let p = err_from_is_err_and c.from_residual-in_err-next-2.result c.from_residual-in_err-next-2.ensures.1 in
     let was = c.in_err-next-2.ensures.looks.reads.honest honest in
-    let on = look_on (λ (seen : List ℕ) (space : FreeSectors). SetHolds (Has seen space) c.args.set.now snap) _ _ _ _ _ _ _ c.loop-both.invariant.looks holds in
+    let on = look_on (λ (seen : List ℕ) (space : FreeSectors). SetHolds (Has seen space) c.args.set.now snap) c.loop-both.invariant.looks holds in
     let comes = c.loop-both.invariant.comes header snap left was holds first in
     rw (p.1, p.2) (c.in_err-next-2.ensures.found header snap honest on comes.of)
 
@@ -57,14 +56,14 @@ loop-both-preserved g c = record {
   comes = λ header snap left honest holds first.
       let view : View = view_of header snap (choice_after c.args.source) in
       let was = c.in_ok-next-2.ensures.looks.reads.honest honest in
-      let on = look_on (λ (seen : List ℕ) (space : FreeSectors). SetHolds (Has seen space) c.args.set.now snap) _ _ _ _ _ _ _ c.loop-both.invariant.looks holds in
+      let on = look_on (λ (seen : List ℕ) (space : FreeSectors). SetHolds (Has seen space) c.args.set.now snap) c.loop-both.invariant.looks holds in
       let comes = c.loop-both.invariant.comes header snap left was holds first in
-      let moved = look_on (λ (seen : List ℕ) (space : FreeSectors). RunComes (Has seen space) snap view left c.loop-both.self.place c.loop-both.run c.loop-both.next) _ _ _ _ _ _ _ c.in_ok-next-2.ensures.looks comes in
+      let moved = look_on (λ (seen : List ℕ) (space : FreeSectors). RunComes (Has seen space) snap view left c.loop-both.self.place c.loop-both.run c.loop-both.next) c.in_ok-next-2.ensures.looks comes in
       run_goes_on _ c.held_goes_on.ensures snap view left c.loop-both.self.place c.find-in-Some.new.self c.loop-both.run c.in-Some.both c.loop-both.next c.in_ok-next-2.next c.loop-both.invariant.run
       (sym c.in-Some.ensures.joined) moved (c.in_ok-next-2.ensures.found header snap honest on comes.of);
   paid = λ header snap left honest tight first.
       let was = c.in_ok-next-2.ensures.looks.reads.honest honest in
-      let on = look_on (λ (seen : List ℕ) (space : FreeSectors). SetIsTight (Has seen space) c.args.set.now snap) _ _ _ _ _ _ _ c.loop-both.invariant.looks tight in
+      let on = look_on (λ (seen : List ℕ) (space : FreeSectors). SetIsTight (Has seen space) c.args.set.now snap) c.loop-both.invariant.looks tight in
       let comes = c.loop-both.invariant.comes header snap left was tight.holds first in
       let counted = c.in_ok-next-2.ensures.counted snap honest on.holds comes.of in
       let ahead = look_ahead snap c.find-in-Some.new.self c.in_ok-next-2.next (λ none. c.in_ok-next-2.ensures.ends (ap Ok none)) counted in
@@ -77,8 +76,6 @@ loop-both-preserved g c = record {
   run_fits = c.in-Some.ensures.fits;
   next = c.in_ok-next-2.ensures.ranges;
   looks = Looks-then c.loop-both.invariant.looks c.in_ok-next-2.ensures.looks;
-  fits = c.in_ok-next-2.ensures.kept_fit;
-  same = c.in_ok-next-2.ensures.same ∙ c.loop-both.invariant.same;
 }
 
 pub returns-clause-gives : goal.returns-clause-gives
@@ -126,14 +123,8 @@ returns-in_err-next-clause-looks g c =
 
 pub returns-in_err-next-2-clause-damaged : goal.returns-in_err-next-2-clause-damaged
 returns-in_err-next-2-clause-damaged g c = λ honest.
-    let old = g.D.Disk.state c.args.io.now.disk.now in
-    let mid = g.D.Disk.state c.loop-both.io.disk.now in
-    let set = c.args.set.now in
-    let fault = c.in_err-next-2.field-0.0 in
     let p = err_from_is_err_and c.from_residual-in_err-next-2.result c.from_residual-in_err-next-2.ensures.1 in
-    let looks = c.loop-both.invariant.looks in
-    rw (p.1, p.2) (subst (λ (size : ℕ). IfDamage fault (IsDamagedCell (IsSeen old.seen) size set)) looks.reads.size
-    (subst (λ (seen : List ℕ). IfDamage fault (IsDamagedCell (IsSeen seen) mid.size set)) looks.reads.seen (c.in_err-next-2.ensures.damaged honest)))
+    rw (p.1, p.2) (seen_before c.loop-both.invariant.looks (λ (seen : List ℕ) (size : ℕ). IfDamage c.in_err-next-2.field-0.0 (IsDamagedCell (IsSeen seen) size c.args.set.now)) (c.in_err-next-2.ensures.damaged honest))
 
 pub returns-in_err-next-2-clause-looks : goal.returns-in_err-next-2-clause-looks
 returns-in_err-next-2-clause-looks g c =

@@ -1,7 +1,7 @@
 use Rattle.std.proofs.Common.{◌≡◌, ◌+◌, ◌*◌, ◌-◌, ◌^◌, ◌≤◌, true, ℕ, List, min}
 use Rattle.std.specs.Prelude.{Contains, None, Some, IfSome}
-use Rattle.zst_block.specs.Blocks.{FitsDisk, Has}
 use Rattle.zst_block.specs.IoCalls.{Looks}
+use Rattle.zst_block.specs.IoStates.{IsHonest, blocks_of, disk_of, io_of}
 use Rattle.zst_model.specs.declared.sends.header.Header.{Header}
 use Rattle.zst_model.specs.declared.states.item.Item.{Item}
 use Rattle.zst_model.specs.sends.View.{view_of}
@@ -18,20 +18,18 @@ use Rattle.zst_send.proofs.walk.Walk.lengthened.Given as goal
 
 abbrev pub invariant-loop-both : goal.invariant-loop-both
 invariant-loop-both g l = record {
-  comes : (header : Header) (snap : DatedState) (left : List Item) → (g.D.Disk.state l.io.disk.now).honest → SetHolds (Has (g.D.Disk.state l.fn.io.disk.now).seen l.fn.io.space) l.set snap
-      → ComesFirst (Has (g.D.Disk.state l.fn.io.disk.now).seen l.fn.io.space) snap (view_of header snap (choice_after l.source)) left l.fn.self.place (Some l.fn.run)
-      → RunComes (Has (g.D.Disk.state l.io.disk.now).seen l.io.space) snap (view_of header snap (choice_after l.source)) left l.self.place l.run l.next;
-  paid : (header : Header) (snap : DatedState) (left : List Item) → (g.D.Disk.state l.io.disk.now).honest → SetIsTight (Has (g.D.Disk.state l.fn.io.disk.now).seen l.fn.io.space) l.set snap
-      → ComesFirst (Has (g.D.Disk.state l.fn.io.disk.now).seen l.fn.io.space) snap (view_of header snap (choice_after l.source)) left l.fn.self.place (Some l.fn.run)
-      → (g.D.Disk.state l.io.disk.now).calls + 64 * (cells_due snap l.fn.run + ended l.fn.self.place) ≤ (g.D.Disk.state l.fn.io.disk.now).calls + 64 * (cells_due snap l.run + (min 1 (cells_next snap l.next) + ended l.self.place));
-  stands : (images : List (List ℕ)) → Contains images (g.D.Disk.state l.fn.io.disk.now).seen → (g.D.Disk.state l.io.disk.now).honest → IfSome l.next (DueStands (IsAmong images) l.set);
+  comes : (header : Header) (snap : DatedState) (left : List Item) → IsHonest l.io → SetHolds (blocks_of l.fn.io) l.set snap
+      → ComesFirst (blocks_of l.fn.io) snap (view_of header snap (choice_after l.source)) left l.fn.self.place (Some l.fn.run)
+      → RunComes (blocks_of l.io) snap (view_of header snap (choice_after l.source)) left l.self.place l.run l.next;
+  paid : (header : Header) (snap : DatedState) (left : List Item) → IsHonest l.io → SetIsTight (blocks_of l.fn.io) l.set snap
+      → ComesFirst (blocks_of l.fn.io) snap (view_of header snap (choice_after l.source)) left l.fn.self.place (Some l.fn.run)
+      → (disk_of l.io).calls + 64 * (cells_due snap l.fn.run + ended l.fn.self.place) ≤ (disk_of l.fn.io).calls + 64 * (cells_due snap l.run + (min 1 (cells_next snap l.next) + ended l.self.place));
+  stands : (images : List (List ℕ)) → Contains images (disk_of l.fn.io).seen → IsHonest l.io → IfSome l.next (DueStands (IsAmong images) l.set);
   walk : WalkFits l.self;
   run : is_run l.run ≡ true;
   run_fits : DueFits l.run;
   next : IfSome l.next DueFits;
-  looks : Looks (g.D.Disk.state l.fn.io.disk.now) l.fn.io.space l.fn.io.failed (g.D.Disk.state l.io.disk.now) l.io.space l.io.failed None;
-  fits : FitsDisk (g.D.Disk.state l.io.disk.now).size l.io.space;
-  same : l.io.disk.ghost_name ≡ l.fn.io.disk.ghost_name;
+  looks : Looks (io_of l.fn.io) (io_of l.io) None;
 }
 
 abbrev pub decreases-loop-both : goal.decreases-loop-both

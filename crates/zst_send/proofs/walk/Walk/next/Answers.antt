@@ -3,6 +3,7 @@ use Rattle.std.specs.Prelude.{Option, Some}
 use Rattle.std.proofs.lemmas.Result.{err_from_is_err_and}
 use Rattle.zst_space.specs.FreeSectors.{FreeSectors}
 use Rattle.zst_block.specs.Blocks.{Has}
+use Rattle.zst_block.specs.IoStates.{blocks_of}
 use Rattle.zst_block.proofs.IoCallLemmas.{Looks-then}
 use Rattle.zst_objset.specs.Damage.{IfDamage}
 use Rattle.zst_model.specs.declared.states.item.Item.{Item}
@@ -14,6 +15,7 @@ use Rattle.zst_send.specs.Costs.{cells_next}
 use Rattle.zst_traverse.specs.Cells.{choice_after}
 use Rattle.zst_traverse.specs.Damage.{IsDamagedCell}
 use Rattle.zst_tree.specs.Damage.{IsSeen}
+use Rattle.zst_tree.proofs.Damage.{seen_before}
 use Rattle.zst_send.specs.DueItems.{AreHeld}
 use Rattle.zst_send.specs.Places.{ComesFirst, Gives, items_left}
 use Rattle.zst_send.specs.declared.due_items.DueItems.{DueItems}
@@ -31,35 +33,35 @@ returns-in_err-due-clause-gives g c = λ header snap held honest holds walk.
 
 pub returns-in_default-clause-gives : goal.returns-in_default-clause-gives
 returns-in_default-clause-gives g c = λ header snap held honest holds walk.
-    let has = Has (g.D.Disk.state c.first.new.io.disk.now).seen c.first.new.io.space in
+    let has = blocks_of c.first.new.io in
     let view : View = view_of header snap (choice_after c.args.source) in
     let first = subst (λ (d : Option DueItems). ComesFirst has snap view (items_left view c.args.self.now held) c.first.new.self.place d) c.in_default.is (c.in_ok-due.ensures.goes header snap held honest holds walk) in
     (first.0, record { held_are = subst (λ (h : Option DueItems). AreHeld has h []) (sym c.in_ok-due.ensures.held) refl; place_is = first.1 })
 
 pub returns-in_err-lengthened-clause-gives : goal.returns-in_err-lengthened-clause-gives
 returns-in_err-lengthened-clause-gives g c = λ header snap held honest holds walk.
-    let has = Has (g.D.Disk.state c.first.new.io.disk.now).seen c.first.new.io.space in
+    let has = blocks_of c.first.new.io in
     let view : View = view_of header snap (choice_after c.args.source) in
     let left : List Item = items_left view c.args.self.now held in
     let p = err_from_is_err_and c.from_residual-in_err-lengthened.result c.from_residual-in_err-lengthened.ensures.1 in
     let was = c.in_err-lengthened.ensures.looks.reads.honest honest in
-    let on = look_on (λ (seen : List ℕ) (space : FreeSectors). SetHolds (Has seen space) c.args.set.now snap) _ _ _ _ _ _ _ c.in_ok-due.ensures.looks holds in
+    let on = look_on (λ (seen : List ℕ) (space : FreeSectors). SetHolds (Has seen space) c.args.set.now snap) c.in_ok-due.ensures.looks holds in
     let first = subst (λ (d : Option DueItems). ComesFirst has snap view left c.first.new.self.place d) c.in-Some.is (c.in_ok-due.ensures.goes header snap held was holds walk) in
     rw (p.1, p.2) (c.in_err-lengthened.ensures.gives header snap left honest on first)
 
 pub returns-then-is_run-clause-gives : goal.returns-then-is_run-clause-gives
 returns-then-is_run-clause-gives g c = λ header snap held honest holds walk.
-    let has = Has (g.D.Disk.state c.first.new.io.disk.now).seen c.first.new.io.space in
+    let has = blocks_of c.first.new.io in
     let view : View = view_of header snap (choice_after c.args.source) in
     let left : List Item = items_left view c.args.self.now held in
     let was = c.in_ok-lengthened.ensures.looks.reads.honest honest in
-    let on = look_on (λ (seen : List ℕ) (space : FreeSectors). SetHolds (Has seen space) c.args.set.now snap) _ _ _ _ _ _ _ c.in_ok-due.ensures.looks holds in
+    let on = look_on (λ (seen : List ℕ) (space : FreeSectors). SetHolds (Has seen space) c.args.set.now snap) c.in_ok-due.ensures.looks holds in
     let first = subst (λ (d : Option DueItems). ComesFirst has snap view left c.first.new.self.place d) c.in-Some.is (c.in_ok-due.ensures.goes header snap held was holds walk) in
     c.in_ok-lengthened.ensures.gives header snap left honest on first
 
 pub returns-clause-gives : goal.returns-clause-gives
 returns-clause-gives g c = λ header snap held honest holds walk.
-    let has = Has (g.D.Disk.state c.first.new.io.disk.now).seen c.first.new.io.space in
+    let has = blocks_of c.first.new.io in
     let view : View = view_of header snap (choice_after c.args.source) in
     let left : List Item = items_left view c.args.self.now held in
     let place = c.first.new.self.place in
@@ -109,11 +111,11 @@ returns-in_err-lengthened-clause-few g c = λ header snap held honest tight walk
 
 pub returns-then-is_run-clause-few : goal.returns-then-is_run-clause-few
 returns-then-is_run-clause-few g c = λ header snap held honest tight walk.
-    let has = Has (g.D.Disk.state c.first.new.io.disk.now).seen c.first.new.io.space in
+    let has = blocks_of c.first.new.io in
     let view : View = view_of header snap (choice_after c.args.source) in
     let left : List Item = items_left view c.args.self.now held in
     let was = c.in_ok-lengthened.ensures.looks.reads.honest honest in
-    let on = look_on (λ (seen : List ℕ) (space : FreeSectors). SetIsTight (Has seen space) c.args.set.now snap) _ _ _ _ _ _ _ c.in_ok-due.ensures.looks tight in
+    let on = look_on (λ (seen : List ℕ) (space : FreeSectors). SetIsTight (Has seen space) c.args.set.now snap) c.in_ok-due.ensures.looks tight in
     let first = subst (λ (d : Option DueItems). ComesFirst has snap view left c.first.new.self.place d) c.in-Some.is (c.in_ok-due.ensures.goes header snap held was tight.holds walk) in
     let ahead = c.in_ok-due.ensures.ahead snap was tight walk.place_is in
     let found = ap (cells_next snap) c.in-Some.is in
@@ -139,14 +141,8 @@ returns-in_err-due-clause-looks g c =
 
 pub returns-in_err-lengthened-clause-damaged : goal.returns-in_err-lengthened-clause-damaged
 returns-in_err-lengthened-clause-damaged g c = λ honest.
-    let old = g.D.Disk.state c.args.io.now.disk.now in
-    let mid = g.D.Disk.state c.first.new.io.disk.now in
-    let set = c.args.set.now in
-    let fault = c.in_err-lengthened.field-0.0 in
     let p = err_from_is_err_and c.from_residual-in_err-lengthened.result c.from_residual-in_err-lengthened.ensures.1 in
-    let looks = c.in_ok-due.ensures.looks in
-    rw (p.1, p.2) (subst (λ (size : ℕ). IfDamage fault (IsDamagedCell (IsSeen old.seen) size set)) looks.reads.size
-    (subst (λ (seen : List ℕ). IfDamage fault (IsDamagedCell (IsSeen seen) mid.size set)) looks.reads.seen (c.in_err-lengthened.ensures.damaged honest)))
+    rw (p.1, p.2) (seen_before c.in_ok-due.ensures.looks (λ (seen : List ℕ) (size : ℕ). IfDamage c.in_err-lengthened.field-0.0 (IsDamagedCell (IsSeen seen) size c.args.set.now)) (c.in_err-lengthened.ensures.damaged honest))
 
 pub returns-in_err-lengthened-clause-looks : goal.returns-in_err-lengthened-clause-looks
 returns-in_err-lengthened-clause-looks g c =

@@ -1,5 +1,5 @@
 use Rattle.std.proofs.Common.{◌≡◌, ℕ, ◌-◌, ◌≤◌, List, length, take, drop, min, arith, inr, subst, ◌∙◌, sym}
-use Rattle.zst_block.specs.Blocks.{Has}
+use Rattle.zst_block.specs.IoStates.{blocks_of, disk_of}
 use Rattle.zst_send.specs.Costs.{IsHeld}
 use Rattle.zst_send.specs.Work.{IsPayload, PayloadFits}
 use Rattle.zst_send.specs.declared.work.Payload.{Payload}
@@ -11,7 +11,7 @@ use Rattle.zst_send.proofs.work.Work.copy_next.Goals as goal
 
 pub returns-in-Bonus-clause-gives : goal.returns-in-Bonus-clause-gives
 returns-in-Bonus-clause-gives g c = λ left honest loaded work.
-    let has = Has (g.D.Disk.state c.args.io.now.disk.now).seen c.args.io.now.space in
+    let has = blocks_of c.args.io.now in
     let given : ℕ = c.args.self.now.given in
     let copied = c.copy_from-in-Bonus in
     let payload : work.payload ≡ take c.in-Bonus.count c.in-Bonus.field = subst (λ (p : Payload). IsPayload has p work.payload) c.in-Bonus.is work.payload_is in
@@ -22,7 +22,7 @@ returns-in-Bonus-clause-gives g c = λ left honest loaded work.
 
 pub returns-in_ok-load-in-Block-clause-gives : goal.returns-in_ok-load-in-Block-clause-gives
 returns-in_ok-load-in-Block-clause-gives g c = λ left honest loaded work.
-    let has = Has (g.D.Disk.state c.args.io.now.disk.now).seen c.args.io.now.space in
+    let has = blocks_of c.args.io.now in
     let given : ℕ = c.args.self.now.given in
     let copied = c.copy_from-in-Block in
     let named = subst (λ (p : Payload). IsPayload has p work.payload) c.in-Block.is work.payload_is in
@@ -39,7 +39,7 @@ pub returns-in_err-load-in-Block-clause-damaged : goal.returns-in_err-load-in-Bl
 returns-in_err-load-in-Block-clause-damaged g c = λ honest.
     let p = err_from_is_err_and c.from_residual.result c.from_residual.ensures.1 in
     let most : c.in-Block.ptr.length ≤ 131072 = subst PayloadFits c.in-Block.is c.requires.work.payload in
-    rw (p.1, p.2, c.in-Block.is) (short_told (IsSeen (g.D.Disk.state c.args.io.now.disk.now).seen) (g.D.Disk.state c.args.io.now.disk.now).size c.in-Block.ptr most _ (c.in_err-load-in-Block.ensures.damaged honest))
+    rw (p.1, p.2, c.in-Block.is) (short_told (IsSeen (disk_of c.args.io.now).seen) (disk_of c.args.io.now).size c.in-Block.ptr most _ (c.in_err-load-in-Block.ensures.damaged honest))
 
 pub returns-then-self-lt-RECORD_LEN-clause-gives : goal.returns-then-self-lt-RECORD_LEN-clause-gives
 returns-then-self-lt-RECORD_LEN-clause-gives g c = λ left honest loaded work.
@@ -50,19 +50,19 @@ returns-then-self-lt-RECORD_LEN-clause-gives g c = λ left honest loaded work.
 pub returns-in_err-load-in-Block-clause-gives : goal.returns-in_err-load-in-Block-clause-gives
 returns-in_err-load-in-Block-clause-gives g c = λ left honest loaded work.
     let p = err_from_is_err_and c.from_residual.result c.from_residual.ensures.1 in
-    let named = subst (λ (p : Payload). IsPayload (Has (g.D.Disk.state c.args.io.now.disk.now).seen c.args.io.now.space) p work.payload) c.in-Block.is work.payload_is in
+    let named = subst (λ (p : Payload). IsPayload (blocks_of c.args.io.now) p work.payload) c.in-Block.is work.payload_is in
     let most : c.in-Block.ptr.length ≤ 131072 = subst PayloadFits c.in-Block.is c.requires.work.payload in
     let long : length work.payload ≡ c.in-Block.ptr.length = named.1 in
     rw (p.1, p.2) (c.in_err-load-in-Block.ensures.there work.payload honest loaded named.0 (omega (arith, most, long)))
 
 pub returns-in_err-load-in-Block-clause-loaded : goal.returns-in_err-load-in-Block-clause-loaded
 returns-in_err-load-in-Block-clause-loaded g c = λ left honest loaded work.
-    let named = subst (λ (p : Payload). IsPayload (Has (g.D.Disk.state c.args.io.now.disk.now).seen c.args.io.now.space) p work.payload) c.in-Block.is work.payload_is in
+    let named = subst (λ (p : Payload). IsPayload (blocks_of c.args.io.now) p work.payload) c.in-Block.is work.payload_is in
     c.in_err-load-in-Block.ensures.loaded work.payload honest loaded named.0
 
 pub returns-in_ok-load-in-Block-clause-loaded : goal.returns-in_ok-load-in-Block-clause-loaded
 returns-in_ok-load-in-Block-clause-loaded g c = λ left honest loaded work.
-    let named = subst (λ (p : Payload). IsPayload (Has (g.D.Disk.state c.args.io.now.disk.now).seen c.args.io.now.space) p work.payload) c.in-Block.is work.payload_is in
+    let named = subst (λ (p : Payload). IsPayload (blocks_of c.args.io.now) p work.payload) c.in-Block.is work.payload_is in
     c.in_ok-load-in-Block.ensures.loaded work.payload honest loaded named.0
 
 pub returns-in_err-load-in-Block-clause-looks : goal.returns-in_err-load-in-Block-clause-looks

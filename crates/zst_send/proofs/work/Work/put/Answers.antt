@@ -1,6 +1,6 @@
 use Rattle.std.proofs.Common.{ℕ, ◌++◌, drop, length, sym, ◌∙◌, ap, subst}
 use Rattle.std.proofs.lemmas.Result.{err_from_is_err_and}
-use Rattle.zst_block.specs.Blocks.{Has}
+use Rattle.zst_block.specs.IoStates.{blocks_of, disk_of}
 use Rattle.zst_stream.specs.Records.{item_payload}
 use Rattle.zst_send.specs.DueItems.{IsFirst}
 use Rattle.zst_block.proofs.BlocksLaws.{IsBlock-length}
@@ -19,18 +19,18 @@ use Rattle.zst_send.proofs.work.Work.put.Goals as goal
 pub returns-in_err-load-in-Spill-clause-put : goal.returns-in_err-load-in-Spill-clause-put
 returns-in_err-load-in-Spill-clause-put g c = λ text item honest loaded written first.
     let p = err_from_is_err_and c.from_residual.result c.from_residual.ensures.1 in
-    let named = subst (λ (d : DueItems). IsFirst (Has (g.D.Disk.state c.args.io.now.disk.now).seen c.args.io.now.space) d item) c.in-Spill.is first in
+    let named = subst (λ (d : DueItems). IsFirst (blocks_of c.args.io.now) d item) c.in-Spill.is first in
     rw (p.1, p.2) (c.in_err-load-in-Spill.ensures.there named.0 honest loaded named.1 named.2)
 
 pub returns-in_err-load-in-Block-clause-put : goal.returns-in_err-load-in-Block-clause-put
 returns-in_err-load-in-Block-clause-put g c = λ text item honest loaded written first.
     let p = err_from_is_err_and c.from_residual-in_err-load-in-Block.result c.from_residual-in_err-load-in-Block.ensures.1 in
-    let named = subst (λ (d : DueItems). IsFirst (Has (g.D.Disk.state c.args.io.now.disk.now).seen c.args.io.now.space) d item) c.in-Block.is first in
+    let named = subst (λ (d : DueItems). IsFirst (blocks_of c.args.io.now) d item) c.in-Block.is first in
     rw (p.1, p.2) (c.in_err-load-in-Block.ensures.there named.0 honest loaded named.1 named.2)
 
 pub returns-in-Object-clause-put : goal.returns-in-Object-clause-put
 returns-in-Object-clause-put g c = λ text item honest loaded written first.
-    let has = Has (g.D.Disk.state c.args.io.now.disk.now).seen c.args.io.now.space in
+    let has = blocks_of c.args.io.now in
     let named = subst (λ (d : DueItems). IsFirst has d item) c.in-Object.is first in
     let put = c.of_object.ensures.put text item written named in
     let field = c.of_object.ensures.payload in
@@ -47,7 +47,7 @@ pub returns-in_err-load-in-Spill-clause-damaged : goal.returns-in_err-load-in-Sp
 returns-in_err-load-in-Spill-clause-damaged g c = λ honest.
     let p = err_from_is_err_and c.from_residual.result c.from_residual.ensures.1 in
     let fits = subst DueFits c.in-Spill.is c.requires.due in
-    rw (p.1, p.2, c.in-Spill.is) (short_told (IsSeen (g.D.Disk.state c.args.io.now.disk.now).seen) (g.D.Disk.state c.args.io.now.disk.now).size c.in-Spill.ptr (spill_size_most c.in-Spill.ptr.length fits.1) _ (c.in_err-load-in-Spill.ensures.damaged honest))
+    rw (p.1, p.2, c.in-Spill.is) (short_told (IsSeen (disk_of c.args.io.now).seen) (disk_of c.args.io.now).size c.in-Spill.ptr (spill_size_most c.in-Spill.ptr.length fits.1) _ (c.in_err-load-in-Spill.ensures.damaged honest))
 
 pub returns-in_err-load-in-Block-clause-damaged : goal.returns-in_err-load-in-Block-clause-damaged
 returns-in_err-load-in-Block-clause-damaged g c = λ honest.
@@ -66,7 +66,7 @@ returns-in_err-load-in-Block-clause-size g c = λ item first.
 
 pub returns-in_ok-load-in-Spill-clause-size : goal.returns-in_ok-load-in-Spill-clause-size
 returns-in_ok-load-in-Spill-clause-size g c = λ item first.
-    let named = subst (λ (d : DueItems). IsFirst (Has (g.D.Disk.state c.args.io.now.disk.now).seen c.args.io.now.space) d item) c.in-Spill.is first in
+    let named = subst (λ (d : DueItems). IsFirst (blocks_of c.args.io.now) d item) c.in-Spill.is first in
     let long = IsBlock-length _ c.in-Spill.ptr named.0 named.1.block in
     record {
       size = ap payload_size c.of_block.ensures.payload ∙ sym long ∙ sym (ap (λ (i : Item). length (item_payload i)) named.3);
@@ -75,7 +75,7 @@ returns-in_ok-load-in-Spill-clause-size g c = λ item first.
 
 pub returns-in_ok-load-in-Block-clause-size : goal.returns-in_ok-load-in-Block-clause-size
 returns-in_ok-load-in-Block-clause-size g c = λ item first.
-    let named = subst (λ (d : DueItems). IsFirst (Has (g.D.Disk.state c.args.io.now.disk.now).seen c.args.io.now.space) d item) c.in-Block.is first in
+    let named = subst (λ (d : DueItems). IsFirst (blocks_of c.args.io.now) d item) c.in-Block.is first in
     let long = IsBlock-length _ c.in-Block.ptr named.0 named.1.block in
     record {
       size = ap payload_size c.of_block-in-Block.ensures.payload ∙ sym long ∙ sym (ap (λ (i : Item). length (item_payload i)) named.3);
@@ -84,13 +84,13 @@ returns-in_ok-load-in-Block-clause-size g c = λ item first.
 
 pub returns-in-Absent-clause-put : goal.returns-in-Absent-clause-put
 returns-in-Absent-clause-put g c = λ text item honest loaded written first.
-    let has = Has (g.D.Disk.state c.args.io.now.disk.now).seen c.args.io.now.space in
+    let has = blocks_of c.args.io.now in
     let named = subst (λ (d : DueItems). IsFirst has d item) c.in-Absent.is first in
     lone_put has c.args.to text item _ c.of.new.writer c.of.result named (c.of.ensures.put text written) c.of.ensures.payload c.of.ensures.given
 
 pub returns-in-Absent-clause-size : goal.returns-in-Absent-clause-size
 returns-in-Absent-clause-size g c = λ item first.
-    let named = subst (λ (d : DueItems). IsFirst (Has (g.D.Disk.state c.args.io.now.disk.now).seen c.args.io.now.space) d item) c.in-Absent.is first in
+    let named = subst (λ (d : DueItems). IsFirst (blocks_of c.args.io.now) d item) c.in-Absent.is first in
     record {
       size = ap payload_size c.of.ensures.payload ∙ sym (ap (λ (i : Item). length (item_payload i)) named);
       blocks = ap blocks_behind c.of.ensures.payload ∙ sym (ap reads_of named);
@@ -98,13 +98,13 @@ returns-in-Absent-clause-size g c = λ item first.
 
 pub returns-in-Tail-clause-put : goal.returns-in-Tail-clause-put
 returns-in-Tail-clause-put g c = λ text item honest loaded written first.
-    let has = Has (g.D.Disk.state c.args.io.now.disk.now).seen c.args.io.now.space in
+    let has = blocks_of c.args.io.now in
     let named = subst (λ (d : DueItems). IsFirst has d item) c.in-Tail.is first in
     lone_put has c.args.to text item _ c.of-in-Tail.new.writer c.of-in-Tail.result named (c.of-in-Tail.ensures.put text written) c.of-in-Tail.ensures.payload c.of-in-Tail.ensures.given
 
 pub returns-in-Tail-clause-size : goal.returns-in-Tail-clause-size
 returns-in-Tail-clause-size g c = λ item first.
-    let named = subst (λ (d : DueItems). IsFirst (Has (g.D.Disk.state c.args.io.now.disk.now).seen c.args.io.now.space) d item) c.in-Tail.is first in
+    let named = subst (λ (d : DueItems). IsFirst (blocks_of c.args.io.now) d item) c.in-Tail.is first in
     record {
       size = ap payload_size c.of-in-Tail.ensures.payload ∙ sym (ap (λ (i : Item). length (item_payload i)) named);
       blocks = ap blocks_behind c.of-in-Tail.ensures.payload ∙ sym (ap reads_of named);
@@ -112,13 +112,13 @@ returns-in-Tail-clause-size g c = λ item first.
 
 pub returns-in-Holes-clause-put : goal.returns-in-Holes-clause-put
 returns-in-Holes-clause-put g c = λ text item honest loaded written first.
-    let has = Has (g.D.Disk.state c.args.io.now.disk.now).seen c.args.io.now.space in
+    let has = blocks_of c.args.io.now in
     let named = subst (λ (d : DueItems). IsFirst has d item) c.in-Holes.is first in
     lone_put has c.args.to text item _ c.of-in-Holes.new.writer c.of-in-Holes.result named (c.of-in-Holes.ensures.put text written) c.of-in-Holes.ensures.payload c.of-in-Holes.ensures.given
 
 pub returns-in-Holes-clause-size : goal.returns-in-Holes-clause-size
 returns-in-Holes-clause-size g c = λ item first.
-    let named = subst (λ (d : DueItems). IsFirst (Has (g.D.Disk.state c.args.io.now.disk.now).seen c.args.io.now.space) d item) c.in-Holes.is first in
+    let named = subst (λ (d : DueItems). IsFirst (blocks_of c.args.io.now) d item) c.in-Holes.is first in
     record {
       size = ap payload_size c.of-in-Holes.ensures.payload ∙ sym (ap (λ (i : Item). length (item_payload i)) named);
       blocks = ap blocks_behind c.of-in-Holes.ensures.payload ∙ sym (ap reads_of named);
@@ -126,13 +126,13 @@ returns-in-Holes-clause-size g c = λ item first.
 
 pub returns-in-Redacted-clause-put : goal.returns-in-Redacted-clause-put
 returns-in-Redacted-clause-put g c = λ text item honest loaded written first.
-    let has = Has (g.D.Disk.state c.args.io.now.disk.now).seen c.args.io.now.space in
+    let has = blocks_of c.args.io.now in
     let named = subst (λ (d : DueItems). IsFirst has d item) c.in-Redacted.is first in
     lone_put has c.args.to text item _ c.of-in-Redacted.new.writer c.of-in-Redacted.result named (c.of-in-Redacted.ensures.put text written) c.of-in-Redacted.ensures.payload c.of-in-Redacted.ensures.given
 
 pub returns-in-Redacted-clause-size : goal.returns-in-Redacted-clause-size
 returns-in-Redacted-clause-size g c = λ item first.
-    let named = subst (λ (d : DueItems). IsFirst (Has (g.D.Disk.state c.args.io.now.disk.now).seen c.args.io.now.space) d item) c.in-Redacted.is first in
+    let named = subst (λ (d : DueItems). IsFirst (blocks_of c.args.io.now) d item) c.in-Redacted.is first in
     record {
       size = ap payload_size c.of-in-Redacted.ensures.payload ∙ sym (ap (λ (i : Item). length (item_payload i)) named);
       blocks = ap blocks_behind c.of-in-Redacted.ensures.payload ∙ sym (ap reads_of named);
@@ -140,7 +140,7 @@ returns-in-Redacted-clause-size g c = λ item first.
 
 pub returns-in_err-load-in-Spill-clause-loaded : goal.returns-in_err-load-in-Spill-clause-loaded
 returns-in_err-load-in-Spill-clause-loaded g c = λ item honest loaded first.
-    let named = subst (λ (d : DueItems). IsFirst (Has (g.D.Disk.state c.args.io.now.disk.now).seen c.args.io.now.space) d item) c.in-Spill.is first in
+    let named = subst (λ (d : DueItems). IsFirst (blocks_of c.args.io.now) d item) c.in-Spill.is first in
     c.in_err-load-in-Spill.ensures.loaded named.0 honest loaded named.1
 
 pub returns-in_err-load-in-Spill-clause-looks : goal.returns-in_err-load-in-Spill-clause-looks
@@ -150,7 +150,7 @@ returns-in_err-load-in-Spill-clause-looks g c =
 
 pub returns-in_err-load-in-Block-clause-loaded : goal.returns-in_err-load-in-Block-clause-loaded
 returns-in_err-load-in-Block-clause-loaded g c = λ item honest loaded first.
-    let named = subst (λ (d : DueItems). IsFirst (Has (g.D.Disk.state c.args.io.now.disk.now).seen c.args.io.now.space) d item) c.in-Block.is first in
+    let named = subst (λ (d : DueItems). IsFirst (blocks_of c.args.io.now) d item) c.in-Block.is first in
     c.in_err-load-in-Block.ensures.loaded named.0 honest loaded named.1
 
 pub returns-in_err-load-in-Block-clause-looks : goal.returns-in_err-load-in-Block-clause-looks
@@ -160,10 +160,10 @@ returns-in_err-load-in-Block-clause-looks g c =
 
 pub returns-in_ok-load-in-Spill-clause-loaded : goal.returns-in_ok-load-in-Spill-clause-loaded
 returns-in_ok-load-in-Spill-clause-loaded g c = λ item honest loaded first.
-    let named = subst (λ (d : DueItems). IsFirst (Has (g.D.Disk.state c.args.io.now.disk.now).seen c.args.io.now.space) d item) c.in-Spill.is first in
+    let named = subst (λ (d : DueItems). IsFirst (blocks_of c.args.io.now) d item) c.in-Spill.is first in
     c.in_ok-load-in-Spill.ensures.loaded named.0 honest loaded named.1
 
 pub returns-in_ok-load-in-Block-clause-loaded : goal.returns-in_ok-load-in-Block-clause-loaded
 returns-in_ok-load-in-Block-clause-loaded g c = λ item honest loaded first.
-    let named = subst (λ (d : DueItems). IsFirst (Has (g.D.Disk.state c.args.io.now.disk.now).seen c.args.io.now.space) d item) c.in-Block.is first in
+    let named = subst (λ (d : DueItems). IsFirst (blocks_of c.args.io.now) d item) c.in-Block.is first in
     c.in_ok-load-in-Block.ensures.loaded named.0 honest loaded named.1

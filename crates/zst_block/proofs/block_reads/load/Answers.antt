@@ -2,7 +2,7 @@ use Rattle.std.proofs.Common.{rules, ◌≡◌, ◌∙◌, ◌≤◌, ⊎_elim, 
 use Rattle.std.specs.Prelude.{Ok}
 use Rattle.zst_block.proofs.BlocksLaws.{IsBlock-length}
 use Rattle.zst_block.proofs.Cached.{block_bytes, compared_answer, compared_gives, named_node}
-use Rattle.zst_block.proofs.io.load.Goals as goal
+use Rattle.zst_block.proofs.block_reads.load.Goals as goal
 
 pub returns-then-ptr-ne8192-clause-there : goal.returns-then-ptr-ne8192-clause-there
 returns-then-ptr-ne8192-clause-there g c = λ bytes honest has long.
@@ -11,6 +11,7 @@ returns-then-ptr-ne8192-clause-there g c = λ bytes honest has long.
 
 pub invariant_of-io : goal.invariant_of-io
 invariant_of-io g c = record {
+  fits = c.args.io.now.fits;
   told = λ honest sector bytes is. c.args.io.now.told honest sector bytes (c.is_kept.ensures.kept sector bytes is);
   behind = λ sector bytes is. c.args.io.now.behind sector bytes (c.is_kept.ensures.kept sector bytes is);
 }
@@ -44,6 +45,7 @@ invariant_of-io-then-ptr-ge8 g c =
     let ok : c.read-outcome.result ≡ Ok tt = search rules in
     let from : 8 ≤ c.args.ptr.sector = search rules in
     record {
+      fits = rw read.reads.size c.args.io.now.fits;
       told = λ honest sector bytes is. ⊎_elim
           (λ put. rw (read.reads.seen, put.0, put.1) (block_bytes _ _ c.args.ptr c.read-outcome.new.self c.read-outcome.result ok stated (read.answer honest)))
           (λ before. rw read.reads.seen (c.args.io.now.told (read.reads.honest honest) sector bytes (c.is_kept.ensures.kept sector bytes before))) (c.keep.ensures sector bytes is);
@@ -54,6 +56,7 @@ pub invariant_of-io-else-ptr-ge8 : goal.invariant_of-io-else-ptr-ge8
 invariant_of-io-else-ptr-ge8 g c =
     let reads = c.read-outcome.ensures.reads in
     record {
+      fits = rw reads.size c.args.io.now.fits;
       told = λ honest sector bytes is. rw reads.seen (c.args.io.now.told (reads.honest honest) sector bytes (c.is_kept.ensures.kept sector bytes is));
       behind = λ sector bytes is. c.args.io.now.behind sector bytes (c.is_kept.ensures.kept sector bytes is);
     }
@@ -62,6 +65,7 @@ pub invariant_of-io-else-eq : goal.invariant_of-io-else-eq
 invariant_of-io-else-eq g c =
     let reads = c.read-outcome.ensures.reads in
     record {
+      fits = rw reads.size c.args.io.now.fits;
       told = λ honest sector bytes is. rw reads.seen (c.args.io.now.told (reads.honest honest) sector bytes (c.is_kept.ensures.kept sector bytes is));
       behind = λ sector bytes is. c.args.io.now.behind sector bytes (c.is_kept.ensures.kept sector bytes is);
     }

@@ -3,7 +3,7 @@ use Rattle.std.proofs.lemmas.List.{length-take-le}
 use Rattle.std.proofs.Math.Seq.{take-append_seam}
 use Rattle.zst_outside.specs.Ranges.{bytes_at, length-bytes_at}
 use Rattle.zst_uber.proofs.SlotsLaws.{front_is}
-use Rattle.zst_uber.proofs.slot.read_front.Goals as goal
+use Rattle.zst_uber.proofs.body_slot.read_front.Goals as goal
 
 -- what was read stands in front of the rest
 in_front : (count : ℕ) (into rest image : List ℕ) → length into ≡ count → into ≡ bytes_at image 0 count → take count (into ++ rest) ≡ bytes_at image 0 count

@@ -14,19 +14,19 @@ pub const OPEN: u8 = 0xa5;
 
 /// A slot: a gate and a body.
 #[derive(Clone, Copy)]
-pub enum Slot {
+pub enum BodySlot {
     First,
     Second,
 }
 
-impl Slot {
+impl BodySlot {
     /// The place of its gate.
     pub fn gate(self) -> u64
         ensures { result ≡ gate_place self }
     {
         match self {
-            Slot::First => 0,
-            Slot::Second => 1024,
+            BodySlot::First => 0,
+            BodySlot::Second => 1024,
         }
     }
 
@@ -35,8 +35,8 @@ impl Slot {
         ensures { result ≡ body_place self }
     {
         match self {
-            Slot::First => 512,
-            Slot::Second => 1536,
+            BodySlot::First => 512,
+            BodySlot::Second => 1536,
         }
     }
 
@@ -45,18 +45,18 @@ impl Slot {
         ensures { result ≡ body_sector self }
     {
         match self {
-            Slot::First => 1,
-            Slot::Second => 3,
+            BodySlot::First => 1,
+            BodySlot::Second => 3,
         }
     }
 
     /// The other slot.
-    pub fn other(self) -> Slot
+    pub fn other(self) -> BodySlot
         ensures { result ≡ other self }
     {
         match self {
-            Slot::First => Slot::Second,
-            Slot::Second => Slot::First,
+            BodySlot::First => BodySlot::Second,
+            BodySlot::Second => BodySlot::First,
         }
     }
 }
@@ -77,7 +77,7 @@ pub fn read_front<D: Disk>(disk: &mut D, front: &mut [u8]) -> Result<usize, Faul
 
 // The gate of a slot: one byte.
 #[tactic(auto, unfolding(zst_outside::specs::Ranges::bytes_at))]
-fn gate_in(front: &[u8], slot: Slot) -> &[u8]
+fn gate_in(front: &[u8], slot: BodySlot) -> &[u8]
     requires { gate_place slot < length front.now }
     ensures gate { result.now ≡ gate_of front.now slot }
     ensures long { length result.now ≡ 1 }
@@ -87,7 +87,7 @@ fn gate_in(front: &[u8], slot: Slot) -> &[u8]
 }
 
 /// Whether the gate of a slot is open.
-pub fn is_open(front: &[u8], slot: Slot) -> bool
+pub fn is_open(front: &[u8], slot: BodySlot) -> bool
     requires { gate_place slot < length front.now }
     ensures { IsTrue result ↔ IsOpen front.now slot }
 {
@@ -105,7 +105,7 @@ fn is_live(gate: &[u8], body: &[u8]) -> bool
 
 // The body in a slot, where it counts.
 #[tactic(auto, unfolding(zst_outside::specs::Ranges::bytes_at))]
-fn body_in(front: &[u8], slot: Slot) -> Option<[u8; 512]>
+fn body_in(front: &[u8], slot: BodySlot) -> Option<[u8; 512]>
     ensures { result ≡ slot_at front.now slot }
 {
     let place = slot.body() as usize;
@@ -122,31 +122,31 @@ fn body_in(front: &[u8], slot: Slot) -> Option<[u8; 512]>
 }
 
 // The slot of the body with the greater number, and the first where they are equal.
-fn later_slot(first: &Option<[u8; 512]>, second: &Option<[u8; 512]>) -> Slot
+fn later_slot(first: &Option<[u8; 512]>, second: &Option<[u8; 512]>) -> BodySlot
     ensures { result ≡ greater first.now second.now }
 {
     match (first, second) {
-        (None, _) => Slot::Second,
-        (Some(_), None) => Slot::First,
+        (None, _) => BodySlot::Second,
+        (Some(_), None) => BodySlot::First,
         (Some(a), Some(b)) => {
             if le64(a, 16) < le64(b, 16) {
-                Slot::Second
+                BodySlot::Second
             } else {
-                Slot::First
+                BodySlot::First
             }
         }
     }
 }
 
 /// The slot of the latest body, and the body.
-pub fn latest_in(front: &[u8]) -> (Slot, Option<[u8; 512]>)
+pub fn latest_in(front: &[u8]) -> (BodySlot, Option<[u8; 512]>)
     ensures slot { result.0 ≡ latest_slot front.now }
     ensures body { result.1 ≡ latest front.now }
 {
-    let first = body_in(front, Slot::First);
-    let second = body_in(front, Slot::Second);
+    let first = body_in(front, BodySlot::First);
+    let second = body_in(front, BodySlot::Second);
     match later_slot(&first, &second) {
-        Slot::First => (Slot::First, first),
-        Slot::Second => (Slot::Second, second),
+        BodySlot::First => (BodySlot::First, first),
+        BodySlot::Second => (BodySlot::Second, second),
     }
 }

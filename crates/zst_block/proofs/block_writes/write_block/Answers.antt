@@ -2,7 +2,7 @@ use Rattle.std.proofs.Common.{length, refl, arith}
 use Rattle.zst_space.proofs.FreeSectorsLaws.{IsSpaceFrom-earlier}
 use Rattle.zst_block.proofs.BlocksLaws.{KeepsBlocks-fills, Follows-fills}
 use Rattle.zst_block.proofs.WrittenBlocks.{fills, has}
-use Rattle.zst_block.proofs.io.write_block.Goals as goal
+use Rattle.zst_block.proofs.block_writes.write_block.Goals as goal
 
 pub take-requires : goal.take-requires
 take-requires g c = IsSpaceFrom-earlier 8 0 c.args.space.now (omega arith) c.requires.fits.extents

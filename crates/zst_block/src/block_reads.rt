@@ -1,0 +1,141 @@
+// What is read of a pool's disk, and what is kept of it.
+ghost use Rattle.std.specs.Prelude.{◌≡◌, ◌↔◌, ◌+◌, ◌≤◌, ◌||◌, List, ℕ, length, IsTrue, OnOk, Contains, Ok, Err};
+ghost use Rattle.zst_fletcher.specs.WeightSum.{weight_sum, parts_of, IsWhole};
+ghost use Rattle.zst_outside.specs.Images.{OnlyReads};
+ghost use Rattle.zst_block.specs.Faults.{HasDiskCause, is_disk_fault};
+ghost use Rattle.zst_block.specs.Blocks.{IsBlock, IsPlaced};
+ghost use Rattle.zst_block.specs.ReadAnswers.{ReadAnswers, GivesBlock, Compares};
+ghost use Rattle.zst_block.specs.IoStates.{IsHonest, blocks_of, disk_of, io_of};
+ghost use Rattle.zst_block.specs.IoCalls.{Looks, TellsDamage, stop_of};
+
+use crate::cache::Cache;
+use crate::fault::BlockFault;
+use crate::io::Io;
+use crate::node::Node;
+use crate::ptr::Ptr;
+use zst_fletcher::{Sum, sum_of};
+use zst_outside::Disk;
+
+/// Reads the block that a pointer names.
+///
+/// It is damaged where its bytes have other sums than the pointer states, and with both sums
+/// alike where the pointer names no whole sectors of the disk. A call of the disk is made at most
+/// once.
+pub fn read<D: Disk>(io: &mut Io<'_, D>, ptr: Ptr, into: &mut [u8]) -> Result<(), BlockFault>
+    requires length { length into.old ≡ ptr.length }
+
+    // What is read is the block. Each answer has its cause, and a block that is there is read.
+    ensures answer { IsHonest io.new → ReadAnswers (disk_of io.old).seen (disk_of io.old).size ptr into.new result }
+    ensures there { (bytes : List ℕ) → IsHonest io.new → blocks_of io.old ptr bytes → GivesBlock bytes into.new result }
+    ensures sum { OnOk result (weight_sum into.new ≡ ptr.sum) }
+    ensures placed { OnOk result (IsPlaced (disk_of io.old).size ptr) }
+
+    // The disk is read at most once.
+    ensures looks { Looks (io_of io.old) (io_of io.new) (stop_of result) }
+    ensures calls { (disk_of io.new).calls ≤ (disk_of io.old).calls + 1 }
+    ensures node { io.new.node ≡ io.old.node }
+{
+    let outcome = read_block(io.disk, &ptr, into);
+    mark(&mut io.failed, &outcome);
+    outcome
+}
+
+/// Reads the block of a tree that a pointer names into the node.
+///
+/// A pointer to a block of another length than a node's is damaged, with both sums alike. A call
+/// of the disk is made at most once.
+pub fn load<D: Disk>(io: &mut Io<'_, D>, ptr: Ptr) -> Result<(), BlockFault>
+    // What is loaded is the block, and a block that is there is loaded.
+    ensures block { IsHonest io.new → OnOk result (IsBlock (disk_of io.old).seen ptr io.new.node) }
+    ensures there { (bytes : List ℕ) → IsHonest io.new → blocks_of io.old ptr bytes → length bytes ≡ 8192 → GivesBlock bytes io.new.node result }
+    ensures answer { IsHonest io.new → ptr.length ≡ 8192 → ReadAnswers (disk_of io.old).seen (disk_of io.old).size ptr io.new.node result }
+    ensures damaged { IsHonest io.new → TellsDamage (disk_of io.old).seen (disk_of io.old).size ptr result }
+    ensures long { OnOk result (length io.new.node ≡ 8192) }
+
+    ensures looks { Looks (io_of io.old) (io_of io.new) (stop_of result) }
+    ensures calls { (disk_of io.new).calls ≤ (disk_of io.old).calls + 1 }
+{
+    if ptr.length != 8192 {
+        return Err(BlockFault::of_layout(&ptr));
+    }
+    if is_kept(&mut io.cache, io.disk.bytes(), &ptr, &mut io.node) {
+        return compare(&ptr, io.node.as_slice());
+    }
+    let outcome = io.node.read(io.disk, &ptr);
+    mark(&mut io.failed, &outcome);
+    if outcome == Ok(()) && 8 <= ptr.sector {
+        io.cache.keep(ptr.sector, &io.node);
+    }
+    outcome
+}
+
+// Whether the block that a pointer names in a disk of so many bytes is kept, and is then given.
+fn is_kept(cache: &mut Cache, size: u64, ptr: &Ptr, into: &mut Node) -> bool
+    ensures placed { IsTrue result → IsPlaced size ptr.now }
+    ensures given { IsTrue result → Contains cache.old (ptr.now.sector, into.new) }
+    ensures kept { (sector : ℕ) (bytes : List ℕ) → Contains cache.new (sector, bytes) → Contains cache.old (sector, bytes) }
+{
+    is_placed(size, ptr) && cache.give(ptr.sector, into)
+}
+
+// Marks a disk that fails.
+fn mark(failed: &mut bool, outcome: &Result<(), BlockFault>)
+    ensures { failed.new ≡ (failed.old || is_disk_fault outcome.now) }
+{
+    if *outcome == Err(BlockFault::DiskFault) {
+        *failed = true;
+    }
+}
+
+// Reads the block that a pointer names from a disk.
+pub(crate) fn read_block<D: Disk>(
+    disk: &mut D,
+    ptr: &Ptr,
+    into: &mut [u8],
+) -> Result<(), BlockFault>
+    requires { length into.old ≡ ptr.now.length }
+    ensures answer { (D.state disk.new).honest → ReadAnswers (D.state disk.old).seen (D.state disk.old).size ptr.now into.new result }
+    ensures sum { OnOk result (weight_sum into.new ≡ ptr.now.sum) }
+    ensures placed { OnOk result (IsPlaced (D.state disk.old).size ptr.now) }
+    ensures never_full { (need largest : ℕ) → ¬ (result ≡ Err (BlockFault.Full need largest)) }
+    ensures reads { OnlyReads (D.state disk.old) (D.state disk.new) }
+    ensures calls { (D.state disk.new).calls ≤ (D.state disk.old).calls + 1 }
+    ensures cause { HasDiskCause (D.state disk.old).faults (D.state disk.new).faults result }
+{
+    if !is_placed(disk.bytes(), ptr) {
+        return Err(damaged(ptr, ptr.sum));
+    }
+    disk.read(512 * ptr.sector, into)?;
+    compare(ptr, into)
+}
+
+// Compares the sum of a block's bytes with the one that its pointer states.
+fn compare(ptr: &Ptr, bytes: &[u8]) -> Result<(), BlockFault>
+    requires { IsWhole bytes.now }
+    ensures { Compares ptr.now bytes.now result }
+{
+    let found = sum_of(bytes);
+    if found == ptr.sum {
+        Ok(())
+    } else {
+        Err(damaged(ptr, found))
+    }
+}
+
+// Whether the pointer names whole sectors of a disk of so many bytes.
+fn is_placed(size: u64, ptr: &Ptr) -> bool
+    ensures { IsTrue result ↔ IsPlaced size ptr.now }
+{
+    let length = u64::from(ptr.length);
+    length % 512 == 0 && length <= size && ptr.sector <= (size - length) / 512
+}
+
+fn damaged(ptr: &Ptr, found: Sum) -> BlockFault
+    ensures { result ≡ BlockFault.Damaged ptr.now.sector (parts_of ptr.now.sum) (parts_of found) }
+{
+    BlockFault::Damaged {
+        sector: ptr.sector,
+        stated: ptr.sum.parts(),
+        found: found.parts(),
+    }
+}
