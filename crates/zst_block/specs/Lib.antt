@@ -4,3 +4,4 @@ pub mod Blocks
 pub mod ReadAnswers
 pub mod IoStates
 pub mod IoCalls
+pub mod KeptBlocks

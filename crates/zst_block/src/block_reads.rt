@@ -1,9 +1,11 @@
 // What is read of a pool's disk, and what is kept of it.
-ghost use Rattle.std.specs.Prelude.{◌≡◌, ◌↔◌, ◌+◌, ◌≤◌, ◌||◌, List, ℕ, length, IsTrue, OnOk, Contains, Ok, Err};
+ghost use Rattle.std.specs.Prelude.{◌≡◌, ◌↔◌, ◌+◌, ◌≤◌, ◌||◌, List, ℕ, nat_eq, length, IsTrue, false, OnOk, Contains, Ok, Err};
+ghost use Rattle.lru.specs.LruCache.{promoted};
 ghost use Rattle.zst_fletcher.specs.WeightSum.{weight_sum, parts_of, IsWhole};
 ghost use Rattle.zst_outside.specs.Images.{OnlyReads};
 ghost use Rattle.zst_block.specs.Faults.{HasDiskCause, is_disk_fault};
 ghost use Rattle.zst_block.specs.Blocks.{IsBlock, IsPlaced};
+ghost use Rattle.zst_block.specs.KeptBlocks.{KeepsNone};
 ghost use Rattle.zst_block.specs.ReadAnswers.{ReadAnswers, GivesBlock, Compares};
 ghost use Rattle.zst_block.specs.IoStates.{IsHonest, blocks_of, disk_of, io_of};
 ghost use Rattle.zst_block.specs.IoCalls.{Looks, TellsDamage, stop_of};
@@ -73,7 +75,10 @@ pub fn load<D: Disk>(io: &mut Io<'_, D>, ptr: Ptr) -> Result<(), BlockFault>
 fn is_kept(cache: &mut Cache, size: u64, ptr: &Ptr, into: &mut Node) -> bool
     ensures placed { IsTrue result → IsPlaced size ptr.now }
     ensures given { IsTrue result → Contains cache.old (ptr.now.sector, into.new) }
-    ensures kept { (sector : ℕ) (bytes : List ℕ) → Contains cache.new (sector, bytes) → Contains cache.old (sector, bytes) }
+    ensures missed { result ≡ false → IsPlaced size ptr.now → KeepsNone cache.old ptr.now.sector }
+    // The block that is given goes first, and all others stay.
+    ensures order { IsTrue result → cache.new ≡ promoted (nat_eq ptr.now.sector) cache.old }
+    ensures same { result ≡ false → cache.new ≡ cache.old }
 {
     is_placed(size, ptr) && cache.give(ptr.sector, into)
 }

@@ -1,12 +1,12 @@
 // A block is written into free sectors, and what is kept of these is forgotten.
-ghost use Rattle.std.specs.Prelude.{◌≡◌, ◌↔◌, ◌+◌, ◌*◌, ◌/◌, ◌%◌, ◌^◌, ◌<◌, ◌≤◌, ◌||◌, ◌⊎◌, List, ℕ, length, OnOk, IfOk, IsErr, Contains, [], Ok};
+ghost use Rattle.std.specs.Prelude.{◌≡◌, ◌↔◌, ◌+◌, ◌*◌, ◌/◌, ◌%◌, ◌^◌, ◌<◌, ◌≤◌, ◌||◌, List, ℕ, length, OnOk, IfOk, IsErr, []};
 ghost use Rattle.zst_fletcher.specs.WeightSum.{weight_sum};
 ghost use Rattle.zst_outside.specs.Images.{WritesIn};
 ghost use Rattle.zst_space.specs.FreeSectors.{room, largest_of};
 ghost use Rattle.zst_space.specs.TakenExtents.{Takes, place_of, without};
-ghost use Rattle.zst_block.specs.declared.ptr.Ptr.{Ptr as PlainPtr};
 ghost use Rattle.zst_block.specs.Faults.{HasDiskCause, is_disk_fault};
 ghost use Rattle.zst_block.specs.Blocks.{Has, FitsDisk, FillsFree, KeepsBlocks, Follows};
+ghost use Rattle.zst_block.specs.KeptBlocks.{Forgets, Keeps};
 ghost use Rattle.zst_block.specs.IoStates.{blocks_of, disk_of, io_of};
 ghost use Rattle.zst_block.specs.IoCalls.{Works, stop_of};
 
@@ -62,7 +62,6 @@ pub fn write<D: Disk>(
 /// Whatever it answers, every block that was there still is, and each image that a crash may
 /// leave has all blocks of one that it might have left before.
 pub fn save<D: Disk>(io: &mut Io<'_, D>, level: u8, number: u64) -> Result<Ptr, BlockFault>
-
     ensures wrote { IfOk result (λ ptr. blocks_of io.new ptr io.old.node) }
     ensures pointer { IfOk result (λ ptr. ptr ≡ record { kind = 1; level = level; length = 8192; sector = place_of io.old.space 16; number = number; sum = weight_sum io.old.node }) }
     ensures long { length io.old.node ≡ 8192 }
@@ -89,8 +88,7 @@ pub fn save<D: Disk>(io: &mut Io<'_, D>, level: u8, number: u64) -> Result<Ptr, 
 
 // Forgets what is kept of the sectors of a block that was written, and all where none was.
 fn forget_written(cache: &mut Cache, outcome: &Result<Ptr, BlockFault>)
-    ensures kept { (sector : ℕ) (bytes : List ℕ) → Contains cache.new (sector, bytes) → Contains cache.old (sector, bytes) }
-    ensures apart { (sector : ℕ) (bytes : List ℕ) → Contains cache.new (sector, bytes) → IfOk outcome.now (λ ptr. (sector + 16 ≤ ptr.sector) ⊎ (ptr.sector + ptr.length / 512 ≤ sector)) }
+    ensures wrote { IfOk outcome.now (λ ptr. Forgets cache.old cache.new ptr.sector (ptr.length / 512)) }
     ensures none { IsErr outcome.now → cache.new ≡ [] }
 {
     match outcome {
@@ -101,7 +99,8 @@ fn forget_written(cache: &mut Cache, outcome: &Result<Ptr, BlockFault>)
 
 // Keeps a node that was saved.
 fn keep_saved(cache: &mut Cache, outcome: &Result<Ptr, BlockFault>, node: &Node)
-    ensures { (sector : ℕ) (bytes : List ℕ) → Contains cache.new (sector, bytes) → Contains cache.old (sector, bytes) ⊎ ((ptr : PlainPtr) × (outcome.now ≡ Ok ptr) × (sector ≡ ptr.sector) × (bytes ≡ node.now)) }
+    ensures saved { IfOk outcome.now (λ ptr. Keeps cache.old cache.new ptr.sector node.now) }
+    ensures same { IsErr outcome.now → cache.new ≡ cache.old }
 {
     if let Ok(ptr) = outcome {
         cache.keep(ptr.sector, node);

@@ -1,4 +1,6 @@
-ghost use Rattle.std.specs.Prelude.{◌≡◌, ◌⊎◌, ◌+◌, ◌^◌, ◌<◌, ◌≤◌, ℕ, List, Contains, IsTrue, false};
+ghost use Rattle.std.specs.Prelude.{◌≡◌, ◌↔◌, ◌⊎◌, nat_eq, Contains, IsTrue, false};
+ghost use Rattle.lru.specs.LruCache.{lru_cache, promoted, put_entries};
+ghost use Rattle.zst_block.specs.KeptBlocks.{KeepsNone, IsApart, AreApart};
 
 use crate::node::Node;
 use lru::LruCache;
@@ -19,16 +21,20 @@ pub struct Cache {
 }
 
 impl Model for Cache {
-    ghost use Rattle.std.specs.Prelude.{ℕ, List, []};
+    ghost use Rattle.std.specs.Prelude.{◌≡◌, ℕ, List, [], IfSome};
     ghost use Rattle.std.specs.Option.{option_map_or};
 
     ghost Value = { List (ℕ × List ℕ) };
 
     ghost view = { λ cache. option_map_or (λ blocks. blocks.entries) cache.blocks [] };
+
+    ghost invariant = { λ cache. IfSome cache.blocks (λ blocks. blocks.cap ≡ 64) };
 }
 
 impl Cache {
-    ghost use Rattle.std.specs.Prelude.{◌≡◌, ◌⊎◌, ◌+◌, ◌^◌, ◌<◌, ◌≤◌, ℕ, List, [], Contains, IsTrue, false};
+    ghost use Rattle.std.specs.Prelude.{◌≡◌, ◌↔◌, [], nat_eq, Contains, IsTrue, false};
+    ghost use Rattle.lru.specs.LruCache.{promoted};
+    ghost use Rattle.zst_block.specs.KeptBlocks.{KeepsNone, AreApart, Keeps, Forgets};
 
     /// No block, and room for `MOST`, or for none where no memory is left.
     pub(crate) fn new(alloc: Global) -> Cache
@@ -43,7 +49,10 @@ impl Cache {
     /// Gives the block that is kept of a sector, which is then the last to be forgotten.
     pub(crate) fn give(&mut self, sector: u64, into: &mut Node) -> bool
         ensures given { IsTrue result → Contains self.old (sector, into.new) }
-        ensures kept { (first : ℕ) (bytes : List ℕ) → Contains self.new (first, bytes) → Contains self.old (first, bytes) }
+        ensures missed { result ≡ false → KeepsNone self.old sector }
+        ensures untouched { result ≡ false → into.new ≡ into.old }
+        // The block that is given goes first, and all others stay.
+        ensures order { self.new ≡ promoted (nat_eq sector) self.old }
     {
         let Some(blocks) = &mut self.blocks else {
             return false;
@@ -51,9 +60,9 @@ impl Cache {
         give_from(blocks, sector, into)
     }
 
-    /// Keeps a block, unless no memory is left.
+    /// Keeps a block, unless no memory is left for one more.
     pub(crate) fn keep(&mut self, sector: u64, node: &Node)
-        ensures { (first : ℕ) (bytes : List ℕ) → Contains self.new (first, bytes) → ((first ≡ sector) × (bytes ≡ node.now)) ⊎ Contains self.old (first, bytes) }
+        ensures { Keeps self.old self.new sector node.now }
     {
         if let Some(blocks) = &mut self.blocks {
             keep_in(blocks, sector, node);
@@ -62,8 +71,7 @@ impl Cache {
 
     /// Forgets each block that meets these sectors in a row: all blocks, where there is one.
     pub(crate) fn forget(&mut self, first: u64, count: u64)
-        ensures kept { (sector : ℕ) (bytes : List ℕ) → Contains self.new (sector, bytes) → Contains self.old (sector, bytes) }
-        ensures apart { (sector : ℕ) (bytes : List ℕ) → Contains self.new (sector, bytes) → (sector + 16 ≤ first) ⊎ (first + count ≤ sector) }
+        ensures { Forgets self.old self.new first count }
     {
         if self.meets(first, count) {
             self.clear();
@@ -72,7 +80,7 @@ impl Cache {
 
     // Whether a block that is kept meets these sectors.
     fn meets(&self, first: u64, count: u64) -> bool
-        ensures { result ≡ false → (sector : ℕ) (bytes : List ℕ) → Contains self.now (sector, bytes) → (sector + 16 ≤ first) ⊎ (first + count ≤ sector) }
+        ensures { (result ≡ false) ↔ AreApart self.now first count }
     {
         match &self.blocks {
             Some(blocks) => meets_in(blocks, first, count),
@@ -93,7 +101,9 @@ impl Cache {
 // Gives the block of a sector from those that are kept.
 fn give_from(blocks: &mut LruCache<u64, Node>, sector: u64, into: &mut Node) -> bool
     ensures given { IsTrue result → Contains blocks.old.entries (sector, into.new) }
-    ensures kept { (first : ℕ) (bytes : List ℕ) → Contains blocks.new.entries (first, bytes) → Contains blocks.old.entries (first, bytes) }
+    ensures missed { result ≡ false → KeepsNone blocks.old.entries sector }
+    ensures untouched { result ≡ false → into.new ≡ into.old }
+    ensures order { blocks.new ≡ lru_cache (promoted (nat_eq sector) blocks.old.entries) blocks.old.cap }
 {
     match blocks.get(&sector) {
         Some(node) => {
@@ -104,9 +114,9 @@ fn give_from(blocks: &mut LruCache<u64, Node>, sector: u64, into: &mut Node) -> 
     }
 }
 
-// Keeps a copy of a block, unless no memory is left.
+// Keeps a copy of a block, unless no memory is left for one more.
 fn keep_in(blocks: &mut LruCache<u64, Node>, sector: u64, node: &Node)
-    ensures { (first : ℕ) (bytes : List ℕ) → Contains blocks.new.entries (first, bytes) → ((first ≡ sector) × (bytes ≡ node.now)) ⊎ Contains blocks.old.entries (first, bytes) }
+    ensures { (blocks.new ≡ lru_cache (put_entries nat_eq blocks.old sector node.now) blocks.old.cap) ⊎ ((blocks.new ≡ blocks.old) × KeepsNone blocks.old.entries sector) }
 {
     let mut copy = Node::new();
     copy.put_bytes(0, node.as_slice());
@@ -118,7 +128,7 @@ fn keep_in(blocks: &mut LruCache<u64, Node>, sector: u64, node: &Node)
 
 // Whether one of the blocks that are kept meets these sectors.
 fn meets_in(blocks: &LruCache<u64, Node>, first: u64, count: u64) -> bool
-    ensures { result ≡ false → (sector : ℕ) (bytes : List ℕ) → Contains blocks.now.entries (sector, bytes) → (sector + 16 ≤ first) ⊎ (first + count ≤ sector) }
+    ensures { (result ≡ false) ↔ AreApart blocks.now.entries first count }
 {
     for (sector, _) in blocks.iter() {
         if !is_apart(*sector, first, count) {
@@ -130,7 +140,7 @@ fn meets_in(blocks: &LruCache<u64, Node>, first: u64, count: u64) -> bool
 
 // Whether the 16 sectors of a block from this one on meet none of these in a row.
 fn is_apart(sector: u64, first: u64, count: u64) -> bool
-    ensures { IsTrue result → (sector + 16 ≤ first) ⊎ (first + count ≤ sector) }
+    ensures { IsTrue result ↔ IsApart sector first count }
 {
     if sector < first {
         16 <= first - sector

@@ -6,6 +6,7 @@ mod block_writes;
 mod cache;
 mod fault;
 mod io;
+mod laws;
 mod node;
 mod ptr;
 
@@ -13,5 +14,6 @@ pub use block_reads::{load, read};
 pub use block_writes::{save, write};
 pub use fault::BlockFault;
 pub use io::Io;
+pub use laws::blocks_outlive_writes;
 pub use node::Node;
 pub use ptr::{Ptr, get_sum, put_sum};

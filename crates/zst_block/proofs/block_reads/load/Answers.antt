@@ -1,7 +1,7 @@
 use Rattle.std.proofs.Common.{rules, ◌≡◌, ◌∙◌, ◌≤◌, ⊎_elim, sym, refl}
 use Rattle.std.specs.Prelude.{Ok}
 use Rattle.zst_block.proofs.BlocksLaws.{IsBlock-length}
-use Rattle.zst_block.proofs.Cached.{block_bytes, compared_answer, compared_gives, named_node}
+use Rattle.zst_block.proofs.Cached.{block_bytes, compared_answer, compared_gives, Contains-Keeps, kept_looked, named_node}
 use Rattle.zst_block.proofs.block_reads.load.Goals as goal
 
 pub returns-then-ptr-ne8192-clause-there : goal.returns-then-ptr-ne8192-clause-there
@@ -10,11 +10,13 @@ returns-then-ptr-ne8192-clause-there g c = λ bytes honest has long.
     absurd (c.if-ptr-ne8192.true stated)
 
 pub invariant_of-io : goal.invariant_of-io
-invariant_of-io g c = record {
-  fits = c.args.io.now.fits;
-  told = λ honest sector bytes is. c.args.io.now.told honest sector bytes (c.is_kept.ensures.kept sector bytes is);
-  behind = λ sector bytes is. c.args.io.now.behind sector bytes (c.is_kept.ensures.kept sector bytes is);
-}
+invariant_of-io g c =
+    let was = kept_looked c.args.io.now.cache c.is_kept.new.cache c.args.ptr.sector c.is_kept.result c.is_kept.ensures.order c.is_kept.ensures.same in
+    record {
+      fits = c.args.io.now.fits;
+      told = λ honest sector bytes is. c.args.io.now.told honest sector bytes (was sector bytes is);
+      behind = λ sector bytes is. c.args.io.now.behind sector bytes (was sector bytes is);
+    }
 
 pub returns-then-is_kept-clause-answer : goal.returns-then-is_kept-clause-answer
 returns-then-is_kept-clause-answer g c = λ honest stated.
@@ -40,32 +42,36 @@ returns-then-is_kept-clause-damaged g c = λ honest.
 
 pub invariant_of-io-then-ptr-ge8 : goal.invariant_of-io-then-ptr-ge8
 invariant_of-io-then-ptr-ge8 g c =
+    let was = kept_looked c.args.io.now.cache c.is_kept.new.cache c.args.ptr.sector c.is_kept.result c.is_kept.ensures.order c.is_kept.ensures.same in
     let read = c.read-outcome.ensures in
     let stated : c.args.ptr.length ≡ 8192 = search rules in
     let ok : c.read-outcome.result ≡ Ok tt = search rules in
     let from : 8 ≤ c.args.ptr.sector = search rules in
+    let one = Contains-Keeps c.is_kept.new.cache c.keep.new.self c.args.ptr.sector c.read-outcome.new.self c.keep.ensures in
     record {
       fits = rw read.reads.size c.args.io.now.fits;
       told = λ honest sector bytes is. ⊎_elim
           (λ put. rw (read.reads.seen, put.0, put.1) (block_bytes _ _ c.args.ptr c.read-outcome.new.self c.read-outcome.result ok stated (read.answer honest)))
-          (λ before. rw read.reads.seen (c.args.io.now.told (read.reads.honest honest) sector bytes (c.is_kept.ensures.kept sector bytes before))) (c.keep.ensures sector bytes is);
-      behind = λ sector bytes is. ⊎_elim (λ put. rw put.0 from) (λ before. c.args.io.now.behind sector bytes (c.is_kept.ensures.kept sector bytes before)) (c.keep.ensures sector bytes is);
+          (λ before. rw read.reads.seen (c.args.io.now.told (read.reads.honest honest) sector bytes (was sector bytes before))) (one sector bytes is);
+      behind = λ sector bytes is. ⊎_elim (λ put. rw put.0 from) (λ before. c.args.io.now.behind sector bytes (was sector bytes before)) (one sector bytes is);
     }
 
 pub invariant_of-io-else-ptr-ge8 : goal.invariant_of-io-else-ptr-ge8
 invariant_of-io-else-ptr-ge8 g c =
+    let was = kept_looked c.args.io.now.cache c.is_kept.new.cache c.args.ptr.sector c.is_kept.result c.is_kept.ensures.order c.is_kept.ensures.same in
     let reads = c.read-outcome.ensures.reads in
     record {
       fits = rw reads.size c.args.io.now.fits;
-      told = λ honest sector bytes is. rw reads.seen (c.args.io.now.told (reads.honest honest) sector bytes (c.is_kept.ensures.kept sector bytes is));
-      behind = λ sector bytes is. c.args.io.now.behind sector bytes (c.is_kept.ensures.kept sector bytes is);
+      told = λ honest sector bytes is. rw reads.seen (c.args.io.now.told (reads.honest honest) sector bytes (was sector bytes is));
+      behind = λ sector bytes is. c.args.io.now.behind sector bytes (was sector bytes is);
     }
 
 pub invariant_of-io-else-eq : goal.invariant_of-io-else-eq
 invariant_of-io-else-eq g c =
+    let was = kept_looked c.args.io.now.cache c.is_kept.new.cache c.args.ptr.sector c.is_kept.result c.is_kept.ensures.order c.is_kept.ensures.same in
     let reads = c.read-outcome.ensures.reads in
     record {
       fits = rw reads.size c.args.io.now.fits;
-      told = λ honest sector bytes is. rw reads.seen (c.args.io.now.told (reads.honest honest) sector bytes (c.is_kept.ensures.kept sector bytes is));
-      behind = λ sector bytes is. c.args.io.now.behind sector bytes (c.is_kept.ensures.kept sector bytes is);
+      told = λ honest sector bytes is. rw reads.seen (c.args.io.now.told (reads.honest honest) sector bytes (was sector bytes is));
+      behind = λ sector bytes is. c.args.io.now.behind sector bytes (was sector bytes is);
     }

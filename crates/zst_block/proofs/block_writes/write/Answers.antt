@@ -1,5 +1,5 @@
 use Rattle.std.proofs.Common.{◌/◌, length, refl}
-use Rattle.zst_block.proofs.Cached.{told_after}
+use Rattle.zst_block.proofs.Cached.{kept_before, told_after}
 use Rattle.zst_block.proofs.IoCallLemmas.{Works-write}
 use Rattle.zst_block.proofs.block_writes.write.Goals as goal
 
@@ -15,6 +15,6 @@ invariant_of-io g c =
     record {
       fits = wrote.kept_fit;
       told = told_after (g.D.Disk.state c.args.io.now.disk.now) (g.D.Disk.state c.write_block-outcome.new.disk) c.write_block-outcome.new.space c.args.bytes.now c.args.io.now.cache c.forget_written.new.cache c.write_block-outcome.result
-          c.args.io.now.told forgot.kept forgot.apart forgot.none wrote.writes wrote.wrote;
-      behind = λ sector bytes is. c.args.io.now.behind sector bytes (forgot.kept sector bytes is);
+          c.args.io.now.told forgot.wrote forgot.none wrote.writes wrote.wrote;
+      behind = λ sector bytes is. c.args.io.now.behind sector bytes (kept_before c.args.io.now.cache c.forget_written.new.cache c.write_block-outcome.result forgot.wrote forgot.none sector bytes is);
     }

@@ -1,7 +1,7 @@
 use Rattle.std.proofs.Common.{◌∙◌, nat_eq, sym, ap, arith, length}
 use Rattle.std.proofs.lemmas.Bool.{eqb-true}
-use Rattle.lru.proofs.CallerLemmas.{Contains-lookup, Contains-promoted}
-use Rattle.zst_block.proofs.Cached.{whole}
+use Rattle.lru.proofs.CallerLemmas.{Contains-lookup}
+use Rattle.zst_block.proofs.Cached.{KeepsNone-lookup, whole}
 use Rattle.zst_block.proofs.cache.give_from.Goals as goal
 
 pub returns-in-Some-clause-given : goal.returns-in-Some-clause-given
@@ -12,8 +12,5 @@ returns-in-Some-clause-given c = λ yes.
     let key = eqb-true c.args.sector found.0 found.2 in
     rw (same, key) found.1
 
-pub returns-in-Some-clause-kept : goal.returns-in-Some-clause-kept
-returns-in-Some-clause-kept c = λ first bytes is. Contains-promoted (nat_eq c.args.sector) c.args.blocks.now.entries (first, bytes) (rw c.get.follows.holds-at-none at is)
-
-pub returns-in-None-clause-kept : goal.returns-in-None-clause-kept
-returns-in-None-clause-kept c = λ first bytes is. Contains-promoted (nat_eq c.args.sector) c.args.blocks.now.entries (first, bytes) (rw c.get.follows.holds-at-none at is)
+pub returns-in-None-clause-missed : goal.returns-in-None-clause-missed
+returns-in-None-clause-missed c = λ no. KeepsNone-lookup c.args.blocks.now.entries c.args.sector (sym c.in-None.ensures.value)
