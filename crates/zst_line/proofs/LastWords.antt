@@ -3,13 +3,13 @@ use Rattle.std.proofs.Common.{◌≡◌, ℕ, suc, ◌-◌, ◌<◌, None, List,
 use Rattle.std.proofs.lemmas.List.{length-map}
 use Rattle.std.specs.List.{AllZip}
 use Rattle.zst_line.specs.declared.kind.Kind.{Kind}
-use Rattle.zst_line.specs.declared.slot.Slot.{Slot}
+use Rattle.zst_line.specs.declared.word_slot.WordSlot.{WordSlot}
 use Rattle.zst_line.specs.Grammar.{named, places_behind, word_at}
 use Rattle.zst_line.specs.WordFaults.{Takes}
 use Rattle.zst_line.proofs.WordWalk.{word_here}
 use Rattle.zst_line.proofs.OptionPlaces.{last_takes}
 
-pub last_word : (kind : Kind) (one last : Slot) (words : List (String Global)) (word : String Global) (text : List ℕ) → ((count : ℕ) → named kind count ≡ one ∷ last ∷ [])
+pub last_word : (kind : Kind) (one last : WordSlot) (words : List (String Global)) (word : String Global) (text : List ℕ) → ((count : ℕ) → named kind count ≡ one ∷ last ∷ [])
     → AllZip Takes (places_behind kind [] None (map string_bytes words)) (map string_bytes words) → word ≡ get_or words (length words - 1) word → text ≡ string_bytes word → Takes last text
 last_word kind one last words word text two fits is same =
     let end = last_takes kind one last (map string_bytes words) two fits in

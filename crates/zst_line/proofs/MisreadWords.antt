@@ -2,18 +2,18 @@
 use Rattle.std.proofs.Common.{ℕ, List, [], ◌∷◌, Err, inl, inr}
 use Rattle.zst_line.specs.declared.line.LineFault.{LineFault}
 use Rattle.zst_line.specs.declared.line.LineFault.TheVariants as faults
-use Rattle.zst_line.specs.declared.slot.Slot.{Slot}
-use Rattle.zst_line.specs.declared.slot.Slot.TheVariants.{Token, Name}
+use Rattle.zst_line.specs.declared.word_slot.WordSlot.{WordSlot}
+use Rattle.zst_line.specs.declared.word_slot.WordSlot.TheVariants.{Token, Name}
 use Rattle.zst_line.specs.Grammar.{places_of}
 use Rattle.zst_line.specs.WordFaults.{Misread, FirstMisread, MisreadAs}
 use Rattle.zst_line.specs.Line.{LineAnswers}
 
-no_usage_here : (slot : Slot) (word : List ℕ) (at : ℕ) → Misread slot word (faults.Usage at) → ⊥
+no_usage_here : (slot : WordSlot) (word : List ℕ) (at : ℕ) → Misread slot word (faults.Usage at) → ⊥
 no_usage_here (Name names) word at h = h
 no_usage_here Token word at h = h
 no_usage_here slot word at h = h
 
-no_usage : (slots : List Slot) (words : List (List ℕ)) (at : ℕ) → FirstMisread slots words (faults.Usage at) → ⊥
+no_usage : (slots : List WordSlot) (words : List (List ℕ)) (at : ℕ) → FirstMisread slots words (faults.Usage at) → ⊥
 no_usage [] words at h = h
 no_usage (slot ∷ slots) [] at h = h
 no_usage (slot ∷ slots) (word ∷ words) at (inl here) = no_usage_here slot word at here

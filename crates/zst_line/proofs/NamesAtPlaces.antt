@@ -4,7 +4,7 @@ use Rattle.std.proofs.lemmas.Bool.{false≢true}
 use Rattle.zst_model.specs.pools.Step.{HasObjects, IsName}
 use Rattle.zst_line.specs.declared.name_kinds.NameKind.{NameKind}
 use Rattle.zst_line.specs.declared.name_kinds.NameKind.TheVariants as kinds
-use Rattle.zst_line.specs.declared.slot.Slot.TheVariants as slots
+use Rattle.zst_line.specs.declared.word_slot.WordSlot.TheVariants as slots
 use Rattle.zst_line.specs.Grammar.{dataset_or_snapshot}
 use Rattle.zst_line.specs.WordFaults.{Takes}
 use Rattle.zst_line.specs.Line.{as_name, name_of}

@@ -4,8 +4,8 @@ use Rattle.std.proofs.lemmas.Fmt.{decimal_injective}
 use Rattle.std.proofs.lemmas.List.{length-map}
 use Rattle.std.proofs.lemmas.Slice.Zip.{AllZip-long}
 use Rattle.std.specs.List.{AllZip}
-use Rattle.zst_line.specs.declared.slot.Slot.{Slot}
-use Rattle.zst_line.specs.declared.slot.Slot.TheVariants.{Image, Number}
+use Rattle.zst_line.specs.declared.word_slot.WordSlot.{WordSlot}
+use Rattle.zst_line.specs.declared.word_slot.WordSlot.TheVariants.{Image, Number}
 use Rattle.zst_line.specs.Grammar.{word_at}
 use Rattle.zst_line.specs.WordFaults.{Takes}
 use Rattle.zst_line.specs.Words.{IsNumber, IsSize}
@@ -38,21 +38,21 @@ size_is_block word n is fits e =
     let same : n ≡ is.size = decimal_injective n is.size fits (omega arith) (sym e ∙ is.spelled) in
     rw same is.block
 
-fit_at : (slots : List Slot) (words : List (List ℕ)) (i : ℕ) → AllZip Takes slots words → i < length slots → Takes (get_or slots i Image) (word_at words i)
+fit_at : (slots : List WordSlot) (words : List (List ℕ)) (i : ℕ) → AllZip Takes slots words → i < length slots → Takes (get_or slots i Image) (word_at words i)
 fit_at [] words i fits h = absurd (omega arith)
 fit_at (slot ∷ slots) [] i fits h = absurd fits
 fit_at (slot ∷ slots) (word ∷ words) zero fits h = fits.0
 fit_at (slot ∷ slots) (word ∷ words) (suc i) fits h = fit_at slots words i fits.1 (omega arith)
 
 -- there are as many words as places
-pub as_many : (slots : List Slot) (words : List (String Global)) → AllZip Takes slots (map string_bytes words) → length words ≡ length slots
+pub as_many : (slots : List WordSlot) (words : List (String Global)) → AllZip Takes slots (map string_bytes words) → length words ≡ length slots
 as_many slots words fits =
     let long = AllZip-long Takes slots (map string_bytes words) fits in
     let count = length-map words string_bytes in
     omega arith
 
 -- a word is what its place takes
-pub takes_at : (slots : List Slot) (words : List (String Global)) (i : ℕ) (word : String Global) (text : List ℕ) → AllZip Takes slots (map string_bytes words) → i < length slots → word ≡ get_or words i word
+pub takes_at : (slots : List WordSlot) (words : List (String Global)) (i : ℕ) (word : String Global) (text : List ℕ) → AllZip Takes slots (map string_bytes words) → i < length slots → word ≡ get_or words i word
     → text ≡ string_bytes word → Takes (get_or slots i Image) text
 takes_at slots words i word text fits h is same =
     let long = AllZip-long Takes slots (map string_bytes words) fits in
@@ -63,14 +63,14 @@ takes_at slots words i word text fits h is same =
     rw text_is at (fit_at slots (map string_bytes words) i fits h)
 
 -- a number at a place is in the range of its place
-pub number_at : (slots : List Slot) (words : List (String Global)) (i low high n : ℕ) (word : String Global) (text : List ℕ) → AllZip Takes slots (map string_bytes words) → i < length slots
+pub number_at : (slots : List WordSlot) (words : List (String Global)) (i low high n : ℕ) (word : String Global) (text : List ℕ) → AllZip Takes slots (map string_bytes words) → i < length slots
     → get_or slots i Image ≡ Number low high → high < 2 ^ 64 → word ≡ get_or words i word → text ≡ string_bytes word → text ≡ decimal n → n < 2 ^ 64 → (low ≤ n) × (n ≤ high)
 number_at slots words i low high n word text fits h slot small is same spelled below =
     let takes = takes_at slots words i word text fits h is same in
     in_range text n low high (rw slot at takes).0 small below spelled
 
 -- a number at a place is one of 64 bits
-pub number_taken : (slots : List Slot) (words : List (String Global)) (i low high : ℕ) (word : String Global) (text : List ℕ) → AllZip Takes slots (map string_bytes words) → i < length slots
+pub number_taken : (slots : List WordSlot) (words : List (String Global)) (i low high : ℕ) (word : String Global) (text : List ℕ) → AllZip Takes slots (map string_bytes words) → i < length slots
     → get_or slots i Image ≡ Number low high → high < 2 ^ 64 → word ≡ get_or words i word → text ≡ string_bytes word → IsNumber 0 (2 ^ 64 - 1) text
 number_taken slots words i low high word text fits h slot small is same =
     let takes = takes_at slots words i word text fits h is same in

@@ -6,8 +6,8 @@ use Rattle.zst_line.specs.declared.kind.Kind.{Kind}
 use Rattle.zst_line.specs.declared.name_kinds.Names.{Names}
 use Rattle.zst_line.specs.declared.options.OptionValue.{OptionValue}
 use Rattle.zst_line.specs.declared.options.OptionValue.TheVariants.{Nothing, NameOf}
-use Rattle.zst_line.specs.declared.slot.Slot.{Slot}
-use Rattle.zst_line.specs.declared.slot.Slot.TheVariants.{Name, Given}
+use Rattle.zst_line.specs.declared.word_slot.WordSlot.{WordSlot}
+use Rattle.zst_line.specs.declared.word_slot.WordSlot.TheVariants.{Name, Given}
 use Rattle.zst_line.specs.Grammar.{named, option_of, new_option, stands_in, value_of, places_behind, goes_on, places_of, option_at, word_at}
 use Rattle.zst_line.specs.WordFaults.{Takes}
 use Rattle.zst_line.specs.Line.{first_of, value_behind}
@@ -16,39 +16,39 @@ use Rattle.zst_line.proofs.WordWalk.{drop_at}
 use Rattle.zst_line.proofs.Texts.{differ, same_bytes}
 
 -- the places from a word on, by what the option takes that it is
-abbrev pub step : Kind → List (List ℕ) → List ℕ → List (List ℕ) → Option OptionValue → List Slot
+abbrev pub step : Kind → List (List ℕ) → List ℕ → List (List ℕ) → Option OptionValue → List WordSlot
 step kind before word words taken = elim taken [
   | None ↦ named kind (length (word ∷ words))
   | Some taking ↦ Given ∷ places_behind kind (before ++ word ∷ []) (value_of taking) words
 ]
 
 -- places that end in those of the named words
-pub record Ends (kind : Kind) (places : List Slot) : Type 0 where
-  pub front : List Slot
+pub record Ends (kind : Kind) (places : List WordSlot) : Type 0 where
+  pub front : List WordSlot
   pub count : ℕ
   pub ends : places ≡ front ++ named kind count
 
-with_place : (kind : Kind) (slot : Slot) (places : List Slot) → Ends kind places → Ends kind (slot ∷ places)
-with_place kind slot places e = record { front = slot ∷ e.front; count = e.count; ends = ap (λ (rest : List Slot). slot ∷ rest) e.ends }
+with_place : (kind : Kind) (slot : WordSlot) (places : List WordSlot) → Ends kind places → Ends kind (slot ∷ places)
+with_place kind slot places e = record { front = slot ∷ e.front; count = e.count; ends = ap (λ (rest : List WordSlot). slot ∷ rest) e.ends }
 
-step_ends : (kind : Kind) (before : List (List ℕ)) (word : List ℕ) (words : List (List ℕ)) → ((value : Option Slot) → Ends kind (places_behind kind (before ++ word ∷ []) value words))
+step_ends : (kind : Kind) (before : List (List ℕ)) (word : List ℕ) (words : List (List ℕ)) → ((value : Option WordSlot) → Ends kind (places_behind kind (before ++ word ∷ []) value words))
     → (taken : Option OptionValue) → Ends kind (step kind before word words taken)
 step_ends kind before word words behind None = record { front = []; count = length (word ∷ words); ends = refl }
 step_ends kind before word words behind (Some taking) = with_place kind Given (places_behind kind (before ++ word ∷ []) (value_of taking) words) (behind (value_of taking))
 
-pub ends : (kind : Kind) (before : List (List ℕ)) (value : Option Slot) (words : List (List ℕ)) → Ends kind (places_behind kind before value words)
+pub ends : (kind : Kind) (before : List (List ℕ)) (value : Option WordSlot) (words : List (List ℕ)) → Ends kind (places_behind kind before value words)
 ends kind before (Some value) [] = record { front = value ∷ []; count = 0; ends = refl }
 ends kind before (Some value) (word ∷ words) = with_place kind value (places_behind kind (before ++ word ∷ []) None words) (ends kind (before ++ word ∷ []) None words)
 ends kind before None [] = record { front = []; count = 0; ends = refl }
 ends kind before None (word ∷ words) = step_ends kind before word words (λ value. ends kind (before ++ word ∷ []) value words) (new_option kind before word)
 
 -- the last of two named words, which has to be what the last place takes
-pub record LastTakes (slot : Slot) (words : List (List ℕ)) : Type 0 where
+pub record LastTakes (slot : WordSlot) (words : List (List ℕ)) : Type 0 where
   pub before : ℕ
   pub long : length words ≡ suc (suc before)
   pub takes : Takes slot (get_or words (suc before) [])
 
-last_of : (front : List Slot) (one last : Slot) (words : List (List ℕ)) → AllZip Takes (front ++ one ∷ last ∷ []) words → LastTakes last words
+last_of : (front : List WordSlot) (one last : WordSlot) (words : List (List ℕ)) → AllZip Takes (front ++ one ∷ last ∷ []) words → LastTakes last words
 last_of [] one last [] fits = absurd fits
 last_of [] one last (a ∷ []) fits = absurd fits.1
 last_of [] one last (a ∷ b ∷ []) fits = record { before = 0; long = refl; takes = fits.1.0 }
@@ -58,20 +58,20 @@ last_of (slot ∷ front) one last (word ∷ words) fits =
     let later = last_of front one last words fits.1 in
     record { before = suc later.before; long = ap suc later.long; takes = later.takes }
 
-pub last_takes : (kind : Kind) (one last : Slot) (words : List (List ℕ)) → ((count : ℕ) → named kind count ≡ one ∷ last ∷ []) → AllZip Takes (places_behind kind [] None words) words → LastTakes last words
+pub last_takes : (kind : Kind) (one last : WordSlot) (words : List (List ℕ)) → ((count : ℕ) → named kind count ≡ one ∷ last ∷ []) → AllZip Takes (places_behind kind [] None words) words → LastTakes last words
 last_takes kind one last words two fits =
     let e = ends kind [] None words in
     last_of e.front one last words (rw (e.ends, two e.count) at fits)
 
 -- a place that takes no word that begins with `-`
-abbrev pub Refuses : Slot → Type 0
+abbrev pub Refuses : WordSlot → Type 0
 Refuses slot = (word : List ℕ) → Takes slot word → IsOption word → ⊥
 
-abbrev pub AllRefuse : List Slot → Type 0
+abbrev pub AllRefuse : List WordSlot → Type 0
 AllRefuse [] = Unit {0}
 AllRefuse (slot ∷ slots) = Refuses slot × AllRefuse slots
 
-abbrev ValueRefuses : Option Slot → Type 0
+abbrev ValueRefuses : Option WordSlot → Type 0
 ValueRefuses None = Unit {0}
 ValueRefuses (Some slot) = Refuses slot
 
@@ -83,7 +83,7 @@ value_refuses (NameOf names) = λ word takes is. takes.0.0 is
 passed : (option word : List ℕ) (words : List (List ℕ)) → IsOption option → (IsOption word → ⊥) → value_behind option (word ∷ words) ≡ value_behind option words
 passed option word words is other = rw (differ word option (λ e. other (rw e is))) refl
 
-no_value : (slots : List Slot) (words : List (List ℕ)) (option : List ℕ) → IsOption option → AllRefuse slots → AllZip Takes slots words → value_behind option words ≡ None
+no_value : (slots : List WordSlot) (words : List (List ℕ)) (option : List ℕ) → IsOption option → AllRefuse slots → AllZip Takes slots words → value_behind option words ≡ None
 no_value [] [] option is refuse fits = refl
 no_value [] (word ∷ words) option is refuse fits = absurd fits
 no_value (slot ∷ slots) [] option is refuse fits = absurd fits
@@ -122,7 +122,7 @@ value_next kind before names (word ∷ words) value fits e = let same : word ≡
 -- what is known of the words behind a word
 abbrev KnownBehind : Kind → List (List ℕ) → List (List ℕ) → List ℕ → Names → List ℕ → Type 0
 KnownBehind kind before words option names value =
-    (pending : Option Slot) → ValueRefuses pending → AllZip Takes (places_behind kind before pending words) words → value_behind option words ≡ Some value → Takes (Name names) value
+    (pending : Option WordSlot) → ValueRefuses pending → AllZip Takes (places_behind kind before pending words) words → value_behind option words ≡ Some value → Takes (Name names) value
 
 at_option : (kind : Kind) (before : List (List ℕ)) (word : List ℕ) (words : List (List ℕ)) (option : List ℕ) (names : Names) (value : List ℕ) → TakesName kind option names
     → KnownBehind kind (before ++ word ∷ []) words option names value → (taking : OptionValue) → new_option kind before word ≡ Some taking

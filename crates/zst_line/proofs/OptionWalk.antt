@@ -5,14 +5,14 @@ use Rattle.std.proofs.lemmas.List.{take_more, drop_all}
 use Rattle.zst_line.specs.declared.kind.Kind.{Kind}
 use Rattle.zst_line.specs.declared.options.OptionValue.{OptionValue}
 use Rattle.zst_line.specs.declared.options.OptionValue.TheVariants.{Nothing, NameOf}
-use Rattle.zst_line.specs.declared.slot.Slot.{Slot}
-use Rattle.zst_line.specs.declared.slot.Slot.TheVariants.{Name, Given}
+use Rattle.zst_line.specs.declared.word_slot.WordSlot.{WordSlot}
+use Rattle.zst_line.specs.declared.word_slot.WordSlot.TheVariants.{Name, Given}
 use Rattle.zst_line.specs.Grammar.{named, new_option, option_at, option_places, places_behind, value_of, word_at}
 use Rattle.zst_line.proofs.WordWalk.{drop_at}
 use Rattle.zst_line.proofs.OptionPlaces.{step}
 
 -- the places of the words from a place on, where no value is awaited
-abbrev pub behind : Kind → List (List ℕ) → ℕ → List Slot
+abbrev pub behind : Kind → List (List ℕ) → ℕ → List WordSlot
 behind kind words place = places_behind kind (take place words) None (drop place words)
 
 new_at : (kind : Kind) (words : List (List ℕ)) (place : ℕ) → place < length words → option_at kind words place ≡ new_option kind (take place words) (word_at words place)
@@ -30,7 +30,7 @@ none_past kind words place taking false e = absurd cc
 pub option_there : (kind : Kind) (words : List (List ℕ)) (place : ℕ) (taking : OptionValue) → option_at kind words place ≡ Some taking → place < length words
 option_there kind words place taking e = ltb-true place (length words) (none_past kind words place taking (nat_lt place (length words)) e)
 
-value_next : (kind : Kind) (words : List (List ℕ)) (place : ℕ) (value : Slot) → place ≤ length words
+value_next : (kind : Kind) (words : List (List ℕ)) (place : ℕ) (value : WordSlot) → place ≤ length words
     → places_behind kind (take place words) (Some value) (drop place words) ≡ value ∷ behind kind words (place + 1)
 value_next kind words place value most =
     elim (cases_lt place (length words)) [
@@ -53,15 +53,15 @@ behind_option kind words place (NameOf names) e =
     let h = option_there kind words place (NameOf names) e in
     let next : place + 1 + 1 ≡ place + 2 = omega arith in
     option_next kind words place (NameOf names) e
-    ∙ ap (λ (later : List Slot). Given ∷ later) (rw next at (value_next kind words (place + 1) (Name names) (omega arith)))
+    ∙ ap (λ (later : List WordSlot). Given ∷ later) (rw next at (value_next kind words (place + 1) (Name names) (omega arith)))
 
 -- the places that stand, with those of one more option
-pub one_option_more : (kind : Kind) (words : List (List ℕ)) (all places next : List Slot) (taking : OptionValue) → all ≡ places ++ behind kind words (length places)
+pub one_option_more : (kind : Kind) (words : List (List ℕ)) (all places next : List WordSlot) (taking : OptionValue) → all ≡ places ++ behind kind words (length places)
     → option_at kind words (length places) ≡ Some taking → next ≡ places ++ option_places taking → all ≡ next ++ behind kind words (length next)
 one_option_more kind words all places next taking was e is =
     let long : length next ≡ length places + length (option_places taking) = simp length-append at (ap length is) in
     let here = behind_option kind words (length places) taking e in
-    let later : all ≡ places ++ (option_places taking ++ behind kind words (length places + length (option_places taking))) = was ∙ ap (λ (rest : List Slot). places ++ rest) here in
+    let later : all ≡ places ++ (option_places taking ++ behind kind words (length places + length (option_places taking))) = was ∙ ap (λ (rest : List WordSlot). places ++ rest) here in
     rw (long, is, append_assoc) later
 
 -- behind the options stand the named words

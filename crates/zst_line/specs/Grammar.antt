@@ -7,8 +7,8 @@ use Rattle.zst_line.specs.declared.kind.Kind.TheVariants as kinds
 use Rattle.zst_line.specs.declared.name_kinds.Names.{Names}
 use Rattle.zst_line.specs.declared.options.OptionValue.{OptionValue}
 use Rattle.zst_line.specs.declared.options.OptionValue.TheVariants.{Nothing, NameOf}
-use Rattle.zst_line.specs.declared.slot.Slot.{Slot}
-use Rattle.zst_line.specs.declared.slot.Slot.TheVariants.{Image, Token, Name, Number, BlockSize, Bonus, Spill, HexBytes, Given}
+use Rattle.zst_line.specs.declared.word_slot.WordSlot.{WordSlot}
+use Rattle.zst_line.specs.declared.word_slot.WordSlot.TheVariants.{Image, Token, Name, Number, BlockSize, Bonus, Spill, HexBytes, Given}
 
 -- the first word of a line
 abbrev pub word_of : Kind → List ℕ
@@ -57,14 +57,14 @@ abbrev pub any_name : Names
 any_name = record { datasets = true; snapshots = true; bookmarks = true }
 
 -- a number of 64 bits that isn't 0, and any number of 64 bits
-abbrev pub count : Slot
+abbrev pub count : WordSlot
 count = Number 1 (2 ^ 64 - 1)
 
-abbrev pub index : Slot
+abbrev pub index : WordSlot
 index = Number 0 (2 ^ 64 - 1)
 
 -- the places of the named words of a line, of which so many stand; `list` may have a name, and the last snapshots of `redact` aren't here
-abbrev pub front : Kind → ℕ → List Slot
+abbrev pub front : Kind → ℕ → List WordSlot
 front kinds.Dump words = []
 front kinds.Create words = Image ∷ Number 128 (2 ^ 31) ∷ Number 1 (2 ^ 31 - 1) ∷ []
 front kinds.Fs words = Image ∷ Name dataset ∷ []
@@ -96,7 +96,7 @@ last_snapshots kinds.Redact words = max 1 (min 16 (words - 3))
 last_snapshots kind words = 0
 
 -- the places of the named words of a line, of which so many stand
-abbrev pub named : Kind → ℕ → List Slot
+abbrev pub named : Kind → ℕ → List WordSlot
 named kind words = front kind words ++ replicate (last_snapshots kind words) (Name snapshot)
 
 -- the word at a place, counted from 0
@@ -130,17 +130,17 @@ abbrev pub option_at : Kind → List (List ℕ) → ℕ → Option OptionValue
 option_at kind words place = if nat_lt place (length words) then new_option kind (take place words) (word_at words place) else None
 
 -- the place of an option's value, where it takes one
-abbrev pub value_of : OptionValue → Option Slot
+abbrev pub value_of : OptionValue → Option WordSlot
 value_of Nothing = None
 value_of (NameOf names) = Some (Name names)
 
 -- the places of an option: its own, and that of its value
-abbrev pub option_places : OptionValue → List Slot
+abbrev pub option_places : OptionValue → List WordSlot
 option_places Nothing = Given ∷ []
 option_places (NameOf names) = Given ∷ Name names ∷ []
 
 -- The places of the words behind those before, the first of them perhaps an option's value. Options come in any order, each once and with its value behind it; then come the named words.
-abbrev pub places_behind : Kind → List (List ℕ) → Option Slot → List (List ℕ) → List Slot
+abbrev pub places_behind : Kind → List (List ℕ) → Option WordSlot → List (List ℕ) → List WordSlot
 places_behind kind before (Some value) [] = value ∷ named kind 0
 places_behind kind before (Some value) (word ∷ words) = value ∷ places_behind kind (before ++ word ∷ []) None words
 places_behind kind before None [] = named kind 0
@@ -155,5 +155,5 @@ goes_on kinds.Send words = bytes_eq (word_at words 0) (codes "-t")
 goes_on kind words = false
 
 -- the places of the words behind the first one
-abbrev pub places_of : Kind → List (List ℕ) → List Slot
+abbrev pub places_of : Kind → List (List ℕ) → List WordSlot
 places_of kind words = if goes_on kind words then Given ∷ Token ∷ Image ∷ [] else places_behind kind [] None words

@@ -6,14 +6,14 @@ use Rattle.zst_token.specs.Parser.{token_of}
 use Rattle.zst_line.specs.declared.kind.Kind.{Kind}
 use Rattle.zst_line.specs.declared.line.LineFault.{LineFault}
 use Rattle.zst_line.specs.declared.line.LineFault.TheVariants.{BadName, BadToken}
-use Rattle.zst_line.specs.declared.slot.Slot.{Slot}
-use Rattle.zst_line.specs.declared.slot.Slot.TheVariants.{Image, Token, Name, Number, BlockSize, Bonus, Spill, HexBytes, Given}
+use Rattle.zst_line.specs.declared.word_slot.WordSlot.{WordSlot}
+use Rattle.zst_line.specs.declared.word_slot.WordSlot.TheVariants.{Image, Token, Name, Number, BlockSize, Bonus, Spill, HexBytes, Given}
 use Rattle.zst_line.specs.Words.{IsText, IsHex, IsNumber, IsSize, IsSpill}
 use Rattle.zst_line.specs.NameKinds.{FitsName, IsNamed, NamedStops}
 use Rattle.zst_line.specs.Grammar.{word_of, places_of}
 
 -- a word that may stand at a place; whether it is a name or a token is judged after all places
-abbrev pub Fits : Slot → List ℕ → Type 0
+abbrev pub Fits : WordSlot → List ℕ → Type 0
 Fits Image word = IsText word
 Fits Token word = IsText word
 Fits (Name names) word = FitsName names word
@@ -25,32 +25,32 @@ Fits (HexBytes most) word = IsHex 1 most word
 Fits Given word = Unit {0}
 
 -- the place of the first word that can't stand there, counted from a place on: one that doesn't fit, one too many, or the count of words where one is missing
-abbrev pub Stops : ℕ → List Slot → List (List ℕ) → ℕ → Type 0
+abbrev pub Stops : ℕ → List WordSlot → List (List ℕ) → ℕ → Type 0
 Stops place [] [] at = ⊥
 Stops place [] (word ∷ words) at = at ≡ place
 Stops place (slot ∷ slots) [] at = at ≡ place
 Stops place (slot ∷ slots) (word ∷ words) at = (¬ (Fits slot word) × (at ≡ place)) ⊎ (Fits slot word × Stops (place + 1) slots words at)
 
 -- a word is a name or a token where one has to stand
-abbrev pub IsReadAt : Slot → List ℕ → Type 0
+abbrev pub IsReadAt : WordSlot → List ℕ → Type 0
 IsReadAt (Name names) word = IsNamed word
 IsReadAt Token word = IsOk (token_of word)
 IsReadAt slot word = Unit {0}
 
 -- the fault of a word that isn't the name or the token that has to stand there: where it stops being one
-abbrev pub Misread : Slot → List ℕ → LineFault → Type 0
+abbrev pub Misread : WordSlot → List ℕ → LineFault → Type 0
 Misread (Name names) word (BadName at) = NamedStops word at
 Misread Token word (BadToken at) = token_of word ≡ Err (record { place = at })
 Misread slot word fault = ⊥
 
 -- the fault of the first word that has to be a name or a token and is none
-abbrev pub FirstMisread : List Slot → List (List ℕ) → LineFault → Type 0
+abbrev pub FirstMisread : List WordSlot → List (List ℕ) → LineFault → Type 0
 FirstMisread [] words fault = ⊥
 FirstMisread (slot ∷ slots) [] fault = ⊥
 FirstMisread (slot ∷ slots) (word ∷ words) fault = Misread slot word fault ⊎ (IsReadAt slot word × FirstMisread slots words fault)
 
 -- words whose first names a line; the others and their places have this fact
-pub record OfLine (Fact : List Slot → List (List ℕ) → Type 0) (words : List (List ℕ)) : Type 0 where
+pub record OfLine (Fact : List WordSlot → List (List ℕ) → Type 0) (words : List (List ℕ)) : Type 0 where
   pub kind : Kind
   pub rest : List (List ℕ)
   pub spelled : words ≡ word_of kind ∷ rest
@@ -65,7 +65,7 @@ abbrev pub MisreadAs : LineFault → List (List ℕ) → Type 0
 MisreadAs fault words = OfLine (λ slots rest. AllZip Fits slots rest × FirstMisread slots rest fault) words
 
 -- a word that stands where it may, and is a name or a token where one has to stand
-abbrev pub Takes : Slot → List ℕ → Type 0
+abbrev pub Takes : WordSlot → List ℕ → Type 0
 Takes slot word = Fits slot word × IsReadAt slot word
 
 -- a line: each word stands where it may, and each name and each token is one

@@ -10,12 +10,12 @@ mod name_kinds;
 mod options;
 mod parser;
 mod places;
-mod slot;
 mod snapshots;
 mod streams;
 mod table;
 mod text;
 mod tools;
+mod word_slot;
 mod word_values;
 
 pub use laws::line_has_one_answer;

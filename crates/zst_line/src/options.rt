@@ -4,8 +4,8 @@ ghost use Rattle.zst_line.specs.Grammar.{option_of, stands_in, option_at, value_
 
 use crate::kind::Kind;
 use crate::name_kinds::Names;
-use crate::slot::Slot;
 use crate::table::{BOOKMARK, SNAPSHOT, SNAPSHOT_OR_BOOKMARK};
+use crate::word_slot::WordSlot;
 
 /// What an option takes.
 #[derive(Clone, Copy)]
@@ -17,12 +17,12 @@ pub enum OptionValue {
 
 impl OptionValue {
     /// The place of its value.
-    pub fn value(self) -> Option<Slot>
+    pub fn value(self) -> Option<WordSlot>
         ensures { result ≡ value_of self }
     {
         match self {
             OptionValue::Nothing => None,
-            OptionValue::NameOf(names) => Some(Slot::Name(names)),
+            OptionValue::NameOf(names) => Some(WordSlot::Name(names)),
         }
     }
 }

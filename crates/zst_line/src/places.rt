@@ -7,8 +7,8 @@ ghost use Rattle.zst_line.specs.WordFaults.{Fits, IsReadAt, Stops, FirstMisread}
 use crate::kind::Kind;
 use crate::line::LineFault;
 use crate::options::{OptionValue, goes_on, option_at};
-use crate::slot::{Slot, fits, misread};
 use crate::table::{LAST_SNAPSHOT, RESUME, front};
+use crate::word_slot::{WordSlot, fits, misread};
 use std::alloc::{AllocError, Global};
 
 /// The most snapshots at the end of `redact`.
@@ -26,10 +26,10 @@ fn last_snapshots(kind: Kind, count: usize) -> usize
 }
 
 /// Puts the places of an option behind those before.
-fn push_option(places: &mut Vec<Slot>, taking: OptionValue) -> Result<(), AllocError>
+fn push_option(places: &mut Vec<WordSlot>, taking: OptionValue) -> Result<(), AllocError>
     ensures { IfOk result (λ done. places.new.items ≡ places.old.items ++ option_places taking) }
 {
-    places.push(Slot::Given)?;
+    places.push(WordSlot::Given)?;
     if let Some(value) = taking.value() {
         places.push(value)?;
     }
@@ -37,7 +37,7 @@ fn push_option(places: &mut Vec<Slot>, taking: OptionValue) -> Result<(), AllocE
 }
 
 /// The places of words: options in any order, then the named words.
-pub fn places(alloc: Global, kind: Kind, words: &[String]) -> Result<Vec<Slot>, AllocError>
+pub fn places(alloc: Global, kind: Kind, words: &[String]) -> Result<Vec<WordSlot>, AllocError>
     ensures { IfOk result (λ places. places.items ≡ places_of kind (map string_bytes words.now)) }
 {
     let mut places = Vec::new(alloc);
@@ -56,14 +56,14 @@ pub fn places(alloc: Global, kind: Kind, words: &[String]) -> Result<Vec<Slot>, 
 }
 
 /// Whether there is a word at an index, and it fits this place.
-fn fits_at(slot: Slot, words: &[String], index: usize) -> bool
+fn fits_at(slot: WordSlot, words: &[String], index: usize) -> bool
     ensures { IsTrue result ↔ ((index < length words.now) × Fits slot (word_at (map string_bytes words.now) index)) }
 {
     index < words.len() && fits(slot, words[index].as_str())
 }
 
 /// The index of the first word that can't stand at its place, or the count of words where one is missing.
-pub fn first_misplaced(slots: &[Slot], words: &[String]) -> Option<usize>
+pub fn first_misplaced(slots: &[WordSlot], words: &[String]) -> Option<usize>
     ensures place { MatchOption result
         (AllZip Fits slots.now (map string_bytes words.now))
         (λ index. Stops 1 slots.now (map string_bytes words.now) (index + 1)) }
@@ -81,7 +81,7 @@ pub fn first_misplaced(slots: &[Slot], words: &[String]) -> Option<usize>
 }
 
 /// The fault of the first word that has to be a name or a token and is none.
-pub fn first_misread(slots: &[Slot], words: &[String]) -> Option<LineFault>
+pub fn first_misread(slots: &[WordSlot], words: &[String]) -> Option<LineFault>
     requires { length words.now ≡ length slots.now }
     ensures { MatchOption result
         (AllZip IsReadAt slots.now (map string_bytes words.now))

@@ -4,7 +4,7 @@ ghost use Rattle.std.specs.List.{AllZip};
 ghost use Rattle.zst_line.specs.Grammar.{named, places_behind, places_of, goes_on, bookmark, snapshot, snapshot_or_bookmark};
 ghost use Rattle.zst_line.specs.WordFaults.{Takes};
 ghost use Rattle.zst_line.specs.Line.{LineIs, first_of, name_of, value_behind};
-ghost use Rattle.zst_line.specs.declared.slot.Slot.TheVariants as slots;
+ghost use Rattle.zst_line.specs.declared.word_slot.WordSlot.TheVariants as slots;
 
 use crate::kind::Kind;
 use crate::line::Line;

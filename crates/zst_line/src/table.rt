@@ -4,7 +4,7 @@ ghost use Rattle.zst_line.specs.Grammar.{front};
 
 use crate::kind::Kind;
 use crate::name_kinds::Names;
-use crate::slot::Slot;
+use crate::word_slot::WordSlot;
 use zst_model::limits::LARGEST_WRITE;
 
 pub const DATASET: Names = Names {
@@ -44,88 +44,107 @@ const ANY_NAME: Names = Names {
 };
 
 /// The numbers of objects, and counts: all of 64 bits but 0.
-const COUNT: Slot = Slot::Number {
+const COUNT: WordSlot = WordSlot::Number {
     low: 1,
     high: u64::MAX,
 };
 
 /// The indices of blocks: all numbers of 64 bits.
-const INDEX: Slot = Slot::Number {
+const INDEX: WordSlot = WordSlot::Number {
     low: 0,
     high: u64::MAX,
 };
 
-const CREATE: [Slot; 3] = [
-    Slot::Image,
-    Slot::Number {
+const CREATE: [WordSlot; 3] = [
+    WordSlot::Image,
+    WordSlot::Number {
         low: 128,
         high: 1 << 31,
     },
-    Slot::Number {
+    WordSlot::Number {
         low: 1,
         high: (1 << 31) - 1,
     },
 ];
 
-const ON_IMAGE: [Slot; 1] = [Slot::Image];
+const ON_IMAGE: [WordSlot; 1] = [WordSlot::Image];
 
-const ON_DATASET: [Slot; 2] = [Slot::Image, Slot::Name(DATASET)];
+const ON_DATASET: [WordSlot; 2] = [WordSlot::Image, WordSlot::Name(DATASET)];
 
-const ON_SNAPSHOT: [Slot; 2] = [Slot::Image, Slot::Name(SNAPSHOT)];
+const ON_SNAPSHOT: [WordSlot; 2] = [WordSlot::Image, WordSlot::Name(SNAPSHOT)];
 
-const ON_EITHER: [Slot; 2] = [Slot::Image, Slot::Name(DATASET_OR_SNAPSHOT)];
+const ON_EITHER: [WordSlot; 2] = [WordSlot::Image, WordSlot::Name(DATASET_OR_SNAPSHOT)];
 
-const OBJECT: [Slot; 8] = [
-    Slot::Image,
-    Slot::Name(DATASET),
+const OBJECT: [WordSlot; 8] = [
+    WordSlot::Image,
+    WordSlot::Name(DATASET),
     COUNT,
-    Slot::Number {
+    WordSlot::Number {
         low: 1,
         high: (1 << 32) - 1,
     },
-    Slot::BlockSize,
-    Slot::Number {
+    WordSlot::BlockSize,
+    WordSlot::Number {
         low: 0,
         high: (1 << 32) - 1,
     },
-    Slot::Bonus,
-    Slot::Spill,
+    WordSlot::Bonus,
+    WordSlot::Spill,
 ];
 
-const WRITE: [Slot; 5] = [
-    Slot::Image,
-    Slot::Name(DATASET),
+const WRITE: [WordSlot; 5] = [
+    WordSlot::Image,
+    WordSlot::Name(DATASET),
     COUNT,
     INDEX,
-    Slot::HexBytes {
+    WordSlot::HexBytes {
         most: LARGEST_WRITE,
     },
 ];
 
-const PUNCH: [Slot; 5] = [Slot::Image, Slot::Name(DATASET), COUNT, INDEX, COUNT];
+const PUNCH: [WordSlot; 5] = [
+    WordSlot::Image,
+    WordSlot::Name(DATASET),
+    COUNT,
+    INDEX,
+    COUNT,
+];
 
-const FREE: [Slot; 4] = [Slot::Image, Slot::Name(DATASET), COUNT, COUNT];
+const FREE: [WordSlot; 4] = [WordSlot::Image, WordSlot::Name(DATASET), COUNT, COUNT];
 
-const READ: [Slot; 4] = [Slot::Image, Slot::Name(DATASET_OR_SNAPSHOT), COUNT, INDEX];
+const READ: [WordSlot; 4] = [
+    WordSlot::Image,
+    WordSlot::Name(DATASET_OR_SNAPSHOT),
+    COUNT,
+    INDEX,
+];
 
-const CLONE: [Slot; 3] = [Slot::Image, Slot::Name(SNAPSHOT), Slot::Name(DATASET)];
+const CLONE: [WordSlot; 3] = [
+    WordSlot::Image,
+    WordSlot::Name(SNAPSHOT),
+    WordSlot::Name(DATASET),
+];
 
-const ON_BOOKMARK: [Slot; 3] = [Slot::Image, Slot::Name(SNAPSHOT), Slot::Name(BOOKMARK)];
+const ON_BOOKMARK: [WordSlot; 3] = [
+    WordSlot::Image,
+    WordSlot::Name(SNAPSHOT),
+    WordSlot::Name(BOOKMARK),
+];
 
-const DESTROY: [Slot; 2] = [Slot::Image, Slot::Name(ANY_NAME)];
+const DESTROY: [WordSlot; 2] = [WordSlot::Image, WordSlot::Name(ANY_NAME)];
 
-const GEN: [Slot; 2] = [Slot::Image, Slot::Number { low: 1, high: 64 }];
+const GEN: [WordSlot; 2] = [WordSlot::Image, WordSlot::Number { low: 1, high: 64 }];
 
-const REPLAY: [Slot; 2] = [Slot::Image, Slot::Image];
+const REPLAY: [WordSlot; 2] = [WordSlot::Image, WordSlot::Image];
 
 /// The places of a line that says with a token where a stream goes on.
-pub const RESUME: [Slot; 3] = [Slot::Given, Slot::Token, Slot::Image];
+pub const RESUME: [WordSlot; 3] = [WordSlot::Given, WordSlot::Token, WordSlot::Image];
 
 /// The place of each of the snapshots at the end of `redact`.
-pub const LAST_SNAPSHOT: Slot = Slot::Name(SNAPSHOT);
+pub const LAST_SNAPSHOT: WordSlot = WordSlot::Name(SNAPSHOT);
 
 /// The places of the named words of a line, of which so many stand, without the last snapshots of `redact`.
-pub fn front(kind: Kind, count: usize) -> &'static [Slot]
+pub fn front(kind: Kind, count: usize) -> &'static [WordSlot]
     ensures { result.now ≡ front kind count }
 {
     match kind {

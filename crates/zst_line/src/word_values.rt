@@ -10,11 +10,11 @@ ghost use Rattle.zst_line.specs.WordFaults.{Fits, Takes};
 ghost use Rattle.zst_line.specs.Line.{name_of, IsBonusOf, IsBlockOf, IsSpillOf};
 ghost use Rattle.zst_line.specs.NameKinds.{IsNamed};
 ghost use Rattle.zst_line.specs.Words as words;
-ghost use Rattle.zst_line.specs.declared.slot.Slot.TheVariants as slots;
+ghost use Rattle.zst_line.specs.declared.word_slot.WordSlot.TheVariants as slots;
 
 use crate::name_kinds::{NameKind, kind_of_name};
-use crate::slot::is_none;
 use crate::text::Text;
+use crate::word_slot::is_none;
 use std::alloc::{AllocError, Global};
 use zst_bytes::decimal;
 use zst_model::{Bytes, Name};

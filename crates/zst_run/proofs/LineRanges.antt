@@ -6,7 +6,7 @@ use Rattle.zst_line.specs.declared.kind.Kind.{Kind}
 use Rattle.zst_line.specs.declared.kind.Kind.TheVariants as kinds
 use Rattle.zst_line.specs.declared.name_kinds.NameKind.{NameKind}
 use Rattle.zst_line.specs.declared.name_kinds.NameKind.TheVariants as name_kinds
-use Rattle.zst_line.specs.declared.slot.Slot.TheVariants as slots
+use Rattle.zst_line.specs.declared.word_slot.WordSlot.TheVariants as slots
 use Rattle.zst_line.specs.Grammar.{dataset_or_snapshot, places_of, snapshot_or_bookmark, word_at, word_of}
 use Rattle.zst_line.specs.WordFaults.{IsLine, Takes}
 use Rattle.zst_line.specs.Line.{LineIs, as_name, name_of, value_behind}

@@ -2,14 +2,14 @@ use Rattle.std.proofs.Common.{◌≡◌, ℕ, List, ◌∷◌, map, length, stri
 use Rattle.std.proofs.lemmas.List.{length-map}
 use Rattle.std.proofs.lemmas.Slice.Zip.{AllZip-long}
 use Rattle.std.specs.List.{AllZip}
-use Rattle.zst_line.specs.declared.slot.Slot.{Slot}
+use Rattle.zst_line.specs.declared.word_slot.WordSlot.{WordSlot}
 use Rattle.zst_line.specs.Grammar.{places_of, word_of}
 use Rattle.zst_line.specs.WordFaults.{Fits, IsReadAt, FirstMisread, Takes}
 use Rattle.zst_line.proofs.WordWalk.{both}
 use Rattle.zst_line.proofs.MisreadWords.{misread_answers}
 use Rattle.zst_line.proofs.parser.parse.Goals as goal
 
-taken : (fitting naming places : List Slot) (words : List (List ℕ)) → fitting ≡ places → naming ≡ places → AllZip Fits fitting words → AllZip IsReadAt naming words → AllZip Takes places words
+taken : (fitting naming places : List WordSlot) (words : List (List ℕ)) → fitting ≡ places → naming ≡ places → AllZip Fits fitting words → AllZip IsReadAt naming words → AllZip Takes places words
 taken fitting naming places words one other fits names = both places words (rw one at fits) (rw other at names)
 
 pub first_misread-requires : goal.first_misread-requires

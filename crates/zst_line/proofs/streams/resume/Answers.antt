@@ -1,7 +1,7 @@
 use Rattle.std.proofs.Common.{◌≡◌, [], ◌∷◌, map, codes, string_bytes, arith, lit<}
 use Rattle.std.proofs.lemmas.List.{length-map}
 use Rattle.std.specs.List.{AllZip}
-use Rattle.zst_line.specs.declared.slot.Slot.TheVariants.{Given, Token, Image}
+use Rattle.zst_line.specs.declared.word_slot.WordSlot.TheVariants.{Given, Token, Image}
 use Rattle.zst_line.specs.Grammar.{word_at}
 use Rattle.zst_line.specs.WordFaults.{Takes}
 use Rattle.zst_line.proofs.WordWalk.{word_here, three_words}

@@ -1,7 +1,7 @@
 use Rattle.std.proofs.Common.{refl}
 use Rattle.zst_line.specs.Grammar.{snapshot}
 use Rattle.zst_line.specs.declared.kind.Kind.TheVariants as kinds
-use Rattle.zst_line.specs.declared.slot.Slot.TheVariants as slots
+use Rattle.zst_line.specs.declared.word_slot.WordSlot.TheVariants as slots
 use Rattle.zst_line.proofs.LastWords.{last_word}
 use Rattle.zst_line.proofs.streams.rollback.Goals as goal
 

@@ -3,7 +3,7 @@ use Rattle.std.proofs.lemmas.List.{get_or-map, length-map, take_more}
 use Rattle.std.proofs.lemmas.List.Elements.{All-get_or}
 use Rattle.zst_line.specs.Grammar.{snapshot}
 use Rattle.zst_line.specs.WordFaults.{Takes}
-use Rattle.zst_line.specs.declared.slot.Slot.TheVariants as slots
+use Rattle.zst_line.specs.declared.word_slot.WordSlot.TheVariants as slots
 use Rattle.zst_line.proofs.WordWalk.{word_here}
 use Rattle.zst_line.proofs.streams.snapshots.Goals as goal
 

@@ -1,7 +1,7 @@
 use Rattle.std.proofs.Common.{sym, ◌∙◌, arith}
 use Rattle.std.proofs.lemmas.Bool.{false≢true}
 use Rattle.zst_line.proofs.Sizes.{block_size_below}
-use Rattle.zst_line.proofs.slot.is_size.Goals as goal
+use Rattle.zst_line.proofs.word_slot.is_size.Goals as goal
 
 pub returns-in-Some : goal.returns-in-Some
 returns-in-Some c = (

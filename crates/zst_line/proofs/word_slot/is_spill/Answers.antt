@@ -4,7 +4,7 @@ use Rattle.std.proofs.lemmas.Str.Pattern.{split_parts}
 use Rattle.zst_line.specs.Words.{IsHex}
 use Rattle.zst_line.proofs.Sizes.{spill_size_below}
 use Rattle.zst_line.proofs.Spills.{spill_halves, no_halves}
-use Rattle.zst_line.proofs.slot.is_spill.Goals as goal
+use Rattle.zst_line.proofs.word_slot.is_spill.Goals as goal
 
 pub returns-then-is_spill_size : goal.returns-then-is_spill_size
 returns-then-is_spill_size c = (

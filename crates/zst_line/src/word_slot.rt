@@ -16,7 +16,7 @@ const NONE: &str = "none";
 
 /// What may stand at a place of a line.
 #[derive(Clone, Copy)]
-pub enum Slot {
+pub enum WordSlot {
     /// The path of an image.
     Image,
     /// The token that a stream goes on from.
@@ -119,31 +119,31 @@ fn fits_name(names: Names, word: &str) -> bool
 }
 
 /// Whether a word may stand at a place. Whether a name or a token is one isn't asked.
-pub fn fits(slot: Slot, word: &str) -> bool
+pub fn fits(slot: WordSlot, word: &str) -> bool
     ensures { IsTrue result ↔ Fits slot word.now }
 {
     match slot {
-        Slot::Image | Slot::Token => is_text(word),
-        Slot::Name(names) => fits_name(names, word),
-        Slot::Number { low, high } => is_number(word, low, high),
-        Slot::BlockSize => is_size(word),
-        Slot::Bonus => is_none(word) || is_hex(word, 1, u64::from(LARGEST_BONUS)),
-        Slot::Spill => is_none(word) || is_spill(word),
-        Slot::HexBytes { most } => is_hex(word, 1, most),
-        Slot::Given => true,
+        WordSlot::Image | WordSlot::Token => is_text(word),
+        WordSlot::Name(names) => fits_name(names, word),
+        WordSlot::Number { low, high } => is_number(word, low, high),
+        WordSlot::BlockSize => is_size(word),
+        WordSlot::Bonus => is_none(word) || is_hex(word, 1, u64::from(LARGEST_BONUS)),
+        WordSlot::Spill => is_none(word) || is_spill(word),
+        WordSlot::HexBytes { most } => is_hex(word, 1, most),
+        WordSlot::Given => true,
     }
 }
 
 /// The fault of a word that isn't the name or the token that has to stand at a place, or None where it is or neither has to.
-pub fn misread(slot: Slot, word: &str) -> Option<LineFault>
+pub fn misread(slot: WordSlot, word: &str) -> Option<LineFault>
     ensures { MatchOption result (IsReadAt slot word.now) (λ fault. Misread slot word.now fault) }
 {
     match slot {
-        Slot::Name(_) => match stop_of(word) {
+        WordSlot::Name(_) => match stop_of(word) {
             Some(place) => Some(LineFault::BadName { place }),
             None => None,
         },
-        Slot::Token => match Token::parse(word) {
+        WordSlot::Token => match Token::parse(word) {
             Ok(_) => None,
             Err(fault) => Some(LineFault::BadToken { place: fault.place }),
         },
