@@ -96,7 +96,7 @@ pub Contains-Keeps : (old new : List (ℕ × List ℕ)) (sector : ℕ) (bytes : 
     → (first : ℕ) (node : List ℕ) → Contains new (first, node) → ((first ≡ sector) × (node ≡ bytes)) ⊎ Contains old (first, node)
 Contains-Keeps old new sector bytes keeps first node is =
     ⊎_elim (λ put. ⊎_elim (λ before. inr before) (λ same. inl (⊎_elim (λ key. key) (λ other. sym (eqb-true sector first other.2)) same.1, same.0))
-    (Contains-put_entries nat_eq (lru_cache old 64) sector bytes (first, node) (rw put at is))) (λ none. inr (rw none.0 at is)) keeps
+    (Contains-put_entries nat_eq (lru_cache old 64) sector bytes (first, node) (rw put at is))) (⊎_elim (λ none. inr (rw none.0 at is)) (λ empty. absurd (Contains-nil _ (rw empty at is)))) keeps
 
 -- the same after a node was saved
 pub kept_or_saved : (before kept : List (ℕ × List ℕ)) (node : List ℕ) (result : Result Ptr BlockFault) → IfOk result (λ ptr. Keeps before kept ptr.sector node) → (IsErr result → kept ≡ before)

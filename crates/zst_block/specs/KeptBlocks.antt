@@ -18,9 +18,9 @@ AreApart kept first count = (sector : ℕ) (bytes : List ℕ) → Contains kept 
 abbrev pub with_block : List (ℕ × List ℕ) → ℕ → List ℕ → List (ℕ × List ℕ)
 with_block kept sector bytes = put_entries nat_eq (lru_cache kept 64) sector bytes
 
--- the block is kept, or nothing is done: no memory was left, and then none of its sector was kept
+-- the block is kept; or no memory was left: nothing is done where none of its sector was kept, or all is forgotten
 abbrev pub Keeps : (old new : List (ℕ × List ℕ)) → ℕ → List ℕ → Type 0
-Keeps old new sector bytes = (new ≡ with_block old sector bytes) ⊎ ((new ≡ old) × KeepsNone old sector)
+Keeps old new sector bytes = (new ≡ with_block old sector bytes) ⊎ ((new ≡ old) × KeepsNone old sector) ⊎ (new ≡ [])
 
 -- no block that meets these sectors in a row is left: where none met them all are, and else all or none
 pub record Forgets (old new : List (ℕ × List ℕ)) (first count : ℕ) : Type 0 where

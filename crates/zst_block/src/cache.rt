@@ -1,7 +1,8 @@
-ghost use Rattle.std.specs.Prelude.{◌≡◌, ◌↔◌, ◌⊎◌, nat_eq, Contains, IsTrue, false};
+ghost use Rattle.std.specs.Prelude.{◌≡◌, ◌↔◌, ◌⊎◌, [], nat_eq, Contains, IsTrue, false};
 ghost use Rattle.lru.specs.LruCache.{lru_cache, promoted, put_entries};
 ghost use Rattle.zst_block.specs.KeptBlocks.{KeepsNone, IsApart, AreApart};
 
+use crate::boxed_node::BoxedNode;
 use crate::node::Node;
 use lru::LruCache;
 use std::alloc::Global;
@@ -16,8 +17,9 @@ const MOST: usize = 64;
 /// the most recently used first.
 #[derive(Drop)]
 pub struct Cache {
-    // None where no memory was left: nothing is kept then.
-    blocks: Option<LruCache<u64, Node>>,
+    // None where no memory was left: nothing is kept then. Nodes stand in boxes, since an entry is moved.
+    blocks: Option<LruCache<u64, BoxedNode>>,
+    alloc: Global,
 }
 
 impl Model for Cache {
@@ -43,6 +45,7 @@ impl Cache {
         let room = NonZeroUsize::new(MOST).unwrap();
         Cache {
             blocks: LruCache::new(alloc, room).ok(),
+            alloc,
         }
     }
 
@@ -65,7 +68,7 @@ impl Cache {
         ensures { Keeps self.old self.new sector node.now }
     {
         if let Some(blocks) = &mut self.blocks {
-            keep_in(blocks, sector, node);
+            keep_in(blocks, self.alloc, sector, node);
         }
     }
 
@@ -99,7 +102,7 @@ impl Cache {
 }
 
 // Gives the block of a sector from those that are kept.
-fn give_from(blocks: &mut LruCache<u64, Node>, sector: u64, into: &mut Node) -> bool
+fn give_from(blocks: &mut LruCache<u64, BoxedNode>, sector: u64, into: &mut Node) -> bool
     ensures given { IsTrue result → Contains blocks.old.entries (sector, into.new) }
     ensures missed { result ≡ false → KeepsNone blocks.old.entries sector }
     ensures untouched { result ≡ false → into.new ≡ into.old }
@@ -115,11 +118,15 @@ fn give_from(blocks: &mut LruCache<u64, Node>, sector: u64, into: &mut Node) -> 
 }
 
 // Keeps a copy of a block, unless no memory is left for one more.
-fn keep_in(blocks: &mut LruCache<u64, Node>, sector: u64, node: &Node)
-    ensures { (blocks.new ≡ lru_cache (put_entries nat_eq blocks.old sector node.now) blocks.old.cap) ⊎ ((blocks.new ≡ blocks.old) × KeepsNone blocks.old.entries sector) }
+fn keep_in(blocks: &mut LruCache<u64, BoxedNode>, alloc: Global, sector: u64, node: &Node)
+    ensures { (blocks.new ≡ lru_cache (put_entries nat_eq blocks.old sector node.now) blocks.old.cap) ⊎ ((blocks.new ≡ blocks.old) × KeepsNone blocks.old.entries sector) ⊎ (blocks.new ≡ lru_cache [] blocks.old.cap) }
 {
     let mut copy = Node::new();
     copy.put_bytes(0, node.as_slice());
+    let Ok(copy) = BoxedNode::new(alloc, copy) else {
+        blocks.clear();
+        return;
+    };
     match blocks.put(sector, copy) {
         Ok(_) => {}
         Err(_) => {}
@@ -127,7 +134,7 @@ fn keep_in(blocks: &mut LruCache<u64, Node>, sector: u64, node: &Node)
 }
 
 // Whether one of the blocks that are kept meets these sectors.
-fn meets_in(blocks: &LruCache<u64, Node>, first: u64, count: u64) -> bool
+fn meets_in(blocks: &LruCache<u64, BoxedNode>, first: u64, count: u64) -> bool
     ensures { (result ≡ false) ↔ AreApart blocks.now.entries first count }
 {
     for (sector, _) in blocks.iter() {

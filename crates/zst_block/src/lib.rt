@@ -3,6 +3,7 @@
 
 mod block_reads;
 mod block_writes;
+mod boxed_node;
 mod cache;
 mod fault;
 mod io;

@@ -12,8 +12,8 @@ returns c = elim c.match-self.branch [
       let entries = λ (blocks : LruCache ℕ (List ℕ)). blocks.entries in
       rw (w.self-inside-is, ← same) (⊎_elim (λ put.
       inl (ap entries put ∙ ap (λ (most : ℕ). put_entries nat_eq (lru_cache w.in-Some.blocks.entries most) c.args.sector c.args.node.now) room))
-      (λ none. inr (ap entries none.0, none.1)) w.keep_in.ensures)
+      (λ rest. ⊎_elim (λ none. inr (inl (ap entries none.0, none.1))) (λ empty. inr (inr (ap entries empty))) rest) w.keep_in.ensures)
   | in_default w ↦
       let none = rw w.in_default.is at c.self.view_is in
-      rw (w.self-inside-is, w.in_default.is, ← none) (inr (refl, λ bytes is. Contains-nil _ is))
+      rw (w.self-inside-is, w.in_default.is, ← none) (inr (inl (refl, λ bytes is. Contains-nil _ is)))
 ]
