@@ -34,6 +34,6 @@ module _ {D : Type 0} {g : Ghosts D} where
   abbrev pub IsSparedBy : Io D g → List ℕ → Type 0
   IsSparedBy io = SparesTaken io.space (disk_of io).seen
 
-  -- all that a call may change of it
+  -- what a call may change of its disk and its space, whatever it reads into its node
   abbrev pub io_of : Io D g → IoState
   io_of io = record { disk = disk_of io; space = io.space; failed = io.failed; reference = io.disk.ghost_name }

@@ -4,4 +4,5 @@ pub mod Blocks
 pub mod ReadAnswers
 pub mod IoStates
 pub mod IoCalls
+pub mod BlockWrites
 pub mod KeptBlocks

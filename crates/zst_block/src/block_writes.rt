@@ -1,11 +1,11 @@
 // A block is written into free sectors, and what is kept of these is forgotten.
-ghost use Rattle.std.specs.Prelude.{◌≡◌, ◌↔◌, ◌+◌, ◌*◌, ◌/◌, ◌%◌, ◌^◌, ◌<◌, ◌≤◌, ◌||◌, List, ℕ, length, OnOk, IfOk, IsErr, []};
+ghost use Rattle.std.specs.Prelude.{◌≡◌, ◌*◌, ◌/◌, ◌%◌, ◌^◌, ◌+◌, ◌<◌, ◌≤◌, List, ℕ, length, OnOk, IfOk, IsErr, []};
 ghost use Rattle.zst_fletcher.specs.WeightSum.{weight_sum};
 ghost use Rattle.zst_outside.specs.Images.{WritesIn};
-ghost use Rattle.zst_space.specs.FreeSectors.{room, largest_of};
-ghost use Rattle.zst_space.specs.TakenExtents.{Takes, place_of, without};
-ghost use Rattle.zst_block.specs.Faults.{HasDiskCause, is_disk_fault};
-ghost use Rattle.zst_block.specs.Blocks.{Has, FitsDisk, FillsFree, KeepsBlocks, Follows};
+ghost use Rattle.zst_space.specs.FreeSectors.{largest_of};
+ghost use Rattle.zst_space.specs.TakenExtents.{place_of, without};
+ghost use Rattle.zst_block.specs.Blocks.{FitsDisk};
+ghost use Rattle.zst_block.specs.BlockWrites.{WritesBlock};
 ghost use Rattle.zst_block.specs.KeptBlocks.{Forgets, Keeps};
 ghost use Rattle.zst_block.specs.IoStates.{blocks_of, disk_of, io_of};
 ghost use Rattle.zst_block.specs.IoCalls.{Works, stop_of};
@@ -33,22 +33,8 @@ pub fn write<D: Disk>(
     requires whole { length bytes.now % 512 ≡ 0 }
     requires small { length bytes.now < 2 ^ 32 }
 
-    ensures wrote { IfOk result (λ ptr. blocks_of io.new ptr bytes.now) }
-    ensures pointer { IfOk result (λ ptr. ptr ≡ record { kind = 1; level = level; length = length bytes.now; sector = place_of io.old.space (length bytes.now / 512); number = number; sum = weight_sum bytes.now }) }
-
-    // Free sectors alone are written, and are then taken.
-    ensures takes { IfOk result (λ ptr. Takes io.old.space io.new.space ptr.sector (length bytes.now / 512)) }
-    ensures after { length bytes.now / 512 ≤ largest_of io.old.space → io.new.space ≡ without io.old.space (length bytes.now / 512) }
-    ensures taken { OnOk result (io.new.space ≡ without io.old.space (length bytes.now / 512)) }
-
-    // It is full where no free extent is long enough, and then nothing is done.
-    ensures full { (need largest : ℕ) → result ≡ Err (BlockFault.Full need largest) ↔ ((need ≡ length bytes.now / 512) × (largest ≡ largest_of io.old.space) × (largest < need)) }
+    ensures block { WritesBlock bytes.now level number (io_of io.old) (io_of io.new) result }
     ensures untouched { largest_of io.old.space < length bytes.now / 512 → io.new.disk.now ≡ io.old.disk.now }
-    ensures space_untouched { largest_of io.old.space < length bytes.now / 512 → io.new.space ≡ io.old.space }
-    ensures never_damaged { (sector : ℕ) (stated found : List ℕ) → ¬ (result ≡ Err (BlockFault.Damaged sector stated found)) }
-
-    ensures calls { (disk_of io.new).calls ≤ (disk_of io.old).calls + 1 }
-    ensures works { Works (length bytes.now / 512) (length bytes.now / 512) (io_of io.old) (io_of io.new) (stop_of result) }
     ensures node { io.new.node ≡ io.old.node }
 {
     let outcome = write_block(io.disk, &mut io.space, &mut io.failed, bytes, level, number);
@@ -121,29 +107,11 @@ fn write_block<D: Disk>(
     requires small { length bytes.now < 2 ^ 32 }
     requires fits { FitsDisk (D.state disk.old).size space.old }
 
-    ensures wrote { IfOk result (λ ptr. Has (D.state disk.new).seen space.new ptr bytes.now) }
-    ensures pointer { IfOk result (λ ptr. ptr ≡ record { kind = 1; level = level; length = length bytes.now; sector = place_of space.old (length bytes.now / 512); number = number; sum = weight_sum bytes.now }) }
-
-    // Free sectors alone are written, and are then taken.
-    ensures fills { FillsFree (D.state disk.old) space.old (D.state disk.new) space.new }
-    ensures kept { KeepsBlocks (D.state disk.old).seen space.old (D.state disk.new).seen space.new }
-    ensures follows { Follows (D.state disk.old).images space.old (D.state disk.new).images space.new }
-    ensures takes { IfOk result (λ ptr. Takes space.old space.new ptr.sector (length bytes.now / 512)) }
-    ensures after { length bytes.now / 512 ≤ largest_of space.old → space.new ≡ without space.old (length bytes.now / 512) }
-    ensures taken { OnOk result (space.new ≡ without space.old (length bytes.now / 512)) }
-    ensures room { room space.old ≤ room space.new + length bytes.now / 512 }
+    // Of the Io that the disk, the sectors and the mark are borrowed from.
+    ensures block { (reference : ℕ) → WritesBlock bytes.now level number (record { disk = D.state disk.old; space = space.old; failed = failed.old; reference = reference }) (record { disk = D.state disk.new; space = space.new; failed = failed.new; reference = reference }) result }
     ensures writes { IfOk result (λ ptr. WritesIn (512 * ptr.sector) ptr.length (D.state disk.old) (D.state disk.new)) }
-    ensures kept_fit { FitsDisk (D.state disk.new).size space.new }
-
-    // It is full where no free extent is long enough, and then nothing is done.
-    ensures full { (need largest : ℕ) → result ≡ Err (BlockFault.Full need largest) ↔ ((need ≡ length bytes.now / 512) × (largest ≡ largest_of space.old) × (largest < need)) }
     ensures untouched { largest_of space.old < length bytes.now / 512 → disk.new ≡ disk.old }
-    ensures space_untouched { largest_of space.old < length bytes.now / 512 → space.new ≡ space.old }
-    ensures never_damaged { (sector : ℕ) (stated found : List ℕ) → ¬ (result ≡ Err (BlockFault.Damaged sector stated found)) }
-
-    ensures calls { (D.state disk.new).calls ≤ (D.state disk.old).calls + 1 }
-    ensures cause { HasDiskCause (D.state disk.old).faults (D.state disk.new).faults result }
-    ensures failed { failed.new ≡ (failed.old || is_disk_fault result) }
+    ensures fits { FitsDisk (D.state disk.new).size space.new }
 {
     let count = bytes.len() as u64 / 512;
     match space.take(count) {

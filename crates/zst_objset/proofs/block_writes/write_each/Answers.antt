@@ -17,19 +17,19 @@ returns-in_err-ptr-clause-works g c =
     let is = sectors c.loop-k.k c.args.size (length c.args.into.now) c.args.bytes.now inside c.requires.long in
     let some : (c.loop-k.k + 1) * (c.args.size / 512) ≤ length c.args.into.now * (c.args.size / 512) = mul-le-mul_right (c.args.size / 512) (omega arith) in
     let p = err_from_is_err_and c.from_residual.result c.from_residual.ensures.1 in
-    rw (p.1, p.2) (Works-more (omega (arith, some)) (Works-then c.loop-k.invariant.works (rw is at c.in_err-ptr.ensures.works)))
+    rw (p.1, p.2) (Works-more (omega (arith, some)) (Works-then c.loop-k.invariant.works (rw is at c.in_err-ptr.ensures.block.works)))
 
 pub loop-k-preserved : goal.loop-k-preserved
 loop-k-preserved g c =
     let inside : c.loop-k.k < length c.args.into.now = omega (arith, c.loop-k-test.true, c.loop-k.invariant.long) in
     let is = sectors c.loop-k.k c.args.size (length c.args.into.now) c.args.bytes.now inside c.requires.long in
     record {
-      written = so_far_more _ (blocks_of c.write.new.io) (KeepsBlocks-fills _ _ _ _ c.in_ok-ptr.ensures.works.fills) c.args.number c.args.size c.args.index c.args.bytes.now c.loop-k.into c.loop-k.k _ (omega (arith, inside, c.loop-k.invariant.long)) c.loop-k.invariant.written
+      written = so_far_more _ (blocks_of c.write.new.io) (KeepsBlocks-fills _ _ _ _ c.in_ok-ptr.ensures.block.works.fills) c.args.number c.args.size c.args.index c.args.bytes.now c.loop-k.into c.loop-k.k _ (omega (arith, inside, c.loop-k.invariant.long)) c.loop-k.invariant.written
           (record {
             index_is = refl;
-            block = (ap (λ (ptr : Ptr). ptr.kind) c.in_ok-ptr.ensures.pointer, subst (blocks_of c.write.new.io c.in_ok-ptr.ptr) (block_is c.loop-k.k c.args.size c.args.bytes.now) c.in_ok-ptr.ensures.wrote);
-            dated = ap (λ (ptr : Ptr). ptr.number) c.in_ok-ptr.ensures.pointer;
+            block = (ap (λ (ptr : Ptr). ptr.kind) c.in_ok-ptr.ensures.block.pointer, subst (blocks_of c.write.new.io c.in_ok-ptr.ptr) (block_is c.loop-k.k c.args.size c.args.bytes.now) c.in_ok-ptr.ensures.block.wrote);
+            dated = ap (λ (ptr : Ptr). ptr.number) c.in_ok-ptr.ensures.block.pointer;
           });
       long = search rules;
-      works = Works-more (omega arith) (Works-then c.loop-k.invariant.works (rw is at c.in_ok-ptr.ensures.works));
+      works = Works-more (omega arith) (Works-then c.loop-k.invariant.works (rw is at c.in_ok-ptr.ensures.block.works));
     }

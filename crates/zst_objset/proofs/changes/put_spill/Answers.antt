@@ -33,19 +33,19 @@ returns-in-Err-clause-changed g c = λ state honest holds.
 
 pub returns-in-Err-write-clause-changed : goal.returns-in-Err-write-clause-changed
 returns-in-Err-write-clause-changed g c = λ state honest holds.
-    let there = c.in-Ok.ensures.found state (c.in-Err-write.ensures.works.fills.honest honest) holds in
-    stops _ _ c.in-Err-write.fault (spill_is c.args.number c.args.object c.args.bytes.now state there.object there.there) (undamaged_write c.in-Err-write.fault c.in-Err-write.ensures.never_damaged)
+    let there = c.in-Ok.ensures.found state (c.in-Err-write.ensures.block.works.fills.honest honest) holds in
+    stops _ _ c.in-Err-write.fault (spill_is c.args.number c.args.object c.args.bytes.now state there.object there.there) (undamaged_write c.in-Err-write.fault c.in-Err-write.ensures.block.never_damaged)
 
 pub returns-in-Err-write-clause-works : goal.returns-in-Err-write-clause-works
-returns-in-Err-write-clause-works g c = Works-after c.in-Ok.ensures.looks (Works-more (omega arith) c.in-Err-write.ensures.works)
+returns-in-Err-write-clause-works g c = Works-after c.in-Ok.ensures.looks (Works-more (omega arith) c.in-Err-write.ensures.block.works)
 
 pub returns-clause-works : goal.returns-clause-works
-returns-clause-works g c = Works-after c.in-Ok.ensures.looks (Works-more (omega arith) (Works-then c.in-Ok-write.ensures.works (Works-block c.put_dnode.ensures.works)))
+returns-clause-works g c = Works-after c.in-Ok.ensures.looks (Works-more (omega arith) (Works-then c.in-Ok-write.ensures.block.works (Works-block c.put_dnode.ensures.works)))
 
 pub returns-clause-changed : goal.returns-clause-changed
 returns-clause-changed g c = λ state honest holds.
     let was_written = c.put_dnode.ensures.works.fills.honest honest in
-    let wrote = c.in-Ok-write.ensures in
+    let wrote = c.in-Ok-write.ensures.block in
     let there = c.in-Ok.ensures.found state (wrote.works.fills.honest was_written) holds in
     let mid = g.D.Disk.state c.object_there.new.io.disk.now in
     let new = g.D.Disk.state c.write.new.io.disk.now in
@@ -64,7 +64,7 @@ returns-clause-changed g c = λ state honest holds.
 pub put_dnode-requires-clause-dnode : goal.put_dnode-requires-clause-dnode
 put_dnode-requires-clause-dnode g c =
     let made = c.with_spill.ensures in
-    let wrote = c.in-Ok-write.ensures in
+    let wrote = c.in-Ok-write.ensures.block in
     let size : is_spill_size c.in-Ok-write.ptr.length ≡ true = ap (λ (ptr : Ptr). is_spill_size ptr.length) wrote.pointer ∙ c.requires.spill in
     subst (λ (dnode : Dnode). DnodeFits dnode) (sym made.made) (spill_fits c.in-Ok.dnode c.in-Ok-write.ptr c.args.number c.in-Ok.ensures.ranges made.fits made.date (ap (λ (ptr : Ptr). ptr.kind) wrote.pointer) size)
 
@@ -73,7 +73,7 @@ returns-in-Err-clause-damaged g c = λ honest. set_spared _ _ _ c.args.set.now D
 
 pub returns-clause-damaged : goal.returns-clause-damaged
 returns-clause-damaged g c = λ honest.
-    let filled = (Works-after c.in-Ok.ensures.looks c.in-Ok-write.ensures.works).fills in
+    let filled = (Works-after c.in-Ok.ensures.looks c.in-Ok-write.ensures.block.works).fills in
     set_after _ _ _ _ filled c.args.set.now c.put_dnode.result (c.put_dnode.ensures.damaged honest)
 
 pub returns-in-Err-clause-tight : goal.returns-in-Err-clause-tight
@@ -85,7 +85,7 @@ returns-in-Err-write-clause-tight g c = λ state honest tight dated. returns-in-
 pub returns-clause-tight : goal.returns-clause-tight
 returns-clause-tight g c = λ state honest tight dated.
     let was_written = c.put_dnode.ensures.works.fills.honest honest in
-    let wrote = c.in-Ok-write.ensures in
+    let wrote = c.in-Ok-write.ensures.block in
     let there = c.in-Ok.ensures.found state (wrote.works.fills.honest was_written) tight.holds in
     let old = g.D.Disk.state c.args.io.now.disk.now in
     let mid = g.D.Disk.state c.object_there.new.io.disk.now in
