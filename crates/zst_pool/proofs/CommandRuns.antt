@@ -73,13 +73,15 @@ module _ (definition : Pool → Result Stepped Refusal) (cost : Cost) (kept : Po
         spends = (one.0, one.1, spends_fell kept cost.cells one.0 fault stops works);
         exact = λ running told rests. spends_fell kept cost.cells (cost.block running) fault stops (wrote.1 running told rests);
         spares = λ apart. works.fills.seen;
-        ready = tt;
-        stays = λ standing. ready;
-        size = works.fills.size;
-        failed = works.failed ∙ ap (λ (b : Bool). old.failed || b) (stops.fails ∙ disk_fault_same (Unit {0}) PoolState fault);
-        cause = record { later = works.cause.later; fault = λ is. works.cause.fault (stops.disk (cc)) };
-        honest = works.fills.honest;
-        same = works.same;
+        commits = record {
+          ready = tt;
+          stays = λ standing. ready;
+          size = works.fills.size;
+          failed = works.failed ∙ ap (λ (b : Bool). old.failed || b) (stops.fails ∙ disk_fault_same (Unit {0}) PoolState fault);
+          cause = record { later = works.cause.later; fault = λ is. works.cause.fault (stops.disk (cc)) };
+          honest = works.fills.honest;
+          same = works.same;
+        };
       } in
       subst (Ran definition cost kept old new) (sym same) fell_so
 
@@ -105,13 +107,15 @@ module _ (definition : Pool → Result Stepped Refusal) (cost : Cost) (kept : Po
         spends = (one.0, one.1, spends made full ends fills ready one.0 works);
         exact = λ running told rests. spends made full ends fills ready (cost.block running) (wrote.1 running (falls told) rests);
         spares = λ apart. spares made works.fills fills apart;
-        ready = committed_ok (λ kept. Ready new.disk kept.body) made ready;
-        stays = λ standing. committed_err (Ready new.disk kept.body) made (stays standing);
-        size = size ∙ works.fills.size;
-        failed = failed_then old.failed mid.failed new.failed (is_disk_fault answer) works.failed (failed ∙ ap (λ (b : Bool). mid.failed || b) (committed_fails made));
-        cause = record { later = omega (arith, works.cause.later, disk.later); fault = λ is. Rose-earlier old.disk.faults mid.disk.faults new.disk.faults works.cause.later (disk.fault is) };
-        honest = λ told. works.fills.honest (falls told);
-        same = same ∙ works.same;
+        commits = record {
+          ready = committed_ok (λ kept. Ready new.disk kept.body) made ready;
+          stays = λ standing. committed_err (Ready new.disk kept.body) made (stays standing);
+          size = size ∙ works.fills.size;
+          failed = failed_then old.failed mid.failed new.failed (is_disk_fault answer) works.failed (failed ∙ ap (λ (b : Bool). mid.failed || b) (committed_fails made));
+          cause = record { later = omega (arith, works.cause.later, disk.later); fault = λ is. Rose-earlier old.disk.faults mid.disk.faults new.disk.faults works.cause.later (disk.fault is) };
+          honest = λ told. works.fills.honest (falls told);
+          same = same ∙ works.same;
+        };
       } in
       subst (Ran definition cost kept old new) (sym is) runs
     where

@@ -1,17 +1,26 @@
 -- What a commit answers, as a command's answer.
-use Rattle.std.specs.Prelude.{Result, Ok, Err, IfErr, IfOk, OnErr, OnOk}
-use Rattle.std.proofs.Common.{◌≡◌, ℕ, ◌<◌, Bool, ◌||◌, List, refl, sym, ap, subst, ◌∙◌}
+use Rattle.std.specs.Prelude.{Result, Ok, Err, IfErr, IfOk, OnErr}
+use Rattle.std.proofs.Common.{◌≡◌, ℕ, ◌+◌, ◌<◌, ◌≤◌, ◌^◌, Bool, false, true, ◌||◌, List, [], length, refl, sym, ap, subst, ◌∙◌, arith}
+use Rattle.zst_space.specs.FreeSectors.{FreeSectors}
 use Rattle.zst_block.specs.IoCalls as blocks
+use Rattle.zst_block.specs.IoStates.{IoState}
+use Rattle.zst_dir.specs.Rows.{Rows}
+use Rattle.zst_dir.specs.Spelling.{dir_bytes}
+use Rattle.zst_image.specs.Commits.{Ready}
+use Rattle.zst_image.specs.Reads.{dir_sectors}
 use Rattle.zst_image.specs.Faults.{stop_of_commit}
 use Rattle.zst_image.specs.Faults as images
 use Rattle.zst_image.specs.declared.commit_fault.CommitFault.{CommitFault}
 use Rattle.zst_image.specs.declared.commit_fault.CommitFault.TheVariants.{Full, DiskFault, OutOfMemory}
 use Rattle.zst_image.specs.declared.pool_state.PoolState.{PoolState}
-use Rattle.zst_pool.specs.Calls.{IsCallFault}
+use Rattle.zst_pool.specs.Calls.{CallGrows, IsCallFault}
+use Rattle.zst_pool.specs.Events.{EndsCommit, FollowsBy}
 use Rattle.zst_pool.specs.Faults.{HasDiskCause, is_disk_fault, of_committed}
 use Rattle.zst_pool.specs.declared.fault.PoolFault.{PoolFault}
 use Rattle.zst_pool.specs.declared.fault.PoolFault.TheVariants.{Damaged, Failed}
 use Rattle.zst_pool.specs.declared.fault.PoolFault.TheVariants as faults
+use Rattle.zst_pool.proofs.CommandParts.{or_false}
+use Rattle.zst_pool.proofs.Room.{dir-more}
 
 pub committed_open : (made : Result PoolState CommitFault) → ¬ (of_committed made ≡ Err Failed)
 committed_open (Ok kept) = λ is. cc
@@ -58,14 +67,6 @@ committed_known (Err (Full need largest)) shorter = shorter need largest refl
 committed_known (Err DiskFault) shorter = tt
 committed_known (Err OutOfMemory) shorter = tt
 
-pub on_ok : {T F : Type 0} {P : Type 0} (result : Result T F) → P → OnOk result P
-on_ok (Ok value) is = is
-on_ok (Err fault) is = tt
-
-pub also : {T F : Type 0} (result : Result T F) (P Q : T → Type 0) → IfOk result (λ value. P value × Q value) → IfOk result Q
-also (Ok value) P Q both = both.1
-also (Err fault) P Q both = tt
-
 -- what holds of a commit's answer holds of a call's that is the same
 module _ (made : Result PoolState CommitFault) (answer : Result PoolState PoolFault) (is : answer ≡ of_committed made) where
   pub answers_ok : (P : PoolState → Type 0) → IfOk made P → IfOk answer P
@@ -85,3 +86,53 @@ module _ (made : Result PoolState CommitFault) (answer : Result PoolState PoolFa
 
   pub answers_cause : (before now : ℕ) → images.HasDiskCause DiskFault before now made → HasDiskCause before now answer
   answers_cause before now cause = subst (HasDiskCause before now) (sym is) (committed_cause before now made cause)
+
+  -- it ends as the commit does
+  pub answers_ends : (kept : PoolState) (old new : IoState) → IfOk made (λ next. Ready new.disk next.body) → (new.failed ≡ false → OnErr made (Ready new.disk kept.body)) → new.disk.size ≡ old.disk.size
+      → new.failed ≡ (old.failed || blocks.fails (stop_of_commit made)) → images.HasDiskCause DiskFault old.disk.faults new.disk.faults made → (new.disk.honest → old.disk.honest) → new.reference ≡ old.reference
+      → EndsCommit kept old new answer
+  answers_ends kept old new ready stays size failed cause honest same = record {
+    ready = answers_ok (λ next. Ready new.disk next.body) ready;
+    stays = λ works. answers_err (Ready new.disk kept.body) (stays works);
+    size = size;
+    failed = answers_fails old.failed failed;
+    cause = answers_cause old.disk.faults new.disk.faults cause;
+    honest = honest;
+    same = same;
+  }
+
+  -- and what is kept then follows by the directory that was committed
+  pub answers_follows : (space : FreeSectors) (kept : PoolState) (dir : Rows) (last : ℕ) → kept.body.number < 2 ^ 63 → IfOk made (λ next. next.dir ≡ dir) → IfOk made (λ next. (next.body.end ≡ last) × (next.body.sectors ≡ kept.body.sectors))
+      → (space.free ≡ [] → IfOk made (λ next. next.body.end ≤ space.end + dir_sectors (length (dir_bytes dir)))) → IfOk answer (FollowsBy space kept dir)
+  answers_follows space kept dir last below same ends bounded = answers_ok (FollowsBy space kept dir) (by_commit made same ends bounded)
+    where
+      by_commit : (r : Result PoolState CommitFault) → IfOk r (λ next. next.dir ≡ dir) → IfOk r (λ next. (next.body.end ≡ last) × (next.body.sectors ≡ kept.body.sectors))
+          → (space.free ≡ [] → IfOk r (λ next. next.body.end ≤ space.end + dir_sectors (length (dir_bytes dir)))) → IfOk r (FollowsBy space kept dir)
+      by_commit (Ok next) is at most = record { rows = is; below = below; sectors = at.1; ends = most }
+      by_commit (Err fault) is at most = tt
+
+pub disk_told : false ≡ true → ⊥
+disk_told same = cc
+
+-- a call that fell before it did anything, and not at the disk, ends as it began
+pub ends_idle : (kept : PoolState) (io : IoState) (fault : PoolFault) (answer : Result PoolState PoolFault) → answer ≡ Err fault → is_disk_fault {T = PoolState} (Err fault) ≡ false → Ready io.disk kept.body → EndsCommit kept io io answer
+ends_idle kept io fault answer fell apart ready = record {
+  ready = subst (λ (r : Result PoolState PoolFault). IfOk r (λ next. Ready io.disk next.body)) (sym fell) tt;
+  stays = λ works. subst (λ (r : Result PoolState PoolFault). OnErr r (Ready io.disk kept.body)) (sym fell) ready;
+  size = refl;
+  failed = or_false io.failed ∙ ap (λ b. io.failed || b) (sym never);
+  cause = record { later = omega arith; fault = λ disk. absurd (disk_told (sym never ∙ ap is_disk_fault disk)) };
+  honest = λ told. told;
+  same = refl;
+}
+  where
+    never : is_disk_fault answer ≡ false
+    never = ap is_disk_fault fell ∙ apart
+
+-- what such a call committed over rows that are no more than 2,048 bytes longer
+pub call_grows : (space : FreeSectors) (kept : PoolState) (dir : Rows) (answer : Result PoolState PoolFault) → length (dir_bytes dir) ≤ length (dir_bytes kept.dir) + 2048 → IfOk answer (FollowsBy space kept dir) → IfOk answer (CallGrows space kept)
+call_grows space kept dir (Ok next) longer follows =
+    let same = ap (λ (rows : Rows). length (dir_bytes rows)) follows.rows in
+    let more = dir-more (length (dir_bytes dir)) (length (dir_bytes kept.dir) + 2048) longer in
+    record { directory = omega (arith, same, longer); sectors = follows.sectors; end = λ none. omega (arith, follows.ends none, more) }
+call_grows space kept dir (Err fault) longer follows = tt

@@ -7,6 +7,7 @@ pub mod BlockCosts
 pub mod DamageLemmas
 pub mod DestroyedRows
 pub mod CommandEnds
+pub mod EventEnds
 pub mod LookupLemmas
 pub mod FinishedRows
 pub mod SnapshotRows

@@ -1,5 +1,5 @@
 -- What running a command does.
-use Rattle.std.specs.Prelude.{◌≡◌, ◌||◌, ◌≤◌, ℕ, Bool, false, Result, Ok, Err, IfOk, OnErr, IfErr}
+use Rattle.std.specs.Prelude.{◌≡◌, ◌≤◌, ℕ, Bool, false, Result, Ok, Err, OnErr, IfErr}
 use Rattle.zst_outside.specs.Images.{DiskState, Leaves}
 use Rattle.zst_block.specs.Blocks.{SparesTaken}
 use Rattle.zst_block.specs.IoStates.{IoState}
@@ -9,11 +9,11 @@ use Rattle.zst_model.specs.pools.Step.{Stepped}
 use Rattle.zst_objset.specs.Damage.{DamageFact}
 use Rattle.zst_pool.specs.Cost.{Cost, Spends}
 use Rattle.zst_pool.specs.Damage.{IsOf}
-use Rattle.zst_pool.specs.Faults.{HasDiskCause, is_disk_fault, StepFault}
+use Rattle.zst_pool.specs.Faults.{StepFault}
 use Rattle.zst_image.specs.Reads.{free_by}
 use Rattle.zst_pool.specs.Calls.{IsAtRest}
+use Rattle.zst_pool.specs.Events.{EndsCommit}
 use Rattle.zst_pool.specs.StepAnswers.{BeforeOrAfter}
-use Rattle.zst_image.specs.Commits.{Ready}
 use Rattle.zst_pool.specs.declared.fault.PoolFault.{PoolFault}
 use Rattle.zst_pool.specs.declared.fault.PoolFault.TheVariants.{DiskFault, Failed}
 use Rattle.zst_image.specs.declared.pool_state.PoolState.{PoolState}
@@ -41,13 +41,7 @@ pub record Ran (definition : Pool → Result Stepped Refusal) (cost : Cost) (kep
   pub exact : (running : Pool) → new.disk.honest → IsAtRest false old.disk kept running → Spends cost.cells (cost.block running) kept new.space as_kept result
   -- where it is refused, unless the disk failed, free sectors alone were written
   pub spares : ¬ (result ≡ Err DiskFault) → OnErr result (SparesTaken (free_by kept.body) old.disk.seen new.disk.seen)
-  pub ready : IfOk result (λ kept. Ready new.disk kept.body)
-  pub stays : new.failed ≡ false → OnErr result (Ready new.disk kept.body)
-  pub size : new.disk.size ≡ old.disk.size
-  pub failed : new.failed ≡ (old.failed || is_disk_fault result)
-  pub cause : HasDiskCause old.disk.faults new.disk.faults result
-  pub honest : new.disk.honest → old.disk.honest
-  pub same : new.reference ≡ old.reference
+  pub commits : EndsCommit kept old new result
 
 -- and which damage it told
 pub record Runs (definition : Pool → Result Stepped Refusal) (cost : Cost) (damage : DamageFact) (kept : PoolState) (old new : IoState) (result : Result PoolState PoolFault) : Type 0 where

@@ -13,6 +13,7 @@ pub mod PartialRows
 pub mod Partials
 pub mod Plans
 pub mod ReopenedPools
+pub mod Events
 pub mod CommandRuns
 pub mod StepAnswers
 pub mod Queries

@@ -1,14 +1,20 @@
 -- What a receive makes of the rows of a directory.
-use Rattle.std.specs.Prelude.{◌≡◌, ◌+◌, ℕ, Bool, List, filter, not, Option, Some, None, Result, Ok, Err, bytes_eq, if◌then◌else◌}
+use Rattle.std.specs.Prelude.{◌≡◌, ◌+◌, ◌∷◌, ◌++◌, ℕ, Bool, List, filter, not, Option, Some, None, Result, Ok, Err, IfSome, bytes_eq, if◌then◌else◌}
 use Rattle.zst_names.specs.Names.{dataset_of}
 use Rattle.zst_model.specs.declared.refusals.plan_fault.PlanFault.{PlanFault}
 use Rattle.zst_model.specs.pools.Pool.{Pool}
 use Rattle.zst_model.specs.refusals.Refusal.{refusal_of}
-use Rattle.zst_dir.specs.Rows.{Rows, with_objects, with_partial, is_for}
+use Rattle.zst_dir.specs.Rows.{HasSnapshot, IsPartialRow, Rows, with_objects, with_partial, is_for}
 use Rattle.zst_dir.specs.declared.rows.Dataset.{Dataset}
 use Rattle.zst_dir.specs.declared.rows.Snapshot.{Snapshot}
 use Rattle.zst_dir.specs.declared.rows.Partial.{Partial}
 use Rattle.zst_pool.specs.Partials.{last_where, next_commit}
+
+-- a partial state can be committed over these rows: its row is one, its base is there, and its snapshot isn't
+pub record CanPut (rows : Rows) (partial : Partial) : Type 0 where
+  pub row : IsPartialRow partial
+  pub base : IfSome partial.base (HasSnapshot rows)
+  pub component : HasSnapshot rows (partial.target ++ 64 ∷ partial.snapshot) → ⊥
 
 -- the row of the latest snapshot of a dataset
 abbrev pub latest_row : List ℕ → Rows → Option Snapshot

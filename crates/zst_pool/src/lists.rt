@@ -1,13 +1,13 @@
 // The lists of bookmarks.
-ghost use Rattle.std.specs.Prelude.{◌≡◌, ◌||◌, ℕ, List, [], None, true, false, Some, IfErr, IfOk, IfSome, Err, option_map};
+ghost use Rattle.std.specs.Prelude.{◌≡◌, ◌||◌, List, [], None, false, Some, IfErr, IfOk, IfSome, Err, option_map};
 ghost use Rattle.zst_outside.specs.Images.{OnlyReads};
 ghost use Rattle.zst_block.specs.IoStates.{IsHonest, blocks_of, disk_of};
 ghost use Rattle.zst_model.specs.fields.Lists.{Runs};
 ghost use Rattle.zst_model.specs.pools.Pool.{Pool as Plain, bookmark_named};
 ghost use Rattle.zst_list.specs.StoredLists.{HasList};
-ghost use Rattle.zst_dir.specs.declared.rows.Bookmark.{Bookmark as Row};
 ghost use Rattle.zst_image.specs.Reads.{RunsBy};
 ghost use Rattle.zst_pool.specs.Faults.{HasDiskCause, is_disk_fault};
+ghost use Rattle.zst_pool.specs.Events.{LooksUp};
 ghost use Rattle.zst_pool.specs.Lists.{AnswersNamed, AnswersRow, GivesList, GivesListed, StandsBelow, TellsRow, list_by, row_named};
 
 use crate::fault::PoolFault;
@@ -32,18 +32,7 @@ impl<'d, D: Disk> Pool<'d, D> {
             → IfOk result (λ list. IfSome (row_named book.now self.old.kept.dir) (λ row. StandsBelow (blocks_of self.old.io) row list)) }
         ensures damaged { IsHonest self.new.io
             → IfErr result (λ fault. IfSome (row_named book.now self.old.kept.dir) (λ row. TellsRow self.old.io.space.end (disk_of self.old.io).seen (disk_of self.old.io).size row fault)) }
-
-        // A pool that has failed answers nothing else, and does nothing.
-        ensures failed_pool { self.old.io.failed ≡ true → result ≡ Err PoolFault.Failed }
-        ensures idle { self.old.io.failed ≡ true → self.new.io.disk.now ≡ self.old.io.disk.now }
-
-        // It only reads.
-        ensures reads { OnlyReads (disk_of self.old.io) (disk_of self.new.io) }
-        ensures space { self.new.io.space ≡ self.old.io.space }
-        ensures kept { self.new.kept ≡ self.old.kept }
-        ensures failed { self.new.io.failed ≡ (self.old.io.failed || is_disk_fault result) }
-        ensures cause { HasDiskCause (disk_of self.old.io).faults (disk_of self.new.io).faults result }
-        ensures same { self.new.io.disk.ghost_name ≡ self.old.io.disk.ghost_name }
+        ensures looks_up { LooksUp self.old self.new result }
     {
         if self.io.failed {
             return Err(PoolFault::Failed);

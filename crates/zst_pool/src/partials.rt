@@ -1,13 +1,11 @@
 // The directories that a receive commits.
-ghost use Rattle.std.specs.Prelude.{◌≡◌, ◌≢◌, ◌+◌, ◌<◌, ◌≤◌, ◌^◌, ◌++◌, ◌∷◌, ℕ, List, true, Contains, IfErr, IfOk, IfSome, OnOk, filter, if◌then◌else◌, length, not, bytes_eq};
-ghost use Rattle.zst_names.specs.Names.{dataset_of};
+ghost use Rattle.std.specs.Prelude.{◌≡◌, ◌+◌, ◌<◌, ◌≤◌, ◌^◌, ℕ, IfErr, IfOk, IfSome, OnOk, if◌then◌else◌, length};
 ghost use Rattle.zst_model.specs.declared.refusals.faults.Quantity.{Quantity};
 ghost use Rattle.zst_model.specs.declared.refusals.plan_fault.PlanFault.TheVariants.{Limit};
 ghost use Rattle.zst_model.specs.pools.Pool.{Pool as Plain};
-ghost use Rattle.zst_dir.specs.Rows.{HasSnapshot, IsLawful, IsPartialRow, IsSnapshotRow, is_for};
+ghost use Rattle.zst_dir.specs.Rows.{IsSnapshotRow};
 ghost use Rattle.zst_dir.specs.Spelling.{dir_bytes};
-ghost use Rattle.zst_dir.specs.declared.rows.Snapshot.{Snapshot as Row};
-ghost use Rattle.zst_pool.specs.PartialRows.{JudgesLimits, latest_row, rolled_rows, rows_with_partial};
+ghost use Rattle.zst_pool.specs.PartialRows.{CanPut, JudgesLimits, latest_row, rolled_rows, rows_with_partial};
 ghost use Rattle.zst_dir.specs.RowNames.{AreNamed};
 
 use crate::checks::count_datasets;
@@ -81,9 +79,7 @@ pub fn dir_with_partial(
     partial: Partial,
     roll: bool,
 ) -> Result<Dir, AllocError>
-    requires row { IsPartialRow partial }
-    requires base { IfSome partial.base (HasSnapshot dir.now) }
-    requires component { HasSnapshot dir.now (partial.target ++ 64 ∷ partial.snapshot) → ⊥ }
+    requires { CanPut dir.now partial }
     ensures put { IfOk result (λ next. next ≡ rows_with_partial roll partial dir.now) }
     ensures grows { IfOk result (λ next. length (dir_bytes next) ≤ length (dir_bytes dir.now) + 1416) }
 {

@@ -1,19 +1,18 @@
-ghost use Rattle.std.specs.Prelude.{◌≡◌, ◌≤◌, ◌∷◌, ◌||◌, [], ℕ, Bool, false, true, IfErr, IfOk, OnErr, Err};
-ghost use Rattle.zst_outside.specs.Images.{Leaves, OnlyReads};
-ghost use Rattle.zst_block.specs.Blocks.{FitsDisk, SparesTaken};
-ghost use Rattle.zst_block.specs.IoStates.{IsHonest, disk_of, io_of};
+ghost use Rattle.std.specs.Prelude.{◌≡◌, ◌∷◌, [], false, true, IfOk, Err};
+ghost use Rattle.zst_block.specs.Blocks.{FitsDisk};
+ghost use Rattle.zst_block.specs.IoStates.{disk_of, io_of};
 ghost use Rattle.zst_model.specs.pools.AnswerLines.{ok_line};
 ghost use Rattle.zst_model.specs.pools.Pool.{Pool as Plain};
 ghost use Rattle.zst_model.specs.pools.Soundness.{Sound};
 ghost use Rattle.zst_model.specs.pools.Step.{Stepped, commits, stepped, IsCommand};
-ghost use Rattle.zst_pool.specs.Faults.{HasDiskCause, is_disk_fault, is_full};
+ghost use Rattle.zst_pool.specs.Faults.{is_full};
 ghost use Rattle.zst_pool.specs.Plans.{Plans, indices_end, numbers_end};
 ghost use Rattle.zst_image.specs.Reads.{free_by};
-ghost use Rattle.zst_pool.specs.Calls.{CanCommit, IsAtRest, keeping};
-ghost use Rattle.zst_pool.specs.StepAnswers.{BeforeOrAfter, StepAnswer};
-ghost use Rattle.zst_pool.specs.Cost.{Spends, cost_of};
-ghost use Rattle.zst_pool.specs.Damage.{IsOf, TellsDamage};
+ghost use Rattle.zst_pool.specs.Calls.{CanCommit, IsAtRest};
+ghost use Rattle.zst_pool.specs.Cost.{cost_of};
+ghost use Rattle.zst_pool.specs.Damage.{TellsDamage};
 ghost use Rattle.zst_pool.specs.CommandRuns.{Runs};
+ghost use Rattle.zst_pool.specs.Events.{KeepsCommitted, OnlyAnswers, SameDisk, Settles, StepDid};
 ghost use Rattle.zst_image.specs.Commits.{Ready};
 
 use crate::aborts::abort;
@@ -73,48 +72,15 @@ impl<'d, D: Disk> Pool<'d, D> {
         requires command { IsCommand command }
         requires ready { self.old.io.failed ≡ false → Ready (disk_of self.old.io) self.old.kept.body }
 
-        // At every moment each image reads as what is kept of the pool before the command, or of what the command makes of it.
-        ensures moments { (tight : Bool) (running : Plain) → IsHonest self.new.io → IsAtRest tight (disk_of self.old.io) self.old.kept running
-            → Leaves (disk_of self.old.io) (disk_of self.new.io) (BeforeOrAfter tight running (stepped [] now command running)) }
-        // After its answer what the definition makes of the pool is at rest; after a refusal the pool as it was is.
-        ensures answer { (tight : Bool) (running : Plain) → IsHonest self.new.io → self.old.io.failed ≡ false
-            → IsAtRest tight (disk_of self.old.io) self.old.kept running
-            → StepAnswer tight (disk_of self.new.io) self.new.kept running (stepped [] now command running) result }
+        ensures did { StepDid now command self.old self.new result }
         // E3 to E6, E14 and E23 of datasets, snapshots, bookmarks and guids come exactly where the directory says so, whatever the object sets hold, unless no memory is left before; E23 of numbers only past them.
         ensures planned { self.old.io.failed ≡ false → ¬ (result ≡ Err PoolFault.OutOfMemory)
             → Plans (λ pool. stepped [] now command pool) (numbers_end command) (indices_end command) self.old.kept result }
-        ensures open_still { self.old.io.failed ≡ false → ¬ (result ≡ Err PoolFault.Failed) }
-        // Whatever the image is, no more is taken than the command costs at most, and E24 comes only where that isn't there.
-        ensures spends { self.old.io.failed ≡ false → (block : ℕ) × (block ≤ (cost_of command).most) × Spends (cost_of command).cells block self.old.kept self.new.io.space (λ reply. self.new.kept) result }
-        // Where a pool was at rest, no more is taken than the command costs there.
-        ensures exact { (running : Plain) → IsHonest self.new.io → self.old.io.failed ≡ false → IsAtRest false (disk_of self.old.io) self.old.kept running
-            → Spends (cost_of command).cells ((cost_of command).block running) self.old.kept self.new.io.space (λ reply. self.new.kept) result }
-        // E25 tells a damage of the object set of the command's dataset, also where the image reads as no pool.
-        ensures damaged { IsHonest self.new.io → IfErr result (IsOf (TellsDamage command self.old.kept.dir (disk_of self.old.io) (free_by self.old.kept.body))) }
-        // What is refused changes nothing that is kept, and free sectors alone, unless the disk failed.
-        ensures kept { OnErr result (self.new.kept ≡ self.old.kept) }
-        ensures spares { ¬ (result ≡ Err PoolFault.DiskFault) → OnErr result (SparesTaken (free_by self.old.kept.body) (disk_of self.old.io).seen (disk_of self.new.io).seen) }
         // What later states haven't dated since stays as it was in each snapshot.
         ensures sound { (running : Plain) (done : Stepped) → IsAtRest false (disk_of self.old.io) self.old.kept running → Sound running
             → stepped [] now command running ≡ Ok done → Sound done.pool }
-
-        // A command that only answers reads the disk, and leaves what is kept.
-        ensures only_reads { commits command ≡ false → OnlyReads (disk_of self.old.io) (disk_of self.new.io) }
-        ensures only_answers { commits command ≡ false → self.new.kept ≡ self.old.kept }
-
-        // A pool that has failed answers nothing else, and does nothing.
-        ensures failed_pool { self.old.io.failed ≡ true → result ≡ Err PoolFault.Failed }
-        ensures idle_disk { self.old.io.failed ≡ true → self.new.io.disk.now ≡ self.old.io.disk.now }
-        ensures idle_pool { self.old.io.failed ≡ true → self.new.kept ≡ self.old.kept }
-
-        // After E24 the sectors are those that were left when it was found.
-        ensures space { (self.old.io.failed || is_full result) ≡ false → self.new.io.space ≡ free_by self.new.kept.body }
-        ensures works { (self.new.io.failed || is_full result) ≡ false → CanCommit (disk_of self.new.io) self.new.io.space self.new.kept.body }
-        ensures ready { self.new.io.failed ≡ false → Ready (disk_of self.new.io) self.new.kept.body }
-        ensures failed { self.new.io.failed ≡ (self.old.io.failed || is_disk_fault result) }
-        ensures cause { HasDiskCause (disk_of self.old.io).faults (disk_of self.new.io).faults result }
-        ensures honest { IsHonest self.new.io → IsHonest self.old.io }
-        ensures same { self.new.io.disk.ghost_name ≡ self.old.io.disk.ghost_name }
+        ensures only_answers { commits command ≡ false → OnlyAnswers self.old self.new }
+        ensures settles { Settles self.old self.new result }
     {
         steps_keep_sound();
         if self.io.failed {
@@ -139,14 +105,10 @@ impl<'d, D: Disk> Pool<'d, D> {
     ) -> Result<u64, PoolFault>
         requires fits { FitsDisk (disk_of self.old.io).size (free_by self.old.kept.body) }
         requires ready { IfOk ran (λ kept. Ready (disk_of self.old.io) kept.body) }
-        ensures kept { keeping self.new.kept result ≡ ran }
-        ensures number { IfOk result (λ number. number ≡ self.new.kept.body.number) }
-        ensures stays { OnErr result (self.new.kept ≡ self.old.kept) }
+        ensures keeps { KeepsCommitted ran self.old self.new result }
         ensures space { is_full ran ≡ false → self.new.io.space ≡ free_by self.new.kept.body }
         ensures left { is_full ran ≡ true → self.new.io.space ≡ self.old.io.space }
-        ensures disk { self.new.io.disk.now ≡ self.old.io.disk.now }
-        ensures failed { self.new.io.failed ≡ self.old.io.failed }
-        ensures same { self.new.io.disk.ghost_name ≡ self.old.io.disk.ghost_name }
+        ensures disk { SameDisk self.old.io self.new.io }
     {
         if is_full(&ran) {
             return self.keep(ran);

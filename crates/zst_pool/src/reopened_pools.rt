@@ -1,5 +1,5 @@
 // How a pool is opened again after its disk has failed.
-ghost use Rattle.std.specs.Prelude.{◌≡◌, ℕ, Bool, OnErr, OnOk, IfOk, Err};
+ghost use Rattle.std.specs.Prelude.{◌≡◌, Bool, OnOk, IfOk, Err};
 ghost use Rattle.zst_block.specs.IoStates.{IsHonest, disk_of};
 ghost use Rattle.zst_outside.specs.Images.{IsSynced, OnlyReads};
 ghost use Rattle.zst_uber.specs.declared.uber.Uber.{Uber as Body};
@@ -8,9 +8,9 @@ ghost use Rattle.zst_dir.specs.Rows.{Rows};
 ghost use Rattle.zst_image.specs.Faults.{HasDiskCause};
 ghost use Rattle.zst_image.specs.OpenAnswers.{GivesPool, OpenAnswers};
 ghost use Rattle.zst_image.specs.Commits.{Ready};
-ghost use Rattle.zst_image.specs.Reads.{ReadsAs, Rests, free_by};
-ghost use Rattle.zst_pool.specs.Calls.{CanCommit, IsAtRest};
-ghost use Rattle.zst_pool.specs.ReopenedPools.{failed_after, reopened};
+ghost use Rattle.zst_image.specs.Reads.{ReadsAs, Rests};
+ghost use Rattle.zst_pool.specs.Calls.{IsAtRest};
+ghost use Rattle.zst_pool.specs.ReopenedPools.{Reopens, failed_after, reopened};
 
 use crate::pool::Pool;
 use std::alloc::Global;
@@ -54,15 +54,7 @@ impl<'d, D: Disk> Pool<'d, D> {
         ensures answer { IsHonest self.new.io → OpenAnswers (disk_of self.old.io) (reopened self.new.kept result) }
         // And the pool that was opened is at rest.
         ensures rests { (tight : Bool) (uber : Body) (rows : Rows) (pool : Plain) → IsHonest self.new.io → ReadsAs tight uber rows pool (disk_of self.old.io).seen → OnOk result (IsAtRest tight (disk_of self.new.io) self.new.kept pool) }
-        ensures works { OnOk result (CanCommit (disk_of self.new.io) self.new.io.space self.new.kept.body) }
-        ensures space { OnOk result (self.new.io.space ≡ free_by self.new.kept.body) }
-        ensures synced { OnOk result (IsSynced (disk_of self.new.io)) }
-        ensures kept { OnErr result (self.new.kept ≡ self.old.kept) }
-        ensures same_space { OnErr result (self.new.io.space ≡ self.old.io.space) }
-        ensures failed { self.new.io.failed ≡ failed_after self.old.io.failed (reopened self.new.kept result) }
-        ensures reads { OnlyReads (disk_of self.old.io) (disk_of self.new.io) }
-        ensures cause { HasDiskCause OpenFault.DiskFault (disk_of self.old.io).faults (disk_of self.new.io).faults result }
-        ensures same { self.new.io.disk.ghost_name ≡ self.old.io.disk.ghost_name }
+        ensures reopens { Reopens self.old self.new result }
     {
         let opened = open_on(alloc, &mut self.io);
         self.io.failed = failed_after(self.io.failed, &opened);

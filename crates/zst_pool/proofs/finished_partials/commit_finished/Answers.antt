@@ -1,18 +1,21 @@
-use Rattle.std.proofs.Common.{◌≡◌, ℕ, ◌+◌, ◌<◌, ◌^◌, refl, sym, ap, ◌∙◌, subst, arith}
-use Rattle.std.specs.Prelude.{Result, Ok, Err, IfOk, OnOk}
+use Rattle.std.proofs.Common.{◌≡◌, ℕ, ◌+◌, refl, sym, ap, ◌∙◌, subst, arith}
+use Rattle.std.specs.Prelude.{Result}
+use Rattle.std.proofs.lemmas.Result.{IfOk-weaker}
 use Rattle.zst_block.specs.Blocks.{Has}
+use Rattle.zst_block.specs.IoStates.{io_of}
 use Rattle.zst_model.specs.pools.Limits.{last_number}
 use Rattle.zst_dir.specs.Rows.{Rows}
-use Rattle.zst_dir.specs.declared.rows.Partial.{Partial}
 use Rattle.zst_image.specs.declared.pool_state.PoolState.{PoolState}
 use Rattle.zst_image.specs.Reads.{RunsBy, bound_of}
 use Rattle.zst_pool.specs.Calls.{CallDid}
+use Rattle.zst_pool.specs.Events.{FollowsBy}
 use Rattle.zst_pool.specs.FinishedRows.{rows_with_finished}
 use Rattle.zst_pool.specs.Partials.{partial_finished, with_finished}
 use Rattle.zst_pool.specs.declared.fault.PoolFault.{PoolFault}
 use Rattle.zst_pool.specs.declared.fault.PoolFault.TheVariants.{OutOfMemory}
 use Rattle.zst_pool.proofs.Bounds.{RunsBy-later}
 use Rattle.zst_pool.proofs.CallLemmas.{call_fell}
+use Rattle.zst_pool.proofs.CommitAnswers.{call_grows, ends_idle}
 use Rattle.zst_pool.proofs.FinishedRows.{partial_is_finished}
 use Rattle.zst_pool.proofs.CheckLemmas.{err_is}
 use Rattle.zst_pool.proofs.PoolsAtRest.{way_runs}
@@ -44,13 +47,16 @@ returns-clause-full g c = λ need largest is.
     call_full c.args.io.now.space c.commit_next.new.io.space _ c.args.kept.now.dir need largest c.in_ok-dir.ensures.grows c.commit_next.ensures.takes (c.commit_next.ensures.full need largest is)
 
 -- the number of the rows that are kept is the next one, since a commit's isn't the last
-rows_kept : (made : Result PoolState PoolFault) (number next : ℕ) (partial : Partial) (rows dir : Rows) → dir ≡ rows_with_finished next partial rows → (number < 2 ^ 63 → next ≡ number + 1)
-    → OnOk made (number < 2 ^ 63) → IfOk made (λ kept. kept.dir ≡ dir) → IfOk made (λ kept. kept.dir ≡ rows_with_finished (number + 1) partial rows)
-rows_kept (Ok kept) number next partial rows dir is follows below kept_is = kept_is ∙ is ∙ ap (λ (n : ℕ). rows_with_finished n partial rows) (follows below)
-rows_kept (Err fault) number next partial rows dir is follows below kept_is = tt
-
 pub returns-clause-rows : goal.returns-clause-rows
 returns-clause-rows g c =
     let number = c.args.kept.now.body.number in
-    rows_kept c.commit_next.result number c.saturating_add-number.result c.args.partial.now c.args.kept.now.dir _ c.in_ok-dir.ensures.finished (λ below. omega (arith, below, c.saturating_add-number.ensures))
-    c.commit_next.ensures.below c.commit_next.ensures.rows
+    let rows = λ (n : ℕ). rows_with_finished n c.args.partial.now c.args.kept.now.dir in
+    IfOk-weaker c.commit_next.result (FollowsBy c.args.io.now.space c.args.kept.now c.in_ok-dir.dir) (λ next. next.dir ≡ rows (number + 1))
+    (λ next follows. let same : c.saturating_add-number.result ≡ number + 1 = omega (arith, follows.below, c.saturating_add-number.ensures) in follows.rows ∙ c.in_ok-dir.ensures.finished ∙ ap rows same) c.commit_next.ensures.next
+
+pub returns-clause-grows : goal.returns-clause-grows
+returns-clause-grows g c = call_grows c.args.io.now.space c.args.kept.now c.in_ok-dir.dir c.commit_next.result c.in_ok-dir.ensures.grows c.commit_next.ensures.next
+
+pub returns-in_err-dir-clause-commits : goal.returns-in_err-dir-clause-commits
+returns-in_err-dir-clause-commits g c =
+    ends_idle c.args.kept.now (io_of c.args.io.now) OutOfMemory c.from_residual.result (err_is c.from_residual.result OutOfMemory c.from_residual.ensures.1) refl c.requires.works.ready

@@ -1,10 +1,10 @@
-use Rattle.std.proofs.Common.{◌≡◌, ◌+◌, ◌≤◌, length, sym, ◌∙◌, subst}
+use Rattle.std.proofs.Common.{refl, ◌≡◌, length, sym, ◌∙◌, subst}
 use Rattle.std.specs.Prelude.{Result}
 use Rattle.zst_block.specs.Blocks.{Has, KeepsBlocks}
+use Rattle.zst_block.specs.IoStates.{io_of}
 use Rattle.zst_model.specs.pools.KeptPool.{kept_of}
 use Rattle.zst_dir.specs.Rows.{IsLawful}
 use Rattle.zst_dir.specs.Spelling.{dir_bytes}
-use Rattle.zst_image.specs.Commits.{Ready}
 use Rattle.zst_image.specs.Reads.{dir_sectors, free_by}
 use Rattle.zst_image.specs.declared.pool_state.PoolState.{PoolState}
 use Rattle.zst_pool.specs.Calls.{CallDid}
@@ -14,7 +14,7 @@ use Rattle.zst_pool.specs.declared.fault.PoolFault.{PoolFault}
 use Rattle.zst_pool.specs.declared.fault.PoolFault.TheVariants.{Plan}
 use Rattle.zst_pool.proofs.CallLemmas.{call_did, call_fell, number_after}
 use Rattle.zst_pool.proofs.CheckLemmas.{err_is}
-use Rattle.zst_pool.proofs.CommitAnswers.{also, answers_cause, answers_err, answers_fails, answers_full, answers_known, answers_ok, on_ok}
+use Rattle.zst_pool.proofs.CommitAnswers.{answers_ends, answers_follows, answers_full, answers_known, answers_ok, ends_idle}
 use Rattle.zst_pool.proofs.NamedPools.{rows_named}
 use Rattle.zst_pool.proofs.PoolsAtRest.{few_guids, kept_is_next, next_lawful, rests_next, rests_unless, way_runs}
 use Rattle.zst_pool.proofs.TakenSectors.{taken_none}
@@ -29,6 +29,10 @@ returns-in_err-check_limits-clause-did g c = λ tight start running next told wa
     let number : next.number ≡ kept.body.number = anew.number ∙ way.rested.rests.reads.described.number in
     subst (λ (r : Result PoolState PoolFault). CallDid tight (g.D.Disk.state start) old kept running (next_commit next) r) (sym (err_is c.from_residual.result fault c.from_residual.ensures.1))
     (call_fell (g.D.Disk.state start) old space kept running (next_commit next) fault way (c.in_err-check_limits.ensures.judged next (rows_named (Has old.seen space) c.args.dir next runs) number, tt))
+
+pub returns-in_err-check_limits-clause-commits : goal.returns-in_err-check_limits-clause-commits
+returns-in_err-check_limits-clause-commits g c =
+    ends_idle c.args.kept.now (io_of c.args.io.now) (Plan c.in_err-check_limits.field-0.0) c.from_residual.result (err_is c.from_residual.result (Plan c.in_err-check_limits.field-0.0) c.from_residual.ensures.1) refl c.requires.works.ready
 
 pub returns-in_err-check_limits-clause-takes : goal.returns-in_err-check_limits-clause-takes
 returns-in_err-check_limits-clause-takes g c = taken_none (dir_sectors (length (dir_bytes c.args.dir))) c.args.io.now.space
@@ -57,31 +61,11 @@ returns-clause-did g c = λ tight start running next told way anew runs.
     (number_after made kept.body.number next.number number commit.number)
     (rests_next from old new space kept way.rested.rows c.args.dir running next made commits anew.number runs after commit.dir commit.blocks) (rests_unless from old new space c.commit_dir.new.io.space kept running made way commit.fills))
 
-pub returns-clause-rows : goal.returns-clause-rows
-returns-clause-rows g c = answers_ok c.commit_dir.result c.of_committed.result c.of_committed.ensures (λ next. next.dir ≡ c.args.dir) c.commit_dir.ensures.dir
-
-pub returns-clause-below : goal.returns-clause-below
-returns-clause-below g c = on_ok c.of_committed.result c.in_ok-check_limits.ensures.below
-
 pub returns-clause-known : goal.returns-clause-known
 returns-clause-known g c = answers_known c.commit_dir.result c.of_committed.result c.of_committed.ensures (λ need largest full. (c.commit_dir.ensures.full need largest full).shorter)
 
 pub returns-clause-full : goal.returns-clause-full
 returns-clause-full g c = λ need largest full. c.commit_dir.ensures.full need largest (answers_full c.commit_dir.result c.of_committed.result c.of_committed.ensures need largest full)
-
-pub returns-clause-sectors : goal.returns-clause-sectors
-returns-clause-sectors g c =
-    answers_ok c.commit_dir.result c.of_committed.result c.of_committed.ensures (λ next. next.body.sectors ≡ c.args.kept.now.body.sectors) (also c.commit_dir.result (λ next. next.body.end ≡ c.commit_dir.new.io.space.end) (λ next. next.body.sectors ≡ c.args.kept.now.body.sectors) c.commit_dir.ensures.ends)
-
-pub returns-clause-ends : goal.returns-clause-ends
-returns-clause-ends g c = λ none.
-    let space = c.args.io.now.space in
-    answers_ok c.commit_dir.result c.of_committed.result c.of_committed.ensures (λ next. next.body.end ≤ space.end + dir_sectors (length (dir_bytes c.args.dir))) (c.commit_dir.ensures.bounded none)
-
-pub returns-clause-ready : goal.returns-clause-ready
-returns-clause-ready g c =
-    let new = g.D.Disk.state c.commit_dir.new.io.disk.now in
-    answers_ok c.commit_dir.result c.of_committed.result c.of_committed.ensures (λ next. Ready new next.body) c.commit_dir.ensures.ready
 
 pub returns-clause-blocks : goal.returns-clause-blocks
 returns-clause-blocks g c =
@@ -89,13 +73,12 @@ returns-clause-blocks g c =
     let new = g.D.Disk.state c.commit_dir.new.io.disk.now in
     answers_ok c.commit_dir.result c.of_committed.result c.of_committed.ensures (λ next. KeepsBlocks old.seen c.args.io.now.space new.seen (free_by next.body)) c.commit_dir.ensures.blocks
 
-pub returns-clause-stays : goal.returns-clause-stays
-returns-clause-stays g c = λ works.
-    answers_err c.commit_dir.result c.of_committed.result c.of_committed.ensures (Ready (g.D.Disk.state c.commit_dir.new.io.disk.now) c.args.kept.now.body) (c.commit_dir.ensures.stays works)
+pub returns-clause-next : goal.returns-clause-next
+returns-clause-next g c =
+    let commit = c.commit_dir.ensures in
+    answers_follows c.commit_dir.result c.of_committed.result c.of_committed.ensures c.args.io.now.space c.args.kept.now c.args.dir c.commit_dir.new.io.space.end c.in_ok-check_limits.ensures.below commit.dir commit.ends commit.bounded
 
-pub returns-clause-failed : goal.returns-clause-failed
-returns-clause-failed g c = answers_fails c.commit_dir.result c.of_committed.result c.of_committed.ensures c.args.io.now.failed c.commit_dir.ensures.failed
-
-pub returns-clause-cause : goal.returns-clause-cause
-returns-clause-cause g c =
-    answers_cause c.commit_dir.result c.of_committed.result c.of_committed.ensures (g.D.Disk.state c.args.io.now.disk.now).faults (g.D.Disk.state c.commit_dir.new.io.disk.now).faults c.commit_dir.ensures.cause
+pub returns-clause-commits : goal.returns-clause-commits
+returns-clause-commits g c =
+    let commit = c.commit_dir.ensures in
+    answers_ends c.commit_dir.result c.of_committed.result c.of_committed.ensures c.args.kept.now (io_of c.args.io.now) (io_of c.commit_dir.new.io) commit.ready commit.stays commit.size commit.failed commit.cause commit.honest commit.same

@@ -1,13 +1,14 @@
 use Rattle.std.specs.Prelude.{Err, IfErr, IfOk, IfSome, Option}
-use Rattle.std.proofs.Common.{sym, ap, ◌∙◌, subst}
+use Rattle.std.proofs.Common.{refl, sym, ap, ◌∙◌, subst}
 use Rattle.zst_block.specs.Blocks.{Has}
 use Rattle.zst_model.specs.declared.refusals.plan_fault.PlanFault.{PlanFault}
 use Rattle.zst_model.specs.pools.Pool.{bookmark_named}
 use Rattle.zst_dir.specs.declared.rows.Bookmark.{Bookmark}
 use Rattle.zst_image.specs.Reads.{BookmarkIs}
-use Rattle.zst_pool.specs.declared.fault.PoolFault.TheVariants.{Plan}
+use Rattle.zst_pool.specs.declared.fault.PoolFault.TheVariants.{Failed, Plan}
 use Rattle.zst_pool.specs.Lists.{AnswersNamed, StandsBelow, TellsRow, row_named}
 use Rattle.zst_pool.proofs.BookmarkLists.{bookmark_alike, option_map-same, given_none, given_some}
+use Rattle.zst_pool.proofs.EventEnds.{looks_idle}
 use Rattle.zst_dir.proofs.Matches.{FoundAlike}
 use Rattle.zst_pool.proofs.pool.Pool.list_of.Goals as goal
 
@@ -52,3 +53,22 @@ returns-in-Some-clause-stands g c = λ told free.
     let has = Has (g.D.Disk.state io.disk.now).seen io.space in
     let is = sym (option_map-same (row_named c.args.book.now c.args.self.now.kept.dir)) ∙ sym c.row_of.ensures ∙ c.in-Some.is in
     subst (λ (o : Option Bookmark). IfOk c.read_row.result (λ list. IfSome o (λ row. StandsBelow has row list))) (sym is) (c.read_row.ensures.stands told free)
+
+pub returns-then-self-clause-looks_up : goal.returns-then-self-clause-looks_up
+returns-then-self-clause-looks_up g c = looks_idle c.args.self.now (Err Failed) (λ is. refl) refl
+
+pub returns-in-None-clause-looks_up : goal.returns-in-None-clause-looks_up
+returns-in-None-clause-looks_up g c = looks_idle c.args.self.now (Err (Plan c.no_such.result)) (λ is. absurd (cc (is, c.if-self.false))) refl
+
+pub returns-in-Some-clause-looks_up : goal.returns-in-Some-clause-looks_up
+returns-in-Some-clause-looks_up g c =
+    let read = c.read_row.ensures in
+    record {
+      failed_pool = λ is. absurd (cc (is, c.if-self.false));
+      idle_disk = λ is. absurd (cc (is, c.if-self.false));
+      only_answers = record { reads = read.reads; kept = refl };
+      space = read.space;
+      failed = read.failed;
+      cause = read.cause;
+      same = read.same;
+    }

@@ -1,10 +1,13 @@
-use Rattle.std.specs.Prelude.{Result, Ok, IfOk}
-use Rattle.std.proofs.Common.{subst}
+use Rattle.std.specs.Prelude.{Bool, Result, Ok, Err, IfOk}
+use Rattle.std.proofs.Common.{◌≡◌, ◌∙◌, ap, refl, subst}
 use Rattle.zst_image.specs.declared.pool_state.PoolState.{PoolState}
 use Rattle.zst_image.specs.declared.open_fault.OpenFault.{OpenFault}
+use Rattle.zst_image.specs.declared.open_fault.OpenFault.TheVariants.{DiskFault}
 use Rattle.zst_image.specs.OpenAnswers.{GivesPool, OpenAnswers}
-use Rattle.zst_image.specs.Reads.{Rests}
-use Rattle.zst_pool.proofs.PoolsAtRest.{rests_opened}
+use Rattle.zst_image.specs.Commits.{Ready}
+use Rattle.zst_image.specs.Reads.{Rests, free_by}
+use Rattle.zst_pool.specs.ReopenedPools.{failed_after}
+use Rattle.zst_pool.proofs.PoolsAtRest.{commit_next_of, rests_opened}
 use Rattle.zst_pool.proofs.pool.Pool.reopen.Goals as goal
 
 pub returns-in-Ok-clause-rests : goal.returns-in-Ok-clause-rests
@@ -26,3 +29,37 @@ returns-in-Err-clause-there g c = λ tight uber rows pool told reads. subst (Giv
 
 pub returns-in-Err-clause-answer : goal.returns-in-Err-clause-answer
 returns-in-Err-clause-answer g c = λ told. subst (OpenAnswers (g.D.Disk.state c.args.self.now.io.disk.now)) c.in-Err.is (c.open_on-opened.ensures.answer told)
+
+pub returns-in-Ok-clause-reopens : goal.returns-in-Ok-clause-reopens
+returns-in-Ok-clause-reopens g c =
+    let opened = c.open_on-opened in
+    let here = g.D.Disk.state opened.new.io.disk.now in
+    let ready = subst (λ (r : Result PoolState OpenFault). IfOk r (λ (kept : PoolState). Ready here kept.body)) c.in-Ok.is opened.ensures.ready in
+    let free : c.new-in-Ok.result ≡ free_by c.in-Ok.kept.body = rw (c.new-in-Ok.ensures, c.new.ensures.items) refl in
+    record {
+      works = commit_next_of here c.new-in-Ok.result c.in-Ok.kept.body free ready;
+      space = free;
+      synced = opened.ensures.synced (λ is. cc (is, c.in-Ok.is));
+      kept = tt;
+      same_space = tt;
+      failed = c.failed_after-self.ensures ∙ ap (failed_after opened.new.io.failed) c.in-Ok.is;
+      reads = opened.ensures.reads;
+      cause = record { later = opened.ensures.cause.later; fault = λ is. absurd (cc (is)) };
+      same = opened.ensures.same;
+    }
+
+pub returns-in-Err-clause-reopens : goal.returns-in-Err-clause-reopens
+returns-in-Err-clause-reopens g c =
+    let opened = c.open_on-opened in
+    let fault = c.in-Err.fault in
+    record {
+      works = tt;
+      space = tt;
+      synced = tt;
+      kept = refl;
+      same_space = opened.ensures.space;
+      failed = c.failed_after-self.ensures ∙ ap (failed_after opened.new.io.failed) c.in-Err.is ∙ ap (λ (failed : Bool). failed_after failed (Err fault)) opened.ensures.failed;
+      reads = opened.ensures.reads;
+      cause = record { later = opened.ensures.cause.later; fault = λ is. let disk : fault ≡ DiskFault = cc (is) in opened.ensures.cause.fault (c.in-Err.is ∙ ap (λ (f : OpenFault). Err f) disk) };
+      same = opened.ensures.same;
+    }

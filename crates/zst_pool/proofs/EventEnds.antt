@@ -1,0 +1,193 @@
+-- How an event of a pool ends, from what its commit did and what the pool then kept.
+use Rattle.std.specs.Prelude.{Result, Ok, Err, IfErr, IfOk, OnErr}
+use Rattle.std.proofs.Common.{◌≡◌, ℕ, ◌+◌, List, [], Bool, false, true, ◌||◌, refl, sym, ap, ◌∙◌, subst, arith}
+use Rattle.zst_outside.specs.Images.{Leaves-none, OnlyReads-none}
+use Rattle.zst_outside.specs.declared.disk.Disk.{Ghosts}
+use Rattle.zst_space.specs.FreeSectors.{FreeSectors}
+use Rattle.zst_block.specs.Blocks.{KeepsBlocks}
+use Rattle.zst_block.specs.IoCalls.{Looks}
+use Rattle.zst_block.specs.IoStates.{IoState, blocks_of, disk_of, io_of}
+use Rattle.zst_block.specs.declared.io.Io.{Io}
+use Rattle.zst_model.specs.declared.pools.command.Command.{Command}
+use Rattle.zst_model.specs.declared.refusals.refusal.Refusal.{Refusal}
+use Rattle.zst_model.specs.pools.Pool.{Partial as PlainPartial, Pool as Plain}
+use Rattle.zst_model.specs.pools.Step.{Stepped, stepped}
+use Rattle.zst_objset.specs.Damage.{DamageFact}
+use Rattle.zst_dir.specs.Rows.{Rows}
+use Rattle.zst_dir.specs.declared.rows.Partial.{Partial}
+use Rattle.zst_image.specs.Commits.{Ready}
+use Rattle.zst_image.specs.Reads.{PartialIs, bound_of, free_by}
+use Rattle.zst_image.specs.declared.pool_state.PoolState.{PoolState}
+use Rattle.zst_pool.specs.Calls.{CallDid, CallGrows, IsCallFault, IsCallFull, IsUnderWay, keeping}
+use Rattle.zst_pool.specs.CommandRuns.{Runs}
+use Rattle.zst_pool.specs.Cost.{Cost}
+use Rattle.zst_pool.specs.Events.{EndsCommit, LooksUp, PutsPartial, SameDisk, Settles, StepDid}
+use Rattle.zst_pool.specs.Faults.{is_disk_fault, is_full}
+use Rattle.zst_pool.specs.Queries.{stop_of}
+use Rattle.zst_pool.specs.StepAnswers.{BeforeOrAfter}
+use Rattle.zst_pool.specs.declared.fault.PoolFault.{PoolFault}
+use Rattle.zst_pool.specs.declared.fault.PoolFault.TheVariants.{DiskFault, Failed, Full}
+use Rattle.zst_pool.specs.declared.pool.Pool.{Pool}
+use Rattle.zst_pool.proofs.CallLemmas.{blocks_last, can_still, cause_told, fault_has, fault_made, free_again, kept_has, ready_still, tells_disk}
+use Rattle.zst_pool.proofs.CommitAnswers.{disk_told}
+use Rattle.zst_pool.proofs.CommandParts.{disk_fault_same, or_false}
+use Rattle.zst_pool.proofs.PoolsAtRest.{commit_next_of}
+use Rattle.zst_pool.proofs.QuerySteps.{cause_told as cause_looked, fails_told, on_err, ready_read, spares_read}
+
+either_failed : (a b : Bool) → (a || b) ≡ false → a ≡ true → ⊥
+either_failed true b h is = cc
+either_failed false b h is = cc
+
+module _ {D : Type 0} {g : Ghosts D} where
+  -- a pool that has failed answers E31, and stays as it is
+  pub settles_failed : {T : Type 0} (pool : Pool D g) → pool.io.failed ≡ true → Settles {T = T} pool pool (Err Failed)
+  settles_failed {T = T} pool failed = record {
+    stays = refl;
+    failed_pool = λ is. refl;
+    idle_disk = λ is. refl;
+    space = λ works. absurd (either_failed pool.io.failed (is_full {T = T} (Err Failed)) works failed);
+    works = λ works. absurd (either_failed pool.io.failed (is_full {T = T} (Err Failed)) works failed);
+    ready = λ works. absurd (cc (failed, works));
+    failed = or_false pool.io.failed;
+    cause = record { later = omega arith; fault = λ is. absurd (cc (is)) };
+    honest = λ told. told;
+    same = refl;
+  }
+
+  pub puts_failed : (definition : PlainPartial → Plain → Result Plain Refusal) (partial : Partial) (dir : Rows) (pool : Pool D g) → pool.io.failed ≡ true → PutsPartial definition partial dir pool pool (Err Failed)
+  puts_failed definition partial dir pool failed = record {
+    did = λ tight start running plain told works way is. absurd (cc (failed, works));
+    rows = tt;
+    number = tt;
+    known = λ works. absurd (cc (failed, works));
+    full = λ need largest is. absurd (cc (is));
+    grows = tt;
+    blocks = tt;
+  }
+
+  -- an event whose commit ended so over its disk, whatever sectors it began with, once the pool kept what it committed
+  module _ (old new : Pool D g) (mid : Io D g) (made : Result PoolState PoolFault) (answer : Result ℕ PoolFault) (works : old.io.failed ≡ false) (kept : keeping new.kept answer ≡ made)
+      (free : is_full made ≡ false → new.io.space ≡ free_by new.kept.body) (disk : SameDisk mid new.io) where
+    pub settles_committed : (space : FreeSectors) → EndsCommit old.kept (record { disk = disk_of old.io; space = space; failed = old.io.failed; reference = old.io.disk.ghost_name }) (io_of mid) made → OnErr answer (new.kept ≡ old.kept)
+        → Settles old new answer
+    settles_committed space ends stays =
+        let ready = ready_still new.kept answer made kept old.kept (disk_of mid) (disk_of new.io) mid.failed new.io.failed (ap (λ (d : D). g.state d) disk.now) disk.failed ends.ready ends.stays stays in
+        record {
+          stays = stays;
+          failed_pool = λ is. absurd (cc (works, is));
+          idle_disk = λ is. absurd (cc (works, is));
+          space = free_again new.kept answer made kept old.io.failed new.io.space free;
+          works = can_still new.kept answer made kept (disk_of new.io) new.io.space new.io.failed free ready;
+          ready = ready;
+          failed = disk.failed ∙ ends.failed ∙ ap (λ fell. old.io.failed || fell) (tells_disk new.kept answer made kept);
+          cause = cause_told new.kept answer made kept (disk_of old.io).faults (disk_of mid).faults (disk_of new.io).faults (ap (λ (d : D). (g.state d).faults) disk.now) ends.cause;
+          honest = λ told. ends.honest (subst (λ (d : D). (g.state d).honest) disk.now told);
+          same = disk.same ∙ ends.same;
+        }
+
+    -- and what a partial state's commit did, the call that keeps it did
+    pub puts_committed : (definition : PlainPartial → Plain → Result Plain Refusal) (partial : Partial) (dir : Rows)
+        → ((tight : Bool) (start : D) (running : Plain) (plain : PlainPartial) → (disk_of mid).honest → IsUnderWay tight (g.state start) (disk_of old.io) old.io.space old.kept running
+        → PartialIs (bound_of tight (running.number + 1)) (blocks_of old.io) partial plain → CallDid tight (g.state start) (disk_of mid) old.kept running (definition plain running) made)
+        → IfOk made (λ next. next.dir ≡ dir) → IfErr made IsCallFault → ((need largest : ℕ) → made ≡ Err (Full need largest) → IsCallFull old.io.space mid.space old.kept.dir need largest)
+        → IfOk made (CallGrows old.io.space old.kept) → IfOk made (λ next. KeepsBlocks (disk_of old.io).seen old.io.space (disk_of mid).seen (free_by next.body))
+        → IfOk answer (λ number. number ≡ new.kept.body.number) → (is_full made ≡ true → new.io.space ≡ mid.space) → PutsPartial definition partial dir old new answer
+    puts_committed definition partial dir did rows known full grows blocks number left = record {
+      did = λ tight start running plain told standing way is.
+          let honest = subst (λ (d : D). (g.state d).honest) disk.now told in
+          subst (λ (d : D). CallDid tight (g.state start) (g.state d) old.kept running (definition plain running) (keeping new.kept answer)) (sym disk.now)
+          (subst (CallDid tight (g.state start) (disk_of mid) old.kept running (definition plain running)) (sym kept) (did tight start running plain honest way is));
+      rows = kept_has (λ next. next.dir ≡ dir) new.kept answer made kept rows;
+      number = number;
+      known = λ standing. fault_has new.kept answer made kept IsCallFault known;
+      full = λ need largest fell.
+          let same = fault_made new.kept answer made kept (Full need largest) fell in
+          subst (λ (less : FreeSectors). IsCallFull old.io.space less old.kept.dir need largest) (sym (left (ap is_full same))) (full need largest same);
+      grows = kept_has (CallGrows old.io.space old.kept) new.kept answer made kept grows;
+      blocks = blocks_last (disk_of old.io).seen (disk_of mid).seen (disk_of new.io).seen old.io.space new.io.space new.kept answer made kept blocks free (ap (λ (d : D). (g.state d).seen) disk.now);
+    }
+
+  -- what was run stands over the disk that the pool then has, as what it kept
+  pub runs_settled : {definition : Plain → Result Stepped Refusal} {cost : Cost} {damage : DamageFact} {kept : PoolState} {old : IoState} (mid new : Io D g) (made answer : Result PoolState PoolFault) → SameDisk mid new → answer ≡ made
+      → Runs definition cost damage kept old (io_of mid) made → Runs definition cost damage kept old (record { disk = disk_of new; space = mid.space; failed = mid.failed; reference = mid.disk.ghost_name }) answer
+  runs_settled {definition = definition} {cost = cost} {damage = damage} {kept = kept} {old = old} mid new made answer disk same runs =
+      let over = λ (now : D) (result : Result PoolState PoolFault). Runs definition cost damage kept old (record { disk = g.state now; space = mid.space; failed = mid.failed; reference = mid.disk.ghost_name }) result in
+      subst (over new.disk.now) (sym same) (subst (λ (now : D). over now made) (sym disk.now) runs)
+
+  -- an event that went well, or was refused so, also where it answers something else
+  pub settles_ok : {T U : Type 0} (old new : Pool D g) (value : T) (reply : U) → Settles old new (Ok value) → Settles old new (Ok reply)
+  settles_ok old new value reply settles = record {
+    stays = tt;
+    failed_pool = λ is. absurd (cc (settles.failed_pool is));
+    idle_disk = settles.idle_disk;
+    space = settles.space;
+    works = settles.works;
+    ready = settles.ready;
+    failed = settles.failed;
+    cause = record { later = settles.cause.later; fault = λ is. absurd (cc (is)) };
+    honest = settles.honest;
+    same = settles.same;
+  }
+
+  pub settles_err : {T U : Type 0} (old new : Pool D g) (fault : PoolFault) (result : Result U PoolFault) → result ≡ Err fault → Settles {T = T} old new (Err fault) → Settles old new result
+  settles_err {T = T} {U = U} old new fault result fell settles = subst (Settles old new) (sym fell) same
+    where
+      same : Settles {T = U} old new (Err fault)
+      same = record {
+        stays = settles.stays;
+        failed_pool = λ is. let failed : fault ≡ Failed = cc (settles.failed_pool is) in ap (λ (f : PoolFault). Err f) failed;
+        idle_disk = settles.idle_disk;
+        space = settles.space;
+        works = settles.works;
+        ready = settles.ready;
+        failed = settles.failed ∙ ap (λ (b : Bool). old.io.failed || b) (disk_fault_same T U fault);
+        cause = record { later = settles.cause.later; fault = λ is. let disk : fault ≡ DiskFault = cc (is) in settles.cause.fault (ap (λ (f : PoolFault). Err f) disk) };
+        honest = settles.honest;
+        same = settles.same;
+      }
+
+  -- one that only told something of a pool, once the sectors were free again
+  pub settles_told : (pool : Pool D g) (io : Io D g) (result : Result (List (List ℕ)) PoolFault) → pool.io.failed ≡ false → (space : FreeSectors) → space ≡ free_by pool.kept.body
+      → Looks (record { disk = disk_of pool.io; space = space; failed = pool.io.failed; reference = pool.io.disk.ghost_name }) (io_of io) (stop_of result) → Ready (disk_of pool.io) pool.kept.body
+      → Settles pool (record pool { io = io }) result
+  settles_told pool io result works space free looks ready =
+      let after = ready_read (disk_of pool.io) (disk_of io) pool.kept looks.reads ready in
+      let space_is = looks.space ∙ free in
+      record {
+        stays = on_err result refl;
+        failed_pool = λ is. absurd (cc (works, is));
+        idle_disk = λ is. absurd (cc (works, is));
+        space = λ told. space_is;
+        works = λ told. commit_next_of (disk_of io) io.space pool.kept.body space_is after;
+        ready = λ told. after;
+        failed = looks.failed ∙ ap (λ (b : Bool). pool.io.failed || b) (fails_told result);
+        cause = cause_looked (disk_of pool.io).faults (disk_of io).faults result looks.cause;
+        honest = looks.reads.honest;
+        same = looks.same;
+      }
+
+  -- a step of a pool that has failed
+  pub step_failed : (now : ℕ) (command : Command) (pool : Pool D g) → pool.io.failed ≡ true → StepDid now command pool pool (Err Failed)
+  step_failed now command pool failed =
+      let here = disk_of pool.io in
+      record {
+        moments = λ tight running told rested. Leaves-none here (BeforeOrAfter tight running (stepped [] now command running));
+        answer = λ tight running told works. absurd (cc (failed, works));
+        open_still = λ works. absurd (cc (failed, works));
+        spends = λ works. absurd (cc (failed, works));
+        exact = λ running told works. absurd (cc (failed, works));
+        spares = λ apart. spares_read here here pool.kept (OnlyReads-none here);
+        damaged = λ told sector stated found is. absurd (cc (is));
+      }
+
+  -- a call that found nothing out of a pool did nothing, and no disk failed it
+  pub looks_idle : {T : Type 0} (pool : Pool D g) (result : Result T PoolFault) → (pool.io.failed ≡ true → result ≡ Err Failed) → is_disk_fault result ≡ false → LooksUp pool pool result
+  looks_idle pool result failed_pool never = record {
+    failed_pool = failed_pool;
+    idle_disk = λ is. refl;
+    only_answers = record { reads = OnlyReads-none (disk_of pool.io); kept = refl };
+    space = refl;
+    failed = or_false pool.io.failed ∙ ap (λ (b : Bool). pool.io.failed || b) (sym never);
+    cause = record { later = omega arith; fault = λ is. absurd (disk_told (sym never ∙ ap is_disk_fault is)) };
+    same = refl;
+  }
