@@ -33,7 +33,7 @@ use Rattle.zst_record.specs.Heads.{Covered}
 use Rattle.zst_stream.specs.Items.{items_by}
 use Rattle.zst_stream.specs.Reading.{Outcome, waiting, faulty, complete}
 use Rattle.zst_recv.specs.Feeds.{fault_of}
-use Rattle.zst_recv.specs.ReceiveSteps.{Stage, Waits, Lives, Ends, Work, Batch, batch, batch_by, began, first_fault, moved_by, of_plan, opened, put, put_at, taken_at, went_on, with_applied}
+use Rattle.zst_recv.specs.ReceiveSteps.{Stage, Waits, Lives, Ends, Batch, EndedBatch, batch_of, batch_by, began, first_fault, moved_by, of_plan, opened, put, put_at, taken_at, went_on, with_applied}
 use Rattle.zst_recv.specs.TakenRecords.{fault_in, taken_of}
 
 -- no refusal for the bytes of a stream
@@ -184,47 +184,47 @@ tame_items : (number index : ℕ) (items : List Item) (snap : DatedState) → Av
 tame_items number index [] snap = record { avoids = tt }
 tame_items number index (item ∷ rest) snap = of_then IsTame (received number index item snap) (received_all number index rest) (tame_item number index item snap) (λ after. tame_items number index rest after)
 
-tame_moved : (number : ℕ) (c : Covered) (flags : ℕ) (partial : Partial) (work : Work) → Avoids IsTame (moved_by number c flags partial >>= λ moved. Ok (with_applied flags moved work))
-tame_moved number c flags partial work =
+tame_moved : (number : ℕ) (c : Covered) (flags : ℕ) (partial : Partial) (plain : Batch) → Avoids IsTame (moved_by number c flags partial >>= λ moved. Ok (with_applied flags moved plain))
+tame_moved number c flags partial plain =
     let items = items_by flags c.payload c.head in
-    of_then IsTame (moved_by number c flags partial) (λ moved. Ok (with_applied flags moved work))
+    of_then IsTame (moved_by number c flags partial) (λ moved. Ok (with_applied flags moved plain))
     (of_then IsTame (received_all number c.index items partial.objects) (λ objects. Ok (record partial { objects = objects; point = point_of partial.point items })) (tame_items number c.index items partial.objects)
     (λ objects. record { avoids = tt })) (λ moved. record { avoids = tt })
 
-tame_went : (number : ℕ) (c : Covered) (flags : ℕ) (partial : Partial) (work : Work) (head : Head) → Avoids IsTame (went_on number c flags partial work head)
-tame_went number c flags partial work (heads.Begin header len) = record { avoids = tt }
-tame_went number c flags partial work (heads.Object object kind bonus_kind block_size bonus_len max_block to) = tame_moved number c flags partial work
-tame_went number c flags partial work (heads.FreeObjects first count to) = tame_moved number c flags partial work
-tame_went number c flags partial work (heads.Write object kind offset size to) = tame_moved number c flags partial work
-tame_went number c flags partial work (heads.Free object offset size to) = tame_moved number c flags partial work
-tame_went number c flags partial work (heads.End sums to) = record { avoids = tt }
-tame_went number c flags partial work (heads.Spill object size to) = tame_moved number c flags partial work
-tame_went number c flags partial work (heads.Redact object offset size to) = tame_moved number c flags partial work
+tame_went : (number : ℕ) (c : Covered) (flags : ℕ) (partial : Partial) (plain : Batch) (head : Head) → Avoids IsTame (went_on number c flags partial plain head)
+tame_went number c flags partial plain (heads.Begin header len) = record { avoids = tt }
+tame_went number c flags partial plain (heads.Object object kind bonus_kind block_size bonus_len max_block to) = tame_moved number c flags partial plain
+tame_went number c flags partial plain (heads.FreeObjects first count to) = tame_moved number c flags partial plain
+tame_went number c flags partial plain (heads.Write object kind offset size to) = tame_moved number c flags partial plain
+tame_went number c flags partial plain (heads.Free object offset size to) = tame_moved number c flags partial plain
+tame_went number c flags partial plain (heads.End sums to) = record { avoids = tt }
+tame_went number c flags partial plain (heads.Spill object size to) = tame_moved number c flags partial plain
+tame_went number c flags partial plain (heads.Redact object offset size to) = tame_moved number c flags partial plain
 
-tame_began : (ask : RecvAsk) (pool : Pool) (work : Work) (head : Head) → Avoids IsTame (began ask pool work head)
-tame_began ask pool work (heads.Begin header len) =
+tame_began : (ask : RecvAsk) (pool : Pool) (plain : Batch) (head : Head) → Avoids IsTame (began ask pool plain head)
+tame_began ask pool plain (heads.Begin header len) =
     of_then IsTame (of_plan (recv_plan ask header pool)) (λ plan. Ok (opened ask header plan)) (tame_plan (recv_plan ask header pool) (planned ask header pool)) (λ plan. record { avoids = tt })
-tame_began ask pool work (heads.Object object kind bonus_kind block_size bonus_len max_block to) = record { avoids = tt }
-tame_began ask pool work (heads.FreeObjects first count to) = record { avoids = tt }
-tame_began ask pool work (heads.Write object kind offset size to) = record { avoids = tt }
-tame_began ask pool work (heads.Free object offset size to) = record { avoids = tt }
-tame_began ask pool work (heads.End sums to) = record { avoids = tt }
-tame_began ask pool work (heads.Spill object size to) = record { avoids = tt }
-tame_began ask pool work (heads.Redact object offset size to) = record { avoids = tt }
+tame_began ask pool plain (heads.Object object kind bonus_kind block_size bonus_len max_block to) = record { avoids = tt }
+tame_began ask pool plain (heads.FreeObjects first count to) = record { avoids = tt }
+tame_began ask pool plain (heads.Write object kind offset size to) = record { avoids = tt }
+tame_began ask pool plain (heads.Free object offset size to) = record { avoids = tt }
+tame_began ask pool plain (heads.End sums to) = record { avoids = tt }
+tame_began ask pool plain (heads.Spill object size to) = record { avoids = tt }
+tame_began ask pool plain (heads.Redact object offset size to) = record { avoids = tt }
 
-tame_taken : (ask : RecvAsk) (pool : Pool) (c : Covered) (work : Work) (stage : Stage) → Avoids IsTame (taken_at ask pool c work stage)
-tame_taken ask pool c work Waits = tame_began ask pool work c.head
-tame_taken ask pool c work (Lives flags partial) = tame_went (pool.number + 1) c flags partial work c.head
-tame_taken ask pool c work (Ends partial) = record { avoids = tt }
+tame_taken : (ask : RecvAsk) (pool : Pool) (c : Covered) (plain : Batch) (stage : Stage) → Avoids IsTame (taken_at ask pool c plain stage)
+tame_taken ask pool c plain Waits = tame_began ask pool plain c.head
+tame_taken ask pool c plain (Lives flags partial) = tame_went (pool.number + 1) c flags partial plain c.head
+tame_taken ask pool c plain (Ends partial) = record { avoids = tt }
 
-tame_by : (r : Result Work Refusal) (work : Work) (next : Work → Batch) → Avoids IsTame r → ((after : Work) → IfSome (next after).fault IsTame) → IfSome (batch_by r work next).fault IsTame
-tame_by (Ok after) work next is later = later after
-tame_by (Err refusal) work next is later = is.avoids
+tame_by : (r : Result Batch Refusal) (plain : Batch) (next : Batch → EndedBatch) → Avoids IsTame r → ((after : Batch) → IfSome (next after).fault IsTame) → IfSome (batch_by r plain next).fault IsTame
+tame_by (Ok after) plain next is later = later after
+tame_by (Err refusal) plain next is later = is.avoids
 
-tame_batch : (ask : RecvAsk) (pool : Pool) (records : List Covered) (work : Work) → IfSome (batch ask pool records work).fault IsTame
-unfolding batch
-tame_batch ask pool [] work = tt
-tame_batch ask pool (c ∷ rest) work = tame_by (taken_at ask pool c work work.stage) work (batch ask pool rest) (tame_taken ask pool c work work.stage) (tame_batch ask pool rest)
+tame_batch : (ask : RecvAsk) (pool : Pool) (records : List Covered) (plain : Batch) → IfSome (batch_of ask pool records plain).fault IsTame
+unfolding batch_of
+tame_batch ask pool [] plain = tt
+tame_batch ask pool (c ∷ rest) plain = tame_by (taken_at ask pool c plain plain.stage) plain (batch_of ask pool rest) (tame_taken ask pool c plain plain.stage) (tame_batch ask pool rest)
 
 tame_reading : (outcome : Outcome) → IfSome (fault_of outcome) IsTame
 tame_reading waiting = tt
@@ -236,8 +236,8 @@ tame_first None other is later = later
 tame_first (Some refusal) other is later = is
 
 -- the first fault of a piece isn't of the bytes of a stream
-pub tame_piece : (ask : RecvAsk) (pool : Pool) (text piece : List ℕ) (work : Work) → IfSome (fault_in ask pool text piece work) IsTame
-tame_piece ask pool text piece work = tame_first (taken_of ask pool text piece work).fault _ (tame_batch ask pool _ work) (tame_reading _)
+pub tame_piece : (ask : RecvAsk) (pool : Pool) (text piece : List ℕ) (plain : Batch) → IfSome (fault_in ask pool text piece plain) IsTame
+tame_piece ask pool text piece plain = tame_first (taken_of ask pool text piece plain).fault _ (tame_batch ask pool _ plain) (tame_reading _)
 
 -- ---- commits
 
@@ -254,5 +254,5 @@ tame_put_at rolls (Lives flags partial) pool = tame_next (with_partial rolls par
 tame_put_at rolls (Ends partial) pool = tame_next (with_finished partial pool)
 
 -- nor is that of a commit
-pub tame_put : (work : Work) (pool : Pool) → IfErr (put work pool) IsTame
-tame_put work pool = let is = of_cond IsTame work.taken _ _ (tame_put_at work.rolls work.stage pool) (record { avoids = tt }) in is.avoids
+pub tame_put : (plain : Batch) (pool : Pool) → IfErr (put plain pool) IsTame
+tame_put plain pool = let is = of_cond IsTame plain.taken _ _ (tame_put_at plain.rolls plain.stage pool) (record { avoids = tt }) in is.avoids

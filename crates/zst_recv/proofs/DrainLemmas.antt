@@ -26,7 +26,7 @@ use Rattle.zst_stream.specs.PassedRecords.{HasPassed}
 use Rattle.zst_stream.specs.Reading.{Outcome, reading}
 use Rattle.zst_stream.proofs.PassedRecords.{passed}
 use Rattle.zst_recv.specs.Faults.{Fills}
-use Rattle.zst_recv.specs.ReceiveSteps.{Work, Batch, batch, batch_by, taken}
+use Rattle.zst_recv.specs.ReceiveSteps.{Batch, EndedBatch, batch_of, batch_by, taken}
 use Rattle.zst_recv.specs.TakenRecords.{AreTaken, Drained, Drains, IsRead, Takes}
 use Rattle.zst_recv.specs.declared.fault.RecvFault.{RecvFault}
 use Rattle.zst_recv.specs.declared.fault.RecvFault.TheVariants as faults
@@ -90,45 +90,45 @@ pub handed_within : (r : Reader) (text : List ℕ) (handed : List Covered) → S
 handed_within r text handed s = let a = s.number in let b = s.sizes in let d = s.bounded in omega (arith, few handed)
 
 module _ (ask : RecvAsk) (pool : Pool) (ys : List Covered) where
-  then_by : (xs : List Covered) (work after : Work) → ((w : Work) → AreTaken ask pool xs w after → batch ask pool (xs ++ ys) w ≡ batch ask pool ys after) → (r : Result Work Refusal)
-      → batch_by r work (batch ask pool xs) ≡ record { work = after; fault = None } → batch_by r work (batch ask pool (xs ++ ys)) ≡ batch ask pool ys after
-  then_by xs work after later (Err refusal) is = let e : Some refusal ≡ None = ap (λ (b : Batch). b.fault) is in absurd (cc e)
-  then_by xs work after later (Ok next) is = later next is
+  then_by : (xs : List Covered) (plain after : Batch) → ((w : Batch) → AreTaken ask pool xs w after → batch_of ask pool (xs ++ ys) w ≡ batch_of ask pool ys after) → (r : Result Batch Refusal)
+      → batch_by r plain (batch_of ask pool xs) ≡ record { batch = after; fault = None } → batch_by r plain (batch_of ask pool (xs ++ ys)) ≡ batch_of ask pool ys after
+  then_by xs plain after later (Err refusal) is = let e : Some refusal ≡ None = ap (λ (b : EndedBatch). b.fault) is in absurd (cc e)
+  then_by xs plain after later (Ok next) is = later next is
 
   -- where all of a list were taken the others are taken from there
-  pub batch_then : (xs : List Covered) (work after : Work) → AreTaken ask pool xs work after → batch ask pool (xs ++ ys) work ≡ batch ask pool ys after
-  unfolding batch
-  batch_then [] work after is = ap (λ (b : Batch). batch ask pool ys b.work) is
-  batch_then (c ∷ xs) work after is = then_by xs work after (λ w. batch_then xs w after) (taken ask pool c work) is
+  pub batch_then : (xs : List Covered) (plain after : Batch) → AreTaken ask pool xs plain after → batch_of ask pool (xs ++ ys) plain ≡ batch_of ask pool ys after
+  unfolding batch_of
+  batch_then [] plain after is = ap (λ (b : EndedBatch). batch_of ask pool ys b.batch) is
+  batch_then (c ∷ xs) plain after is = then_by xs plain after (λ w. batch_then xs w after) (taken ask pool c plain) is
 
 -- ---- draining
 
 -- These records were handed out behind the others, and taken.
-pub record Draining (ask : RecvAsk) (pool : Pool) (reader : Reader) (text : List ℕ) (handed : List Covered) (Is : Work → Type 0) (work : Work) : Type 0 where
+pub record Draining (ask : RecvAsk) (pool : Pool) (reader : Reader) (text : List ℕ) (handed : List Covered) (Is : Batch → Type 0) (plain : Batch) : Type 0 where
   pub records : List Covered
-  pub after : Work
+  pub after : Batch
   pub stands : StandsFor reader text (handed ++ records)
-  pub were_taken : AreTaken ask pool records work after
+  pub were_taken : AreTaken ask pool records plain after
   pub is : Is after
 
-module _ (ask : RecvAsk) (pool : Pool) (text : List ℕ) (handed : List Covered) (work : Work) where
-  pub drain_begins : (reader : Reader) (Is : Work → Type 0) → StandsFor reader text handed → Is work → Draining ask pool reader text handed Is work
-  unfolding batch
+module _ (ask : RecvAsk) (pool : Pool) (text : List ℕ) (handed : List Covered) (plain : Batch) where
+  pub drain_begins : (reader : Reader) (Is : Batch → Type 0) → StandsFor reader text handed → Is plain → Draining ask pool reader text handed Is plain
+  unfolding batch_of
   drain_begins reader Is stands is = record {
     records = [];
-    after = work;
+    after = plain;
     stands = subst (StandsFor reader text) (sym (append-nil handed)) stands;
     were_taken = refl;
     is = is;
   }
 
-  module _ (old new : Reader) (Was Is : Work → Type 0) (d : Draining ask pool old text handed Was work) where
-    taken_more : (c : Covered) (after : Work) → taken ask pool c d.after ≡ Ok after → AreTaken ask pool (d.records ++ c ∷ []) work after
-    unfolding batch
-    taken_more c after is = batch_then ask pool (c ∷ []) d.records work d.after d.were_taken ∙ ap (λ (r : Result Work Refusal). batch_by r d.after (batch ask pool [])) is
+  module _ (old new : Reader) (Was Is : Batch → Type 0) (d : Draining ask pool old text handed Was plain) where
+    taken_more : (c : Covered) (after : Batch) → taken ask pool c d.after ≡ Ok after → AreTaken ask pool (d.records ++ c ∷ []) plain after
+    unfolding batch_of
+    taken_more c after is = batch_then ask pool (c ∷ []) d.records plain d.after d.were_taken ∙ ap (λ (r : Result Batch Refusal). batch_by r d.after (batch_of ask pool [])) is
 
     pub drain_goes_on : (c : Covered) → StandsFor new text ((handed ++ d.records) ++ c ∷ []) → Takes Is d.after (taken ask pool c d.after) (Ok tt)
-        → Draining ask pool new text handed Is work
+        → Draining ask pool new text handed Is plain
     drain_goes_on c stands takes = record {
       records = d.records ++ c ∷ [];
       after = takes.0;
@@ -138,11 +138,11 @@ module _ (ask : RecvAsk) (pool : Pool) (text : List ℕ) (handed : List Covered)
     }
 
     pub drain_ends : (outcome : Outcome) → HandsOut new text (handed ++ d.records) outcome → Is d.after
-        → (after : Work) × Drained ask pool new text handed work after outcome × Is after
+        → (after : Batch) × Drained ask pool new text handed plain after outcome × Is after
     drain_ends outcome hands is = (d.after, record { records = d.records; reads = hands; were_taken = d.were_taken }, is)
 
     pub drain_refused : (c : Covered) (fault : RecvFault) → StandsFor new text ((handed ++ d.records) ++ c ∷ []) → Takes Is d.after (taken ask pool c d.after) (Err fault)
-        → Drains ask pool new text handed Is work (Err fault)
+        → Drains ask pool new text handed Is plain (Err fault)
     drain_refused c (faults.Stream fault) stands takes = absurd takes.0
     drain_refused c (faults.Pool fault) stands takes = (
       d.after,

@@ -19,7 +19,7 @@ use Rattle.zst_pool.specs.declared.fault.PoolFault.TheVariants as pools
 use Rattle.zst_recv.specs.Answers.{FeedAnswer, FeedFault, IsStopped}
 use Rattle.zst_recv.specs.Faults.{is_block_limit, keeps_before, recv_refusal}
 use Rattle.zst_recv.specs.Feeds.{fed_piece}
-use Rattle.zst_recv.specs.ReceiveSteps.{Stage, Work, Fed, Goes, Stops, at_stage, committed, fed, is_kept, keeps_front, left_by, pool_of, put, settled}
+use Rattle.zst_recv.specs.ReceiveSteps.{Stage, Batch, Fed, Goes, Stops, at_stage, committed, fed, is_kept, keeps_front, left_by, pool_of, put, settled}
 use Rattle.zst_recv.specs.TakenRecords.{ReadFault, fault_in, taken_of}
 use Rattle.zst_recv.specs.declared.fault.RecvFault.{RecvFault}
 use Rattle.zst_recv.specs.declared.fault.RecvFault.TheVariants as faults
@@ -120,51 +120,51 @@ first_is first (faults.Stream fault) told keeps = told
 first_is first (faults.CannotApply index fault) told keeps = told
 
 module _ (ask : RecvAsk) (text piece : List ℕ) (stage : Stage) (running : Pool) where
-  abbrev piece_work : Work
-  piece_work = (taken_of ask running text piece (at_stage stage)).work
+  abbrev piece_batch : Batch
+  piece_batch = (taken_of ask running text piece (at_stage stage)).batch
 
   abbrev piece_fault : Option Refusal
   piece_fault = fault_in ask running text piece (at_stage stage)
 
-  made : fed_piece ask text piece stage running ≡ settled stage running piece_work piece_fault
+  made : fed_piece ask text piece stage running ≡ settled stage running piece_batch piece_fault
   unfolding fed
   made = refl
 
   -- whether the records before this refusal stay
   abbrev stays : Refusal → Bool
-  stays refusal = keeps_front refusal && is_kept piece_work.stage
+  stays refusal = keeps_front refusal && is_kept piece_batch.stage
 
   -- what was taken is to be committed
   abbrev pub IsDue : Option Refusal → Type 0
   IsDue None = piece_fault ≡ None
   IsDue (Some refusal) = (piece_fault ≡ Some refusal) × (stays refusal ≡ true)
 
-  pub due_some : (fault : RecvFault) → ReadFault piece_fault fault → keeps_before fault ≡ true → (piece_fault ≡ Some (recv_refusal fault) → is_kept piece_work.stage ≡ true) → IsDue (Some (recv_refusal fault))
+  pub due_some : (fault : RecvFault) → ReadFault piece_fault fault → keeps_before fault ≡ true → (piece_fault ≡ Some (recv_refusal fault) → is_kept piece_batch.stage ≡ true) → IsDue (Some (recv_refusal fault))
   due_some fault told keeps stands =
       let first = first_is piece_fault fault told keeps in
-      (first, ap (λ (b : Bool). b && is_kept piece_work.stage) (sym (front_same piece_fault fault first told) ∙ keeps) ∙ stands first)
+      (first, ap (λ (b : Bool). b && is_kept piece_batch.stage) (sym (front_same piece_fault fault first told) ∙ keeps) ∙ stands first)
 
   -- what then comes of it
   abbrev follows : Option Refusal → Pool → Fed
-  follows None next = Goes next piece_work.stage
+  follows None next = Goes next piece_batch.stage
   follows (Some refusal) next = Stops next refusal
 
-  committed_so : (first : Option Refusal) → IsDue first → fed_piece ask text piece stage running ≡ committed stage running (put piece_work running) (follows first)
-  committed_so None due = made ∙ ap (settled stage running piece_work) due
+  committed_so : (first : Option Refusal) → IsDue first → fed_piece ask text piece stage running ≡ committed stage running (put piece_batch running) (follows first)
+  committed_so None due = made ∙ ap (settled stage running piece_batch) due
   committed_so (Some refusal) due =
-      made ∙ ap (settled stage running piece_work) due.0
-      ∙ ap (λ (b : Bool). cond b (committed stage running (put piece_work running) (λ next. Stops next refusal)) (Stops (left_by stage running) refusal)) due.1
+      made ∙ ap (settled stage running piece_batch) due.0
+      ∙ ap (λ (b : Bool). cond b (committed stage running (put piece_batch running) (λ next. Stops next refusal)) (Stops (left_by stage running) refusal)) due.1
 
-  pub gives : (first : Option Refusal) (next : Pool) → IsDue first → put piece_work running ≡ Ok next → fed_piece ask text piece stage running ≡ follows first next
+  pub gives : (first : Option Refusal) (next : Pool) → IsDue first → put piece_batch running ≡ Ok next → fed_piece ask text piece stage running ≡ follows first next
   gives first next due is = committed_so first due ∙ ap (λ (r : Result Pool Refusal). committed stage running r (follows first)) is
 
-  refused_so : (first : Option Refusal) (refusal : Refusal) → IsDue first → put piece_work running ≡ Err refusal → fed_piece ask text piece stage running ≡ Stops (left_by stage running) refusal
+  refused_so : (first : Option Refusal) (refusal : Refusal) → IsDue first → put piece_batch running ≡ Err refusal → fed_piece ask text piece stage running ≡ Stops (left_by stage running) refusal
   refused_so first refusal due is = committed_so first due ∙ ap (λ (r : Result Pool Refusal). committed stage running r (follows first)) is
 
   fell_so : (refusal : Refusal) → piece_fault ≡ Some refusal → stays refusal ≡ false → fed_piece ask text piece stage running ≡ Stops (left_by stage running) refusal
   fell_so refusal is none =
-      made ∙ ap (settled stage running piece_work) is
-      ∙ ap (λ (b : Bool). cond b (committed stage running (put piece_work running) (λ next. Stops next refusal)) (Stops (left_by stage running) refusal)) none
+      made ∙ ap (settled stage running piece_batch) is
+      ∙ ap (λ (b : Bool). cond b (committed stage running (put piece_batch running) (λ next. Stops next refusal)) (Stops (left_by stage running) refusal)) none
 
   follows_pool : (first : Option Refusal) (next : Pool) → pool_of (follows first next) ≡ next
   follows_pool None next = refl
@@ -179,9 +179,9 @@ module _ (ask : RecvAsk) (text piece : List ℕ) (stage : Stage) (running : Pool
   moments_before tight old now leaves = Leaves-weaker old now (Reads tight (kept_of running)) (Between tight) leaves (λ c is. inl is)
 
   pub moments_after : (tight : Bool) (old now : DiskState) (first : Option Refusal) → IsDue first
-      → Leaves old now (λ c. Reads tight (kept_of running) c ⊎ ((next : Pool) × (put piece_work running ≡ Ok next) × Reads tight (kept_of next) c)) → Leaves old now (Between tight)
+      → Leaves old now (λ c. Reads tight (kept_of running) c ⊎ ((next : Pool) × (put piece_batch running ≡ Ok next) × Reads tight (kept_of next) c)) → Leaves old now (Between tight)
   moments_after tight old now first due leaves =
-      Leaves-weaker old now (λ c. Reads tight (kept_of running) c ⊎ ((next : Pool) × (put piece_work running ≡ Ok next) × Reads tight (kept_of next) c)) (Between tight) leaves
+      Leaves-weaker old now (λ c. Reads tight (kept_of running) c ⊎ ((next : Pool) × (put piece_batch running ≡ Ok next) × Reads tight (kept_of next) c)) (Between tight) leaves
       (λ c is. ⊎_elim (λ was. inl was)
       (λ after. inr (subst (λ (p : Pool). Reads tight (kept_of p) c) (sym (ap pool_of (gives first after.0 due after.1) ∙ follows_pool first after.0)) after.2)) is)
 
@@ -194,11 +194,11 @@ module _ (ask : RecvAsk) (text piece : List ℕ) (stage : Stage) (running : Pool
     tame_some : (first : Option Refusal) (refusal : Refusal) → IfSome first IsTame → first ≡ Some refusal → IsTame refusal
     tame_some first refusal tame is = subst (λ (o : Option Refusal). IfSome o IsTame) is tame
 
-    not_kept : (fault : RecvFault) → piece_fault ≡ Some (recv_refusal fault) → ReadFault piece_fault fault → (keeps_before fault && is_kept piece_work.stage) ≡ false → stays (recv_refusal fault) ≡ false
-    not_kept fault is told none = ap (λ (b : Bool). b && is_kept piece_work.stage) (sym (front_same piece_fault fault is told)) ∙ none
+    not_kept : (fault : RecvFault) → piece_fault ≡ Some (recv_refusal fault) → ReadFault piece_fault fault → (keeps_before fault && is_kept piece_batch.stage) ≡ false → stays (recv_refusal fault) ≡ false
+    not_kept fault is told none = ap (λ (b : Bool). b && is_kept piece_batch.stage) (sym (front_same piece_fault fault is told)) ∙ none
 
     -- a piece that wasn't read leaves nothing behind
-    pub fell : (fault : RecvFault) → ReadFault piece_fault fault → (piece_fault ≡ Some (recv_refusal fault) → (keeps_before fault && is_kept piece_work.stage) ≡ false)
+    pub fell : (fault : RecvFault) → ReadFault piece_fault fault → (piece_fault ≡ Some (recv_refusal fault) → (keeps_before fault && is_kept piece_batch.stage) ≡ false)
         → ((need largest : ℕ) → fault ≡ faults.Pool (pools.Full need largest) → largest < need) → FeedAnswer tight now kept recv text piece stage running (fed_piece ask text piece stage running) (Err fault)
     fell (faults.Pool (pools.Plan fault)) told none full =
         plan_told tight now kept text piece stage running (fed_piece ask text piece stage running) fault
@@ -220,10 +220,10 @@ module _ (ask : RecvAsk) (text piece : List ℕ) (stage : Stage) (running : Pool
 
   -- nor does one whose commit was refused
   module _ (tight : Bool) (now : DiskState) (kept : PoolState) (recv : Recv) (before : Type 0) (rests : before → IsAtRest tight now kept (left_by stage running)) (first : Option Refusal) (due : IsDue first) where
-    pub unput : (fault : PoolFault) → CallFault before (put piece_work running) fault → FeedAnswer tight now kept recv text piece stage running (fed_piece ask text piece stage running) (Err (faults.Pool fault))
+    pub unput : (fault : PoolFault) → CallFault before (put piece_batch running) fault → FeedAnswer tight now kept recv text piece stage running (fed_piece ask text piece stage running) (Err (faults.Pool fault))
     unput (pools.Plan fault) fell =
         plan_told tight now kept text piece stage running (fed_piece ask text piece stage running) fault
-        (tame_err (put piece_work running) (refusal_of fault) (tame_put piece_work running) fell.0)
+        (tame_err (put piece_batch running) (refusal_of fault) (tame_put piece_batch running) fell.0)
         (stopped tight now kept recv (rests fell.1) (refusal_of fault) (refused_so first (refusal_of fault) due fell.0))
     unput (pools.CannotApply fault) fell = absurd fell
     unput (pools.Redacted object block) fell = absurd fell
@@ -234,14 +234,14 @@ module _ (ask : RecvAsk) (text piece : List ℕ) (stage : Stage) (running : Pool
     unput pools.OutOfMemory fell = rests fell
 
   -- the records before this fault stay, and the receive is over
-  module _ (tight : Bool) (now : DiskState) (kept : PoolState) (recv : Recv) (next : Pool) (is : put piece_work running ≡ Ok next) (rests : IsAtRest tight now kept next) where
-    kept_before : (fault : RecvFault) → ReadFault piece_fault fault → keeps_before fault ≡ true → piece_fault ≡ Some (recv_refusal fault) → is_kept piece_work.stage ≡ true
+  module _ (tight : Bool) (now : DiskState) (kept : PoolState) (recv : Recv) (next : Pool) (is : put piece_batch running ≡ Ok next) (rests : IsAtRest tight now kept next) where
+    kept_before : (fault : RecvFault) → ReadFault piece_fault fault → keeps_before fault ≡ true → piece_fault ≡ Some (recv_refusal fault) → is_kept piece_batch.stage ≡ true
         → IsStopped tight now kept (fed_piece ask text piece stage running) (recv_refusal fault)
     kept_before fault told keeps first stands =
-        let due : stays (recv_refusal fault) ≡ true = ap (λ (b : Bool). b && is_kept piece_work.stage) (sym (front_same piece_fault fault first told) ∙ keeps) ∙ stands in
+        let due : stays (recv_refusal fault) ≡ true = ap (λ (b : Bool). b && is_kept piece_batch.stage) (sym (front_same piece_fault fault first told) ∙ keeps) ∙ stands in
         record { next = next; definition_is = gives (Some (recv_refusal fault)) next (first, due) is; rests = rests }
 
-    pub stopped_behind : (fault : RecvFault) → ReadFault piece_fault fault → keeps_before fault ≡ true → (piece_fault ≡ Some (recv_refusal fault) → is_kept piece_work.stage ≡ true)
+    pub stopped_behind : (fault : RecvFault) → ReadFault piece_fault fault → keeps_before fault ≡ true → (piece_fault ≡ Some (recv_refusal fault) → is_kept piece_batch.stage ≡ true)
         → FeedAnswer tight now kept recv text piece stage running (fed_piece ask text piece stage running) (Err fault)
     stopped_behind (faults.Pool (pools.Plan fault)) told keeps stands =
         plan_told tight now kept text piece stage running (fed_piece ask text piece stage running) fault

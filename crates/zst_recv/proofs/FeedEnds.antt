@@ -25,11 +25,12 @@ use Rattle.zst_record.specs.Heads.{Covered, size_of}
 use Rattle.zst_stream.specs.Reading.{Reading, complete, reading, waiting}
 use Rattle.zst_tree.specs.Indices.{Blocks}
 use Rattle.zst_recv.specs.Answers.{Feeds, is_done}
-use Rattle.zst_recv.specs.Faults.{IsFeedFault, keeps_before, recv_refusal, stream_limit}
+use Rattle.zst_reader.specs.InputReads.{stream_limit}
+use Rattle.zst_recv.specs.Faults.{IsFeedFault, keeps_before, recv_refusal}
 use Rattle.zst_recv.specs.Feeds.{fed_piece, new_records}
-use Rattle.zst_recv.specs.ReceiveSteps.{Stage, Waits, Lives, Ends, Work, at_stage, is_kept, left_by, pool_of, put}
+use Rattle.zst_recv.specs.ReceiveSteps.{Stage, Waits, Lives, Ends, Batch, at_stage, is_kept, left_by, pool_of, put}
 use Rattle.zst_recv.specs.Commits.{Puts}
-use Rattle.zst_recv.specs.Stages.{HasRead, IsStage, IsWork, LivesOn, RecvFits, StageFits, StandsBehind, WaitsAtBegin, fed_of, has_partial, is_live, keeps_partial, point_in, received_at, stage_behind, waits_at}
+use Rattle.zst_recv.specs.Stages.{HasRead, IsStage, IsBatch, LivesOn, RecvFits, StageFits, StandsBehind, WaitsAtBegin, fed_of, has_partial, is_live, keeps_partial, point_in, received_at, stage_behind, waits_at}
 use Rattle.zst_recv.specs.TakenRecords.{ReadFault, TakesAll, fault_in, taken_of}
 use Rattle.zst_recv.specs.declared.batch.Batch as batches
 use Rattle.zst_recv.specs.declared.fault.RecvFault.{RecvFault}
@@ -211,11 +212,11 @@ module _ (tight : Bool) (old last : DiskState) (after : PoolState) (recv : Recv)
 
   -- the piece wasn't read
   pub lost : (ask : RecvAsk) (two : DiskState) (kept : PoolState) (space : FreeSectors) (given fault : RecvFault) → recv.ask ≡ ask → IsUnderWay tight old two space kept running → last ≡ two → given ≡ fault → ReadFault (fault_in ask running text piece (at_stage stage)) fault
-      → (fault_in ask running text piece (at_stage stage) ≡ Some (recv_refusal fault) → (keeps_before fault && is_kept (taken_of ask running text piece (at_stage stage)).work.stage) ≡ false)
+      → (fault_in ask running text piece (at_stage stage) ≡ Some (recv_refusal fault) → (keeps_before fault && is_kept (taken_of ask running text piece (at_stage stage)).batch.stage) ≡ false)
       → ((need largest : ℕ) → fault ≡ faults.Pool (pools.Full need largest) → largest < need) → IsAtRest tight two after (left_by stage running) → Feeds tight old last after recv text piece stage running (Err given)
   lost ask two kept space given fault asked way same is told none full rests =
       let here = subst (λ (a : RecvAsk). ReadFault (fault_in a running text piece (at_stage stage)) fault
-      × (fault_in a running text piece (at_stage stage) ≡ Some (recv_refusal fault) → (keeps_before fault && is_kept (taken_of a running text piece (at_stage stage)).work.stage) ≡ false)) (sym asked) (told, none) in
+      × (fault_in a running text piece (at_stage stage) ≡ Some (recv_refusal fault) → (keeps_before fault && is_kept (taken_of a running text piece (at_stage stage)).batch.stage) ≡ false)) (sym asked) (told, none) in
       subst (λ (f : RecvFault). Feeds tight old last after recv text piece stage running (Err f)) (sym is)
       (subst (λ (d : DiskState). Feeds tight old d after recv text piece stage running (Err fault)) (sym same)
       (record {
@@ -225,10 +226,10 @@ module _ (tight : Bool) (old last : DiskState) (after : PoolState) (recv : Recv)
 
   -- its commit was refused
   pub unmade : (ask : RecvAsk) (two : DiskState) (kept : PoolState) (first : Option Refusal) (given : RecvFault) (fault : PoolFault) → recv.ask ≡ ask → IsDue ask text piece stage running first
-      → Puts tight old two kept running (put (taken_of ask running text piece (at_stage stage)).work running) (Err fault) → last ≡ two → given ≡ faults.Pool fault
+      → Puts tight old two kept running (put (taken_of ask running text piece (at_stage stage)).batch running) (Err fault) → last ≡ two → given ≡ faults.Pool fault
       → (IsAtRest tight two kept running → IsAtRest tight two after (left_by stage running)) → Feeds tight old last after recv text piece stage running (Err given)
   unmade ask two kept first given fault asked due puts same is rests =
-      let here = subst (λ (a : RecvAsk). IsDue a text piece stage running first × Puts tight old two kept running (put (taken_of a running text piece (at_stage stage)).work running) (Err fault)) (sym asked) (due, puts) in
+      let here = subst (λ (a : RecvAsk). IsDue a text piece stage running first × Puts tight old two kept running (put (taken_of a running text piece (at_stage stage)).batch running) (Err fault)) (sym asked) (due, puts) in
       let put = here.1 in
       subst (λ (f : RecvFault). Feeds tight old last after recv text piece stage running (Err f)) (sym is)
       (subst (λ (d : DiskState). Feeds tight old d after recv text piece stage running (Err (faults.Pool fault))) (sym same)
@@ -239,8 +240,8 @@ module _ (tight : Bool) (old last : DiskState) (after : PoolState) (recv : Recv)
 
   -- the records before a fault were committed
   pub stopped : (fault : RecvFault) → ReadFault (fault_in recv.ask running text piece (at_stage stage)) fault → keeps_before fault ≡ true
-      → (fault_in recv.ask running text piece (at_stage stage) ≡ Some (recv_refusal fault) → is_kept (taken_of recv.ask running text piece (at_stage stage)).work.stage ≡ true)
-      → Puts tight old last after running (put (taken_of recv.ask running text piece (at_stage stage)).work running) (Ok tt) → Feeds tight old last after recv text piece stage running (Err fault)
+      → (fault_in recv.ask running text piece (at_stage stage) ≡ Some (recv_refusal fault) → is_kept (taken_of recv.ask running text piece (at_stage stage)).batch.stage ≡ true)
+      → Puts tight old last after running (put (taken_of recv.ask running text piece (at_stage stage)).batch running) (Ok tt) → Feeds tight old last after recv text piece stage running (Err fault)
   stopped fault told keeps stands puts =
       let put = puts.answer in
       record {
@@ -250,9 +251,9 @@ module _ (tight : Bool) (old last : DiskState) (after : PoolState) (recv : Recv)
 
   -- all of it was taken and committed
   module _ (handed : List Covered) (was : reading text ≡ record { covered = handed; outcome = waiting }) (front : (rest : List Covered) × ((reading (text ++ piece)).covered ≡ handed ++ rest)) (live : is_done stage ≡ false)
-      (waits : WaitsAtBegin handed stage) (has : Blocks) (code : batches.Batch) (reader : Reader) (bound : Option ℕ) (takes : TakesAll recv.ask running reader text piece (IsWork bound has code) (at_stage stage)) where
-    abbrev made : Work
-    made = (taken_of recv.ask running text piece (at_stage stage)).work
+      (waits : WaitsAtBegin handed stage) (has : Blocks) (code : batches.Batch) (reader : Reader) (bound : Option ℕ) (takes : TakesAll recv.ask running reader text piece (IsBatch bound has code) (at_stage stage)) where
+    abbrev made : Batch
+    made = (taken_of recv.ask running text piece (at_stage stage)).batch
 
     begun_so : IsBegun (reading (text ++ piece)).covered (reading (text ++ piece)).outcome made.stage
     begun_so = begun_then recv.ask running text piece stage handed was front live waits takes.whole

@@ -9,7 +9,7 @@ use Rattle.std.proofs.lemmas.List.Quantifiers.{position-Some}
 use Rattle.zst_names.specs.Names.{component_of, dataset_of}
 use Rattle.zst_model.proofs.OrderLaws.{same_bytes}
 use Rattle.zst_model.specs.pools.Pool.{Pool, untouched}
-use Rattle.zst_model.specs.pools.Pool as plain
+use Rattle.zst_model.specs.pools.Pool as models
 use Rattle.zst_space.specs.FreeSectors.{FreeSectors}
 use Rattle.zst_block.specs.Blocks.{Has}
 use Rattle.zst_tree.specs.Indices.{Blocks}
@@ -28,8 +28,8 @@ use Rattle.zst_plan.specs.declared.receive.RecvAsk.{RecvAsk}
 use Rattle.zst_plan.specs.declared.receive.RecvPlan.TheVariants as plans
 use Rattle.zst_recv.proofs.AlikeAnswers.{at_names, none_alike}
 use Rattle.zst_recv.specs.ReceiveSteps.{Lives}
-use Rattle.zst_recv.specs.Stages.{CanPut, IsStage, IsWork}
-use Rattle.zst_recv.specs.declared.batch.Batch.{Batch}
+use Rattle.zst_recv.specs.Stages.{CanPutFor, IsStage, IsBatch}
+use Rattle.zst_recv.specs.declared.batch.Batch as batches
 use Rattle.zst_recv.specs.declared.stage.Stage as coded
 use Rattle.zst_recv.specs.declared.stage.Stage.TheVariants as stages
 
@@ -47,27 +47,27 @@ module _ (bound : Option ℕ) (image : List ℕ) (space : FreeSectors) (rows : R
   has = Has image space
 
   -- the base that stands at a place of the rows
-  pub base_is : (place : ℕ) (row : Snapshot) (found : Option plain.Snapshot) → FindAlike (StandsAt rows.snapshots running.snapshots) (Some place) found → row ≡ get_or rows.snapshots place row
-      → (snapshot : plain.Snapshot) × (found ≡ Some snapshot) × SnapshotIs bound has row snapshot
+  pub base_is : (place : ℕ) (row : Snapshot) (found : Option models.Snapshot) → FindAlike (StandsAt rows.snapshots running.snapshots) (Some place) found → row ≡ get_or rows.snapshots place row
+      → (snapshot : models.Snapshot) × (found ≡ Some snapshot) × SnapshotIs bound has row snapshot
   base_is place row None alike is = absurd alike
   base_is place row (Some snapshot) alike is = (snapshot, refl, at_names (SnapshotIs bound has) rows.snapshots running.snapshots place row snapshot runs.snapshots alike is)
 
   -- its objects, or none
-  pub objects_held : (place : ℕ) (row : Snapshot) (found : Option plain.Snapshot) → FindAlike (StandsAt rows.snapshots running.snapshots) (Some place) found → row ≡ get_or rows.snapshots place row
+  pub objects_held : (place : ℕ) (row : Snapshot) (found : Option models.Snapshot) → FindAlike (StandsAt rows.snapshots running.snapshots) (Some place) found → row ≡ get_or rows.snapshots place row
       → SetIs bound has row.objects (option_map_or (λ snapshot. snapshot.objects) found untouched)
   objects_held place row found alike is =
       let base = base_is place row found alike is in
-      subst (λ (o : Option plain.Snapshot). SetIs bound has row.objects (option_map_or (λ snapshot. snapshot.objects) o untouched)) (sym base.1) base.2.objects
+      subst (λ (o : Option models.Snapshot). SetIs bound has row.objects (option_map_or (λ snapshot. snapshot.objects) o untouched)) (sym base.1) base.2.objects
 
-  pub none_held : (set : ObjSet) (found : Option plain.Snapshot) → set ≡ no_objects → FindAlike (StandsAt rows.snapshots running.snapshots) None found
+  pub none_held : (set : ObjSet) (found : Option models.Snapshot) → set ≡ no_objects → FindAlike (StandsAt rows.snapshots running.snapshots) None found
       → SetIs bound has set (option_map_or (λ snapshot. snapshot.objects) found untouched)
   none_held set found is alike =
       let none = none_alike (StandsAt rows.snapshots running.snapshots) found alike in
-      subst (λ (o : Option plain.Snapshot). SetIs bound has set (option_map_or (λ snapshot. snapshot.objects) o untouched)) (sym none)
+      subst (λ (o : Option models.Snapshot). SetIs bound has set (option_map_or (λ snapshot. snapshot.objects) o untouched)) (sym none)
       (subst (λ (s : ObjSet). SetIs bound has s untouched) (sym is) (empty_is bound image space))
 
   -- the partial state that stands at a place of the rows
-  pub partial_is : (place : ℕ) (row : Partial) (partial : plain.Partial) → StandsAt rows.partials running.partials place partial → row ≡ get_or rows.partials place row → PartialIs bound has row partial
+  pub partial_is : (place : ℕ) (row : Partial) (partial : models.Partial) → StandsAt rows.partials running.partials place partial → row ≡ get_or rows.partials place row → PartialIs bound has row partial
   partial_is place row partial at is = at_names (PartialIs bound has) rows.partials running.partials place row partial runs.partials at is
 
 -- the component of a name that is a dataset's with a component
@@ -78,20 +78,22 @@ component_is name target component parts of_target named =
 
 -- the partial state that the target has can be committed again
 pub resumes_fits : (rows : Rows) (target : List ℕ) (place : ℕ) (row : Partial) → IsLawful rows → position (λ partial. bytes_eq partial.target target) rows.partials ≡ Some place
-    → row ≡ get_or rows.partials place row → CanPut rows target row
+    → row ≡ get_or rows.partials place row → CanPutFor rows target row
 resumes_fits rows target place row lawful is at =
     let found = position-Some (λ (partial : Partial). bytes_eq partial.target target) rows.partials place row is in
     let has = there rows.partials place row found.0 at in
     record {
-      row_fits = All-contains IsPartialRow rows.partials row lawful.partials has;
       of_target = same_bytes row.target target (ap (λ (r : Partial). bytes_eq r.target target) at ∙ found.1);
-      base = All-contains (λ (partial : Partial). IfSome partial.base (HasSnapshot rows)) rows.partials row lawful.linked.bases has;
-      new = All-contains (λ (partial : Partial). HasSnapshot rows (partial.target ++ 64 ∷ partial.snapshot) → ⊥) rows.partials row lawful.linked.components has;
+      can = record {
+        row = All-contains IsPartialRow rows.partials row lawful.partials has;
+        base = All-contains (λ (partial : Partial). IfSome partial.base (HasSnapshot rows)) rows.partials row lawful.linked.bases has;
+        component = All-contains (λ (partial : Partial). HasSnapshot rows (partial.target ++ 64 ∷ partial.snapshot) → ⊥) rows.partials row lawful.linked.components has;
+      };
     }
 
 -- the plans that these plans are of
 pub resumed_is : (rows : Rows) (running : Pool) (ask : RecvAsk) (place : ℕ) (plan : RecvPlan) → IsRecvPlanOf rows running ask (plans.Resumes place) plan
-    → (partial : plain.Partial) × (plan ≡ Resumes partial) × StandsAt rows.partials running.partials place partial
+    → (partial : models.Partial) × (plan ≡ Resumes partial) × StandsAt rows.partials running.partials place partial
 resumed_is rows running ask place (Resumes partial) is = (partial, refl, is)
 resumed_is rows running ask place (Begins component base) is = absurd is
 
@@ -107,10 +109,10 @@ pub begun_is : (rows : Rows) (running : Pool) (ask : RecvAsk) (name : List ℕ) 
 begun_is rows running ask name place rolls (Resumes partial) is = absurd is
 begun_is rows running ask name place rolls (Begins component base) is = (record { component = component; base = base; plan_is = refl; named = is.0; alike = is.1 }, is.2)
 
--- what was opened stands for the work that this stage and these flags are
-pub work_is : (bound : Option ℕ) (has : Blocks) (batch : Batch) (flags : ℕ) (row : Partial) (partial : plain.Partial) (rolls : Bool) → batch.stage ≡ stages.Lives flags row → batch.rolls ≡ rolls → batch.taken ≡ true → batch.applied ≡ 0
-    → PartialIs bound has row partial → IsWork bound has batch (record { stage = Lives flags partial; rolls = rolls; taken = true; applied = 0 })
-work_is bound has batch flags row partial rolls stage is_rolls taken applied is = record {
+-- what was opened stands for the batch that this stage and these flags are
+pub batch_is : (bound : Option ℕ) (has : Blocks) (batch : batches.Batch) (flags : ℕ) (row : Partial) (partial : models.Partial) (rolls : Bool) → batch.stage ≡ stages.Lives flags row → batch.rolls ≡ rolls → batch.taken ≡ true → batch.applied ≡ 0
+    → PartialIs bound has row partial → IsBatch bound has batch (record { stage = Lives flags partial; rolls = rolls; taken = true; applied = 0 })
+batch_is bound has batch flags row partial rolls stage is_rolls taken applied is = record {
   stage = subst (λ (s : coded.Stage). IsStage bound has s (Lives flags partial)) (sym stage) (refl, is);
   rolls = is_rolls;
   taken = taken;

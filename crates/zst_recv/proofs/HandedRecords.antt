@@ -20,8 +20,8 @@ use Rattle.zst_record.specs.declared.head.Head.{Head}
 use Rattle.zst_record.specs.declared.head.Head.TheVariants as heads
 use Rattle.zst_stream.specs.Reading.{Reading, complete, reading}
 use Rattle.zst_tree.specs.Indices.{Blocks}
-use Rattle.zst_recv.specs.Faults.{stream_limit}
-use Rattle.zst_recv.specs.ReceiveSteps.{Stage, Waits, Lives, Ends, Work, Batch, batch, batch_by, began, moved_by, of_plan, opened, taken, taken_at, went_on, with_applied}
+use Rattle.zst_reader.specs.InputReads.{stream_limit}
+use Rattle.zst_recv.specs.ReceiveSteps.{Stage, Waits, Lives, Ends, Batch, EndedBatch, batch_of, batch_by, began, moved_by, of_plan, opened, taken, taken_at, went_on, with_applied}
 use Rattle.zst_recv.specs.Stages.{HasRead, IsStage, StandsBehind, TellsBefore, TellsTarget, has_partial, is_begin, is_end, is_live, waits_at}
 use Rattle.zst_recv.specs.TakenRecords.{AreTaken}
 use Rattle.zst_recv.specs.declared.stage.Stage as coded
@@ -99,8 +99,8 @@ over_reads old stage has = record { text = has.text; bytes = has.bytes; handed =
 -- ---- dates
 
 -- an answer of the definition
-abbrev made : Work → Result Work Refusal
-made work = Ok work
+abbrev made : Batch → Result Batch Refusal
+made plain = Ok plain
 
 -- a receive that waits for BEGIN has what its plan looks at
 pub waits_tell : (ask : RecvAsk) (header : Header) (rows : Rows) (pool : Pool) (bound : Option ℕ) (has : Blocks) (stage : Stage) → IsStage bound has stages.Waits stage → TellsBefore ask stage rows pool
@@ -110,11 +110,11 @@ waits_tell ask header rows pool bound has (Lives flags partial) is tells = absur
 waits_tell ask header rows pool bound has (Ends partial) is tells = absurd is
 
 -- BEGIN is refused as its plan is
-pub refused_begin : (ask : RecvAsk) (header : Header) (pool : Pool) (c : Covered) (len : ℕ) (work : Work) (fault : PlanFault) → c.head ≡ heads.Begin header len → work.stage ≡ Waits
-    → recv_plan ask header pool ≡ Err fault → taken ask pool c work ≡ Err (refusal_of fault)
-refused_begin ask header pool c len work fault head waits is =
-    subst (λ (s : Stage). taken_at ask pool c work s ≡ Err (refusal_of fault)) (sym waits)
-    (subst (λ (h : Head). began ask pool work h ≡ Err (refusal_of fault)) (sym head) (ap (λ (p : Result RecvPlan PlanFault). of_plan p >>= λ plan. Ok (opened ask header plan)) is))
+pub refused_begin : (ask : RecvAsk) (header : Header) (pool : Pool) (c : Covered) (len : ℕ) (plain : Batch) (fault : PlanFault) → c.head ≡ heads.Begin header len → plain.stage ≡ Waits
+    → recv_plan ask header pool ≡ Err fault → taken ask pool c plain ≡ Err (refusal_of fault)
+refused_begin ask header pool c len plain fault head waits is =
+    subst (λ (s : Stage). taken_at ask pool c plain s ≡ Err (refusal_of fault)) (sym waits)
+    (subst (λ (h : Head). began ask pool plain h ≡ Err (refusal_of fault)) (sym head) (ap (λ (p : Result RecvPlan PlanFault). of_plan p >>= λ plan. Ok (opened ask header plan)) is))
 
 module _ (rows : Rows) (pool : Pool) where
   -- where the sets tell what a plan may look at they tell what is needed
@@ -123,18 +123,18 @@ module _ (rows : Rows) (pool : Pool) where
   tells_all ask (Lives flags partial) tells = tt
   tells_all ask (Ends partial) tells = tt
 
-  module _ (ask : RecvAsk) (c : Covered) (work after : Work) where
-    still : TellsBefore ask work.stage rows pool → made work ≡ made after → TellsBefore ask after.stage rows pool
-    still tells is = let same : work ≡ after = cc in subst (λ (w : Work). TellsBefore ask w.stage rows pool) same tells
+  module _ (ask : RecvAsk) (c : Covered) (plain after : Batch) where
+    still : TellsBefore ask plain.stage rows pool → made plain ≡ made after → TellsBefore ask after.stage rows pool
+    still tells is = let same : plain ≡ after = cc in subst (λ (w : Batch). TellsBefore ask w.stage rows pool) same tells
 
-    moved_tells : (flags : ℕ) (moved : Result Partial Refusal) → (moved >>= λ next. Ok (with_applied flags next work)) ≡ Ok after → TellsBefore ask after.stage rows pool
+    moved_tells : (flags : ℕ) (moved : Result Partial Refusal) → (moved >>= λ next. Ok (with_applied flags next plain)) ≡ Ok after → TellsBefore ask after.stage rows pool
     moved_tells flags (Err refusal) is = absurd cc
-    moved_tells flags (Ok next) is = let same : with_applied flags next work ≡ after = cc in subst (λ (w : Work). TellsBefore ask w.stage rows pool) same tt
+    moved_tells flags (Ok next) is = let same : with_applied flags next plain ≡ after = cc in subst (λ (w : Batch). TellsBefore ask w.stage rows pool) same tt
 
-    ended_tells : (partial : Partial) → made (record work { stage = Ends partial; taken = true }) ≡ made after → TellsBefore ask after.stage rows pool
-    ended_tells partial is = let same : record work { stage = Ends partial; taken = true } ≡ after = cc in subst (λ (w : Work). TellsBefore ask w.stage rows pool) same tt
+    ended_tells : (partial : Partial) → made (record plain { stage = Ends partial; taken = true }) ≡ made after → TellsBefore ask after.stage rows pool
+    ended_tells partial is = let same : record plain { stage = Ends partial; taken = true } ≡ after = cc in subst (λ (w : Batch). TellsBefore ask w.stage rows pool) same tt
 
-    went_tells : (flags : ℕ) (partial : Partial) (head : Head) → TellsBefore ask work.stage rows pool → went_on (pool.number + 1) c flags partial work head ≡ Ok after → TellsBefore ask after.stage rows pool
+    went_tells : (flags : ℕ) (partial : Partial) (head : Head) → TellsBefore ask plain.stage rows pool → went_on (pool.number + 1) c flags partial plain head ≡ Ok after → TellsBefore ask after.stage rows pool
     went_tells flags partial (heads.Begin header len) tells is = still tells is
     went_tells flags partial (heads.Object object kind bonus_kind block_size bonus_len max_block to) tells is = moved_tells flags (moved_by (pool.number + 1) c flags partial) is
     went_tells flags partial (heads.FreeObjects first count to) tells is = moved_tells flags (moved_by (pool.number + 1) c flags partial) is
@@ -144,19 +144,19 @@ module _ (rows : Rows) (pool : Pool) where
     went_tells flags partial (heads.Spill object size to) tells is = moved_tells flags (moved_by (pool.number + 1) c flags partial) is
     went_tells flags partial (heads.Redact object offset size to) tells is = moved_tells flags (moved_by (pool.number + 1) c flags partial) is
 
-    taken_tells : (stage : Stage) → TellsBefore ask stage rows pool → TellsBefore ask work.stage rows pool → taken_at ask pool c work stage ≡ Ok after → TellsBefore ask after.stage rows pool
+    taken_tells : (stage : Stage) → TellsBefore ask stage rows pool → TellsBefore ask plain.stage rows pool → taken_at ask pool c plain stage ≡ Ok after → TellsBefore ask after.stage rows pool
     taken_tells Waits dates tells is = tells_all ask after.stage dates
     taken_tells (Lives flags partial) dates tells is = went_tells flags partial c.head tells is
     taken_tells (Ends partial) dates tells is = still tells is
 
-  by_tells : (ask : RecvAsk) (c : Covered) (rest : List Covered) (work after : Work) → TellsBefore ask work.stage rows pool
-      → ((next : Work) → TellsBefore ask next.stage rows pool → AreTaken ask pool rest next after → TellsBefore ask after.stage rows pool)
-      → (r : Result Work Refusal) → taken ask pool c work ≡ r → batch_by r work (batch ask pool rest) ≡ record { work = after; fault = None } → TellsBefore ask after.stage rows pool
-  by_tells ask c rest work after tells later (Err refusal) gave is = let e : Some refusal ≡ None = ap (λ (b : Batch). b.fault) is in absurd (cc e)
-  by_tells ask c rest work after tells later (Ok next) gave is = later next (taken_tells ask c work next work.stage tells tells gave) is
+  by_tells : (ask : RecvAsk) (c : Covered) (rest : List Covered) (plain after : Batch) → TellsBefore ask plain.stage rows pool
+      → ((next : Batch) → TellsBefore ask next.stage rows pool → AreTaken ask pool rest next after → TellsBefore ask after.stage rows pool)
+      → (r : Result Batch Refusal) → taken ask pool c plain ≡ r → batch_by r plain (batch_of ask pool rest) ≡ record { batch = after; fault = None } → TellsBefore ask after.stage rows pool
+  by_tells ask c rest plain after tells later (Err refusal) gave is = let e : Some refusal ≡ None = ap (λ (b : EndedBatch). b.fault) is in absurd (cc e)
+  by_tells ask c rest plain after tells later (Ok next) gave is = later next (taken_tells ask c plain next plain.stage tells tells gave) is
 
   -- what was taken looks at no more dates
-  pub tells_on : (ask : RecvAsk) (records : List Covered) (work after : Work) → AreTaken ask pool records work after → TellsBefore ask work.stage rows pool → TellsBefore ask after.stage rows pool
-  unfolding batch
-  tells_on ask [] work after is tells = subst (λ (b : Batch). TellsBefore ask b.work.stage rows pool) is tells
-  tells_on ask (c ∷ rest) work after is tells = by_tells ask c rest work after tells (λ next t are. tells_on ask rest next after are t) (taken ask pool c work) refl is
+  pub tells_on : (ask : RecvAsk) (records : List Covered) (plain after : Batch) → AreTaken ask pool records plain after → TellsBefore ask plain.stage rows pool → TellsBefore ask after.stage rows pool
+  unfolding batch_of
+  tells_on ask [] plain after is tells = subst (λ (b : EndedBatch). TellsBefore ask b.batch.stage rows pool) is tells
+  tells_on ask (c ∷ rest) plain after is tells = by_tells ask c rest plain after tells (λ next t are. tells_on ask rest next after are t) (taken ask pool c plain) refl is

@@ -10,11 +10,13 @@ mod RecordOrder
 mod HandedRecords
 mod CoveredEnds
 mod BatchStages
+mod BatchMoves
 mod ByteLimits
 mod FeedAnswers
 pub mod CommitLemmas
 mod PieceStages
 mod FeedEnds
+mod FedPools
 mod DamageLemmas
 mod CostLemmas
 mod TokenRows

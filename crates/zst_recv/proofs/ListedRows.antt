@@ -13,10 +13,12 @@ use Rattle.zst_recv.specs.declared.stage.Stage.TheVariants as stages
 
 pub row_fits : FittingRow
 row_fits rows target row lawful found = record {
-  row_fits = found_fits target rows row lawful (sym found);
   of_target = same_bytes row.target target (found_passes (is_for target) rows.partials row found);
-  base = found_is (λ (r : Row). IfSome r.base (HasSnapshot rows)) (is_for target) rows.partials row lawful.linked.bases (sym found);
-  new = found_is (λ (r : Row). HasSnapshot rows (r.target ++ 64 ∷ r.snapshot) → ⊥) (is_for target) rows.partials row lawful.linked.components (sym found);
+  can = record {
+    row = found_fits target rows row lawful (sym found);
+    base = found_is (λ (r : Row). IfSome r.base (HasSnapshot rows)) (is_for target) rows.partials row lawful.linked.bases (sym found);
+    component = found_is (λ (r : Row). HasSnapshot rows (r.target ++ 64 ∷ r.snapshot) → ⊥) (is_for target) rows.partials row lawful.linked.components (sym found);
+  };
 }
 
 lives_on : (rows : Rows) (target : List ℕ) (stage : coded.Stage) → IsLawful rows → IsRow rows target stage → LivesOn rows target stage

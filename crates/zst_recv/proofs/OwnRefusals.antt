@@ -24,7 +24,7 @@ use Rattle.zst_record.specs.declared.head.Head.TheVariants as heads
 use Rattle.zst_stream.specs.Items.{items_by}
 use Rattle.zst_stream.specs.Reading.{Outcome, waiting, faulty, complete, reading}
 use Rattle.zst_recv.specs.Feeds.{fault_of, new_records}
-use Rattle.zst_recv.specs.ReceiveSteps.{Stage, Waits, Lives, Ends, Work, Batch, batch, batch_by, began, first_fault, moved_by, of_plan, opened, taken, taken_at, went_on, with_applied}
+use Rattle.zst_recv.specs.ReceiveSteps.{Stage, Waits, Lives, Ends, Batch, EndedBatch, batch_of, batch_by, began, first_fault, moved_by, of_plan, opened, taken, taken_at, went_on, with_applied}
 use Rattle.zst_recv.specs.TakenRecords.{fault_in}
 
 -- a refusal of the definition's own
@@ -85,8 +85,8 @@ own_moved number c flags partial =
     (λ objects. Ok (record partial { objects = objects; point = point_of partial.point (items_by flags c.payload c.head) }))
     (own_all number c.index (items_by flags c.payload c.head) partial.objects) (λ objects. tt)
 
-module _ (ask : RecvAsk) (pool : Pool) (c : Covered) (work : Work) where
-  own_began : (head : Head) → IfErr (began ask pool work head) IsOwn
+module _ (ask : RecvAsk) (pool : Pool) (c : Covered) (plain : Batch) where
+  own_began : (head : Head) → IfErr (began ask pool plain head) IsOwn
   own_began (heads.Begin header len) = own_then (of_plan (recv_plan ask header pool)) (λ plan. Ok (opened ask header plan)) (own_of_plan (recv_plan ask header pool)) (λ plan. tt)
   own_began (heads.Object object kind bonus_kind block_size bonus_len max_block to) = tt
   own_began (heads.FreeObjects first count to) = tt
@@ -97,10 +97,10 @@ module _ (ask : RecvAsk) (pool : Pool) (c : Covered) (work : Work) where
   own_began (heads.Redact object offset size to) = tt
 
   module _ (number flags : ℕ) (partial : Partial) where
-    own_applied : IfErr (moved_by number c flags partial >>= λ moved. Ok (with_applied flags moved work)) IsOwn
-    own_applied = own_then (moved_by number c flags partial) (λ moved. Ok (with_applied flags moved work)) (own_moved number c flags partial) (λ moved. tt)
+    own_applied : IfErr (moved_by number c flags partial >>= λ moved. Ok (with_applied flags moved plain)) IsOwn
+    own_applied = own_then (moved_by number c flags partial) (λ moved. Ok (with_applied flags moved plain)) (own_moved number c flags partial) (λ moved. tt)
 
-    own_went : (head : Head) → IfErr (went_on number c flags partial work head) IsOwn
+    own_went : (head : Head) → IfErr (went_on number c flags partial plain head) IsOwn
     own_went (heads.Begin header len) = tt
     own_went (heads.Object object kind bonus_kind block_size bonus_len max_block to) = own_applied
     own_went (heads.FreeObjects first count to) = own_applied
@@ -110,21 +110,21 @@ module _ (ask : RecvAsk) (pool : Pool) (c : Covered) (work : Work) where
     own_went (heads.Spill object size to) = own_applied
     own_went (heads.Redact object offset size to) = own_applied
 
-  own_taken : (stage : Stage) → IfErr (taken_at ask pool c work stage) IsOwn
+  own_taken : (stage : Stage) → IfErr (taken_at ask pool c plain stage) IsOwn
   own_taken Waits = own_began c.head
   own_taken (Lives flags partial) = own_went (pool.number + 1) flags partial c.head
   own_taken (Ends partial) = tt
 
 -- ---- batches and pieces
 
-own_by : (r : Result Work Refusal) (work : Work) (next : Work → Batch) → IfErr r IsOwn → ((after : Work) → IfSome (next after).fault IsOwn) → IfSome (batch_by r work next).fault IsOwn
-own_by (Ok after) work next is later = later after
-own_by (Err refusal) work next is later = is
+own_by : (r : Result Batch Refusal) (plain : Batch) (next : Batch → EndedBatch) → IfErr r IsOwn → ((after : Batch) → IfSome (next after).fault IsOwn) → IfSome (batch_by r plain next).fault IsOwn
+own_by (Ok after) plain next is later = later after
+own_by (Err refusal) plain next is later = is
 
-own_batch : (ask : RecvAsk) (pool : Pool) (records : List Covered) (work : Work) → IfSome (batch ask pool records work).fault IsOwn
-unfolding batch
-own_batch ask pool [] work = tt
-own_batch ask pool (c ∷ rest) work = own_by (taken ask pool c work) work (batch ask pool rest) (own_taken ask pool c work work.stage) (own_batch ask pool rest)
+own_batch : (ask : RecvAsk) (pool : Pool) (records : List Covered) (plain : Batch) → IfSome (batch_of ask pool records plain).fault IsOwn
+unfolding batch_of
+own_batch ask pool [] plain = tt
+own_batch ask pool (c ∷ rest) plain = own_by (taken ask pool c plain) plain (batch_of ask pool rest) (own_taken ask pool c plain plain.stage) (own_batch ask pool rest)
 
 own_outcome : (outcome : Outcome) → IfSome (fault_of outcome) IsOwn
 own_outcome waiting = tt
@@ -136,7 +136,7 @@ own_first None other is later = later
 own_first (Some refusal) other is later = is
 
 -- the first fault of a piece is the definition's own
-pub own_fault : (ask : RecvAsk) (pool : Pool) (text piece : List ℕ) (work : Work) (refusal : Refusal) → fault_in ask pool text piece work ≡ Some refusal → IsOwn refusal
-own_fault ask pool text piece work refusal is =
+pub own_fault : (ask : RecvAsk) (pool : Pool) (text piece : List ℕ) (plain : Batch) (refusal : Refusal) → fault_in ask pool text piece plain ≡ Some refusal → IsOwn refusal
+own_fault ask pool text piece plain refusal is =
     subst (λ (o : Option Refusal). IfSome o IsOwn) is
-    (own_first (batch ask pool (new_records text piece) work).fault (fault_of (reading (text ++ piece)).outcome) (own_batch ask pool (new_records text piece) work) (own_outcome (reading (text ++ piece)).outcome))
+    (own_first (batch_of ask pool (new_records text piece) plain).fault (fault_of (reading (text ++ piece)).outcome) (own_batch ask pool (new_records text piece) plain) (own_outcome (reading (text ++ piece)).outcome))

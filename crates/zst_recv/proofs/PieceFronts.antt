@@ -18,7 +18,7 @@ use Rattle.zst_record.specs.Laws.{AreBytes}
 use Rattle.zst_stream.specs.Reading.{FrontOf, Outcome, Reading, waiting, faulty, complete, reading}
 use Rattle.zst_stream.proofs.Growth.{front}
 use Rattle.zst_recv.specs.Feeds.{fault_of, new_records}
-use Rattle.zst_recv.specs.ReceiveSteps.{Work, Batch, batch, batch_by, first_fault, taken}
+use Rattle.zst_recv.specs.ReceiveSteps.{Batch, EndedBatch, batch_of, batch_by, first_fault, taken}
 use Rattle.zst_recv.specs.TakenRecords.{AreTaken, Drains, Reads, Refused, TakeFault, TakesAll, fault_in, taken_of}
 use Rattle.zst_recv.specs.declared.fault.RecvFault.{RecvFault}
 use Rattle.zst_recv.specs.declared.fault.RecvFault.TheVariants as faults
@@ -91,19 +91,19 @@ same_reading short long handed outcome f is ended =
     by (inr same) covered told = (f.covered ∙ ap (λ (cs : List Covered). short.covered ++ cs) same.1 ∙ append-nil short.covered ∙ covered, sym same.0 ∙ told)
 
 -- Of this front of a piece all that it covers was taken, and more is wanted.
-pub record FrontIsTaken (ask : RecvAsk) (pool : Pool) (reader : Reader) (text front : List ℕ) (handed : List Covered) (Is : Work → Type 0) (work : Work) : Type 0 where
+pub record FrontIsTaken (ask : RecvAsk) (pool : Pool) (reader : Reader) (text front : List ℕ) (handed : List Covered) (Is : Batch → Type 0) (plain : Batch) : Type 0 where
   pub records : List Covered
-  pub after : Work
+  pub after : Batch
   pub reads : HandsOut reader (text ++ front) (handed ++ records) waiting
-  pub were_taken : AreTaken ask pool records work after
+  pub were_taken : AreTaken ask pool records plain after
   pub is : Is after
 
-module _ (ask : RecvAsk) (pool : Pool) (text : List ℕ) (handed : List Covered) (work : Work) where
-  pub piece_begins : (reader : Reader) (Is : Work → Type 0) → HandsOut reader text handed waiting → Is work → FrontIsTaken ask pool reader text [] handed Is work
-  unfolding batch
+module _ (ask : RecvAsk) (pool : Pool) (text : List ℕ) (handed : List Covered) (plain : Batch) where
+  pub piece_begins : (reader : Reader) (Is : Batch → Type 0) → HandsOut reader text handed waiting → Is plain → FrontIsTaken ask pool reader text [] handed Is plain
+  unfolding batch_of
   piece_begins reader Is hands is = record {
     records = [];
-    after = work;
+    after = plain;
     reads = rw (append-nil text, append-nil handed) hands;
     were_taken = refl;
     is = is;
@@ -118,26 +118,26 @@ module _ (ask : RecvAsk) (pool : Pool) (text : List ℕ) (handed : List Covered)
         ap (λ (n : ℕ). drop n whole.covered) (ap (λ (r : Reading). length r.covered) before) ∙ ap (drop (length handed)) is ∙ drop_at handed records (length handed) refl
 
     -- these records were taken, and the whole piece covers no others
-    all_made : (records : List Covered) (after : Work) → whole.covered ≡ handed ++ records → AreTaken ask pool records work after
-        → taken_of ask pool text piece work ≡ record { work = after; fault = None }
-    all_made records after is are = ap (λ (cs : List Covered). batch ask pool cs work) (new_are records is) ∙ are
+    all_made : (records : List Covered) (after : Batch) → whole.covered ≡ handed ++ records → AreTaken ask pool records plain after
+        → taken_of ask pool text piece plain ≡ record { batch = after; fault = None }
+    all_made records after is are = ap (λ (cs : List Covered). batch_of ask pool cs plain) (new_are records is) ∙ are
 
-    first_is : (made : Batch) (outcome : Outcome) → taken_of ask pool text piece work ≡ made → whole.outcome ≡ outcome → fault_in ask pool text piece work ≡ first_fault made.fault (fault_of outcome)
-    first_is made outcome is ended = ap (λ (b : Batch). first_fault b.fault (fault_of whole.outcome)) is ∙ ap (λ (o : Outcome). first_fault made.fault (fault_of o)) ended
+    first_is : (made : EndedBatch) (outcome : Outcome) → taken_of ask pool text piece plain ≡ made → whole.outcome ≡ outcome → fault_in ask pool text piece plain ≡ first_fault made.fault (fault_of outcome)
+    first_is made outcome is ended = ap (λ (b : EndedBatch). first_fault b.fault (fault_of whole.outcome)) is ∙ ap (λ (o : Outcome). first_fault made.fault (fault_of o)) ended
 
-    is_made : (Is : Work → Type 0) (made : Batch) → taken_of ask pool text piece work ≡ made → Is made.work → Is (taken_of ask pool text piece work).work
-    is_made Is made same is = subst Is (sym (ap (λ (b : Batch). b.work) same)) is
+    is_made : (Is : Batch → Type 0) (made : EndedBatch) → taken_of ask pool text piece plain ≡ made → Is made.batch → Is (taken_of ask pool text piece plain).batch
+    is_made Is made same is = subst Is (sym (ap (λ (b : EndedBatch). b.batch) same)) is
 
-    module _ (reader : Reader) (records : List Covered) (after : Work) (Is : Work → Type 0) (are : AreTaken ask pool records work after) (is : Is after) where
+    module _ (reader : Reader) (records : List Covered) (after : Batch) (Is : Batch → Type 0) (are : AreTaken ask pool records plain after) (is : Is after) where
       -- the whole piece was read, and more is wanted
-      pub takes_waiting : HandsOut reader (text ++ piece) (handed ++ records) waiting → TakesAll ask pool reader text piece Is work
+      pub takes_waiting : HandsOut reader (text ++ piece) (handed ++ records) waiting → TakesAll ask pool reader text piece Is plain
       takes_waiting hands =
           let covered : whole.covered ≡ handed ++ records = ap (λ (r : Reading). r.covered) hands.whole in
           let ended : whole.outcome ≡ waiting = ap (λ (r : Reading). r.outcome) hands.whole in
           let made = all_made records after covered are in
           record {
-            whole = first_is (record { work = after; fault = None }) waiting made ended;
-            is = is_made Is (record { work = after; fault = None }) made is;
+            whole = first_is (record { batch = after; fault = None }) waiting made ended;
+            is = is_made Is (record { batch = after; fault = None }) made is;
             waits = λ _. (handed ++ records, hands);
             ends = λ other. let e : waiting ≡ complete = sym ended ∙ other in absurd (cc e);
           }
@@ -147,76 +147,76 @@ module _ (ask : RecvAsk) (pool : Pool) (text : List ℕ) (handed : List Covered)
         front_is = subst (λ (t : List ℕ). FrontOf (reading read) (reading t)) (sym whole_is) (front read rest)
 
         -- END was covered
-        pub takes_complete : HandsOut reader read (handed ++ records) complete → TakesAll ask pool reader text piece Is work
+        pub takes_complete : HandsOut reader read (handed ++ records) complete → TakesAll ask pool reader text piece Is plain
         takes_complete hands =
             let same = same_reading (reading read) whole (handed ++ records) complete front_is hands.whole (λ e. absurd (cc e)) in
             let made = all_made records after same.0 are in
             record {
-              whole = first_is (record { work = after; fault = None }) complete made same.1;
-              is = is_made Is (record { work = after; fault = None }) made is;
+              whole = first_is (record { batch = after; fault = None }) complete made same.1;
+              is = is_made Is (record { batch = after; fault = None }) made is;
               waits = λ other. let e : complete ≡ waiting = sym same.1 ∙ other in absurd (cc e);
               ends = λ _. (read, subst (λ (cs : List Covered). HandsOut reader read cs complete) (sym same.0) hands);
             }
 
         -- a check of the stream failed
-        pub refused_stream : (fault : StreamFault) → HandsOut reader read (handed ++ records) (faulty fault) → Reads ask pool reader text piece Is work (Err (faults.Stream fault))
+        pub refused_stream : (fault : StreamFault) → HandsOut reader read (handed ++ records) (faulty fault) → Reads ask pool reader text piece Is plain (Err (faults.Stream fault))
         refused_stream fault hands =
             let same = same_reading (reading read) whole (handed ++ records) (faulty fault) front_is hands.whole (λ e. absurd (cc e)) in
             let made = all_made records after same.0 are in
-            (first_is (record { work = after; fault = None }) (faulty fault) made same.1, λ _. is_made Is (record { work = after; fault = None }) made is)
+            (first_is (record { batch = after; fault = None }) (faulty fault) made same.1, λ _. is_made Is (record { batch = after; fault = None }) made is)
 
         module _ (next : Covered) (stands : StandsFor reader read (handed ++ (records ++ next ∷ []))) where
           -- the next record is the definition's too
-          comes_next : (others : List Covered) × (taken_of ask pool text piece work ≡ batch_by (taken ask pool next after) after (batch ask pool others))
-          unfolding batch
+          comes_next : (others : List Covered) × (taken_of ask pool text piece plain ≡ batch_by (taken ask pool next after) after (batch_of ask pool others))
+          unfolding batch_of
           comes_next =
               let f = stands.front rest in
               let covered : whole.covered ≡ handed ++ (records ++ next ∷ f.0) =
               ap (λ (t : List ℕ). (reading t).covered) whole_is ∙ f.1 ∙ append_assoc handed (records ++ next ∷ []) f.0 ∙ ap (λ (cs : List Covered). handed ++ cs) (append_assoc records (next ∷ []) f.0) in
-              (f.0, ap (λ (cs : List Covered). batch ask pool cs work) (new_are (records ++ next ∷ f.0) covered) ∙ batch_then ask pool (next ∷ f.0) records work after are)
+              (f.0, ap (λ (cs : List Covered). batch_of ask pool cs plain) (new_are (records ++ next ∷ f.0) covered) ∙ batch_then ask pool (next ∷ f.0) records plain after are)
 
-          made_refused : (refusal : Refusal) → taken ask pool next after ≡ Err refusal → taken_of ask pool text piece work ≡ record { work = after; fault = Some refusal }
-          made_refused refusal refused = let n = comes_next in n.1 ∙ ap (λ (r : Result Work Refusal). batch_by r after (batch ask pool n.0)) refused
+          made_refused : (refusal : Refusal) → taken ask pool next after ≡ Err refusal → taken_of ask pool text piece plain ≡ record { batch = after; fault = Some refusal }
+          made_refused refusal refused = let n = comes_next in n.1 ∙ ap (λ (r : Result Batch Refusal). batch_by r after (batch_of ask pool n.0)) refused
 
           told : (refusal : Refusal) → taken ask pool next after ≡ Err refusal
-              → (fault_in ask pool text piece work ≡ Some refusal) × (fault_in ask pool text piece work ≡ Some refusal → Is (taken_of ask pool text piece work).work)
+              → (fault_in ask pool text piece plain ≡ Some refusal) × (fault_in ask pool text piece plain ≡ Some refusal → Is (taken_of ask pool text piece plain).batch)
           told refusal refused =
               let made = made_refused refusal refused in
-              (first_is (record { work = after; fault = Some refusal }) whole.outcome made refl, λ _. is_made Is (record { work = after; fault = Some refusal }) made is)
+              (first_is (record { batch = after; fault = Some refusal }) whole.outcome made refl, λ _. is_made Is (record { batch = after; fault = Some refusal }) made is)
 
           -- it is refused
-          pub refused_record : (fault : RecvFault) → TakeFault (taken ask pool next after) fault → Reads ask pool reader text piece Is work (Err fault)
+          pub refused_record : (fault : RecvFault) → TakeFault (taken ask pool next after) fault → Reads ask pool reader text piece Is plain (Err fault)
           refused_record (faults.Pool (pools.Plan fault)) refused = told (refusal_of fault) refused
           refused_record (faults.Pool (pools.CannotApply fault)) refused = absurd refused
           refused_record (faults.Pool (pools.Redacted object block)) refused = absurd refused
-          refused_record (faults.Pool (pools.Full need largest)) refused = (tt, λ e. absurd (own_fault ask pool text piece work (refusals.Full need largest) e))
+          refused_record (faults.Pool (pools.Full need largest)) refused = (tt, λ e. absurd (own_fault ask pool text piece plain (refusals.Full need largest) e))
           refused_record (faults.Pool (pools.Damaged sector stated found)) refused = absurd refused
-          refused_record (faults.Pool pools.DiskFault) refused = (tt, λ e. absurd (own_fault ask pool text piece work refusals.DiskFault e))
+          refused_record (faults.Pool pools.DiskFault) refused = (tt, λ e. absurd (own_fault ask pool text piece plain refusals.DiskFault e))
           refused_record (faults.Pool pools.Failed) refused = absurd refused
           refused_record (faults.Pool pools.OutOfMemory) refused = absurd refused
           refused_record (faults.Stream fault) refused = absurd refused
           refused_record (faults.CannotApply index fault) refused = told (refusals.CannotApply index fault) refused
 
     -- the whole piece was read
-    pub piece_waits : (reader : Reader) (front : List ℕ) (Is : Work → Type 0) → piece ≡ front → FrontIsTaken ask pool reader text front handed Is work → Reads ask pool reader text piece Is work (Ok tt)
+    pub piece_waits : (reader : Reader) (front : List ℕ) (Is : Batch → Type 0) → piece ≡ front → FrontIsTaken ask pool reader text front handed Is plain → Reads ask pool reader text piece Is plain (Ok tt)
     piece_waits reader front Is is m =
         takes_waiting reader m.records m.after Is m.were_taken m.is (subst (λ (t : List ℕ). HandsOut reader (text ++ t) (handed ++ m.records) waiting) (sym is) m.reads)
 
-    module _ (old new : Reader) (front got rest : List ℕ) (Was Is : Work → Type 0) (piece_is : piece ≡ (front ++ got) ++ rest) (m : FrontIsTaken ask pool old text front handed Was work) where
+    module _ (old new : Reader) (front got rest : List ℕ) (Was Is : Batch → Type 0) (piece_is : piece ≡ (front ++ got) ++ rest) (m : FrontIsTaken ask pool old text front handed Was plain) where
       abbrev read : List ℕ
       read = (text ++ front) ++ got
 
       whole_is : text ++ piece ≡ read ++ rest
       whole_is = whole_read text piece front got rest piece_is
 
-      are_all : (records : List Covered) (after : Work) → AreTaken ask pool records m.after after → AreTaken ask pool (m.records ++ records) work after
-      are_all records after are = batch_then ask pool records m.records work m.after m.were_taken ∙ are
+      are_all : (records : List Covered) (after : Batch) → AreTaken ask pool records m.after after → AreTaken ask pool (m.records ++ records) plain after
+      are_all records after are = batch_then ask pool records m.records plain m.after m.were_taken ∙ are
 
       hands_all : (records : List Covered) (outcome : Outcome) → HandsOut new read ((handed ++ m.records) ++ records) outcome → HandsOut new read (handed ++ (m.records ++ records)) outcome
       hands_all records outcome hands = subst (λ (cs : List Covered). HandsOut new read cs outcome) (append_assoc handed m.records records) hands
 
       -- more of it is to be read
-      pub piece_goes_on : (ended : Bool) → ended ≡ false → Drains ask pool new read (handed ++ m.records) Is m.after (Ok ended) → FrontIsTaken ask pool new text (front ++ got) handed Is work
+      pub piece_goes_on : (ended : Bool) → ended ≡ false → Drains ask pool new read (handed ++ m.records) Is m.after (Ok ended) → FrontIsTaken ask pool new text (front ++ got) handed Is plain
       piece_goes_on true none d = absurd (cc none)
       piece_goes_on false none d = record {
         records = m.records ++ d.1.records;
@@ -227,19 +227,19 @@ module _ (ask : RecvAsk) (pool : Pool) (text : List ℕ) (handed : List Covered)
       }
 
       -- END was covered
-      pub piece_ends : (ended : Bool) → ended ≡ true → Drains ask pool new read (handed ++ m.records) Is m.after (Ok ended) → Reads ask pool new text piece Is work (Ok tt)
+      pub piece_ends : (ended : Bool) → ended ≡ true → Drains ask pool new read (handed ++ m.records) Is m.after (Ok ended) → Reads ask pool new text piece Is plain (Ok tt)
       piece_ends false all d = absurd (cc all)
       piece_ends true all d =
           takes_complete new (m.records ++ d.1.records) d.0 Is (are_all d.1.records d.0 d.1.were_taken) d.2 read rest whole_is (hands_all d.1.records complete d.1.reads)
 
-      by_record : (fault : RecvFault) (after : Work) → Refused ask pool new read (handed ++ m.records) m.after after fault → Is after → Reads ask pool new text piece Is work (Err fault)
+      by_record : (fault : RecvFault) (after : Batch) → Refused ask pool new read (handed ++ m.records) m.after after fault → Is after → Reads ask pool new text piece Is plain (Err fault)
       by_record fault after r is =
           refused_record new (m.records ++ r.records) after Is (are_all r.records after r.were_taken) is read rest whole_is r.next
           (subst (StandsFor new read) (append_assoc handed m.records (r.records ++ r.next ∷ []) ∙ ap (λ (cs : List Covered). handed ++ cs) (sym (append_assoc m.records r.records (r.next ∷ [])))) r.reads)
           fault r.refused
 
       -- a check or a record was refused
-      pub piece_refused : (fault : RecvFault) → Drains ask pool new read (handed ++ m.records) Is m.after (Err fault) → Reads ask pool new text piece Is work (Err fault)
+      pub piece_refused : (fault : RecvFault) → Drains ask pool new read (handed ++ m.records) Is m.after (Err fault) → Reads ask pool new text piece Is plain (Err fault)
       piece_refused (faults.Stream fault) d =
           refused_stream new (m.records ++ d.1.records) d.0 Is (are_all d.1.records d.0 d.1.were_taken) d.2 read rest whole_is fault (hands_all d.1.records (faulty fault) d.1.reads)
       piece_refused (faults.Pool fault) d = by_record (faults.Pool fault) d.0 d.1 d.2

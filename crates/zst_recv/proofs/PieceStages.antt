@@ -118,13 +118,13 @@ module _ (ask : RecvAsk) (running : Pool) (text piece : List ℕ) (stage : Stage
 
   -- behind a piece of which all was taken
   pub begun_then : is_done stage ≡ false → WaitsAtBegin handed stage → fault_in ask running text piece (at_stage stage) ≡ None
-      → IsBegun covered_then outcome_then (taken_of ask running text piece (at_stage stage)).work.stage
+      → IsBegun covered_then outcome_then (taken_of ask running text piece (at_stage stage)).batch.stage
   begun_then live waits whole = by_stage stage live waits (let parts = none_first (taken_of ask running text piece (at_stage stage)).fault _ whole in parts.0)
     where
-      by_stage : (s : Stage) → is_done s ≡ false → WaitsAtBegin handed s → (taken_of ask running text piece (at_stage s)).fault ≡ None → IsBegun covered_then outcome_then (taken_of ask running text piece (at_stage s)).work.stage
+      by_stage : (s : Stage) → is_done s ≡ false → WaitsAtBegin handed s → (taken_of ask running text piece (at_stage s)).fault ≡ None → IsBegun covered_then outcome_then (taken_of ask running text piece (at_stage s)).batch.stage
       by_stage Waits live none whole =
           let same : covered_then ≡ new_records text piece = front.1 ∙ ap (λ (l : List Covered). l ++ front.0) none ∙ sym new_is in
-          subst (λ (l : List Covered). IsBegun l outcome_then (taken_of ask running text piece (at_stage Waits)).work.stage) (sym same)
+          subst (λ (l : List Covered). IsBegun l outcome_then (taken_of ask running text piece (at_stage Waits)).batch.stage) (sym same)
           (begins ask running (new_records text piece) outcome_then false false 0 (subst FirstBegins same (begins_first (text ++ piece))) ends_new whole)
       by_stage (Lives flags partial) live none whole =
           begun_behind covered_then outcome_then _ (lives ask running (new_records text piece) outcome_then flags partial false false 0 ends_new whole)

@@ -1,4 +1,4 @@
--- What a record makes of a partial state that is under way, and of the work of a feed.
+-- What a record makes of a partial state that is under way, and of the batch of a feed.
 use Rattle.std.proofs.Common.{◌≡◌, ◌⊎◌, inl, inr, ℕ, ◌+◌, ◌-◌, ◌*◌, ◌^◌, ◌<◌, ◌≤◌, ◌==◌, ◌||◌, Bool, true, false, not, nat_lt, if◌then◌else◌, min, List, [], ◌∷◌, length, Option, Some, None, Result, Ok, Err, refl, sym, ap, ◌∙◌, subst, arith}
 use Rattle.std.proofs.lemmas.Bool.{eqb-true, ltb-false, ltb-true}
 use Rattle.zst_outside.specs.Images.{DiskState}
@@ -16,7 +16,7 @@ use Rattle.zst_model.specs.declared.states.item.Change.TheVariants.{Write}
 use Rattle.zst_model.specs.declared.states.item.Item.TheVariants.{At}
 use Rattle.zst_model.specs.pools.Limits.{last_number}
 use Rattle.zst_model.specs.pools.Pool.{Pool}
-use Rattle.zst_model.specs.pools.Pool as plain
+use Rattle.zst_model.specs.pools.Pool as models
 use Rattle.zst_model.specs.sends.Points.{point_of}
 use Rattle.zst_model.specs.pools.Soundness.{DatedUpTo}
 use Rattle.zst_model.specs.declared.states.item.Item.{Item}
@@ -50,10 +50,10 @@ use Rattle.zst_pool.specs.Calls.{IsUnderWay}
 use Rattle.zst_pool.proofs.Bounds.{RunsBy-later}
 use Rattle.zst_pool.specs.declared.fault.PoolFault.TheVariants as pools
 use Rattle.zst_recv.specs.Faults.{IsRecordFault, of_record}
-use Rattle.zst_recv.specs.ReceiveSteps.{Ends, Lives, Stage, Waits, Work, moved_by, taken, taken_at, went_on, with_applied}
-use Rattle.zst_recv.specs.Stages.{IsStage, IsWork}
+use Rattle.zst_recv.specs.ReceiveSteps.{Ends, Lives, Stage, Waits, Batch, moved_by, taken, taken_at, went_on, with_applied}
+use Rattle.zst_recv.specs.Stages.{IsStage, IsBatch}
 use Rattle.zst_recv.specs.TakenRecords.{EndFits, TakeFault}
-use Rattle.zst_recv.specs.declared.batch.Batch.{Batch}
+use Rattle.zst_recv.specs.declared.batch.Batch as batches
 use Rattle.zst_recv.specs.declared.fault.RecvFault.{RecvFault}
 use Rattle.zst_recv.specs.declared.fault.RecvFault.TheVariants as faults
 use Rattle.zst_recv.specs.declared.stage.Stage as coded
@@ -178,12 +178,12 @@ applies_so true number index items old has set made state (Err fault) holds tigh
 -- ---- a partial state
 
 -- it is moved as the definition says
-pub moved_is : (bound : Option ℕ) (old has : Blocks) (number flags : ℕ) (c : Covered) (row : Partial) (set : ObjSet) (point : Point) (state : plain.Partial) (after : DatedState) → PartialIs bound old row state
+pub moved_is : (bound : Option ℕ) (old has : Blocks) (number flags : ℕ) (c : Covered) (row : Partial) (set : ObjSet) (point : Point) (state : models.Partial) (after : DatedState) → PartialIs bound old row state
     → received_all number c.index (items_by flags c.payload c.head) state.objects ≡ Ok after → SetIs bound has set after → point ≡ point_of row.point (items_by flags c.payload c.head)
-    → (next : plain.Partial) × (moved_by number c flags state ≡ Ok next) × PartialIs bound has (record row { objects = set; point = point }) next
+    → (next : models.Partial) × (moved_by number c flags state ≡ Ok next) × PartialIs bound has (record row { objects = set; point = point }) next
 moved_is bound old has number flags c row set point state after stands received_is holds point_is =
     let items = items_by flags c.payload c.head in
-    let made : DatedState → Result plain.Partial Refusal = λ objects. Ok (record state { objects = objects; point = point_of state.point items }) in (
+    let made : DatedState → Result models.Partial Refusal = λ objects. Ok (record state { objects = objects; point = point_of state.point items }) in (
       record state { objects = after; point = point_of state.point items },
       ap (λ (r : Result DatedState Refusal). r >>= made) received_is,
       record {
@@ -200,7 +200,7 @@ moved_is bound old has number flags c row set point state after stands received_
     )
 
 -- or it is refused as the definition refuses it
-pub refused_is : (number flags : ℕ) (c : Covered) (state : plain.Partial) (fault : ObjFault) → RefusesRecord c.index (received_all number c.index (items_by flags c.payload c.head) state.objects) fault
+pub refused_is : (number flags : ℕ) (c : Covered) (state : models.Partial) (fault : ObjFault) → RefusesRecord c.index (received_all number c.index (items_by flags c.payload c.head) state.objects) fault
     → TakeFault (moved_by number c flags state) (of_record c.index fault)
 refused_is number flags c state (sets.CannotApply fault) is =
     ap (λ (r : Result DatedState Refusal). r >>= λ objects. Ok (record state { objects = objects; point = point_of state.point (items_by flags c.payload c.head) })) is
@@ -221,39 +221,39 @@ known_record index (sets.Block (blocks.Damaged sector stated found)) none = tt
 known_record index (sets.Block blocks.DiskFault) none = tt
 
 -- blocks that are written leave it as it was
-pub partial_stays : (bound : Option ℕ) (old new : DiskState) (space less : FreeSectors) (row : Partial) (state : plain.Partial) → FillsFree old space new less → PartialIs bound (Has old.seen space) row state
+pub partial_stays : (bound : Option ℕ) (old new : DiskState) (space less : FreeSectors) (row : Partial) (state : models.Partial) → FillsFree old space new less → PartialIs bound (Has old.seen space) row state
     → PartialIs bound (Has new.seen less) row state
 partial_stays bound old new space less row state fills stands = PartialIs-grows old.seen space new.seen less (KeepsBlocks-fills old new space less fills) bound row state stands
 
--- ---- the work of a feed
+-- ---- the batch of a feed
 
-pub lives_is : (bound : Option ℕ) (has : Blocks) (flags : ℕ) (row : Partial) (stage : Stage) → IsStage bound has (stages.Lives flags row) stage → (state : plain.Partial) × (stage ≡ Lives flags state) × PartialIs bound has row state
+pub lives_is : (bound : Option ℕ) (has : Blocks) (flags : ℕ) (row : Partial) (stage : Stage) → IsStage bound has (stages.Lives flags row) stage → (state : models.Partial) × (stage ≡ Lives flags state) × PartialIs bound has row state
 lives_is bound has flags row Waits is = absurd is
 lives_is bound has flags row (Lives stated state) is = (state, ap (λ (f : ℕ). Lives f state) (sym is.0), is.1)
 lives_is bound has flags row (Ends state) is = absurd is
 
 -- the partial state of a batch whose stage is this
-pub under_way : (bound : Option ℕ) (has : Blocks) (batch : Batch) (work : Work) (flags : ℕ) (row : Partial) → batch.stage ≡ stages.Lives flags row → IsWork bound has batch work
-    → (state : plain.Partial) × (work.stage ≡ Lives flags state) × PartialIs bound has row state
-under_way bound has batch work flags row stage is = lives_is bound has flags row work.stage (subst (λ (s : coded.Stage). IsStage bound has s work.stage) stage is.stage)
+pub under_way : (bound : Option ℕ) (has : Blocks) (batch : batches.Batch) (plain : Batch) (flags : ℕ) (row : Partial) → batch.stage ≡ stages.Lives flags row → IsBatch bound has batch plain
+    → (state : models.Partial) × (plain.stage ≡ Lives flags state) × PartialIs bound has row state
+under_way bound has batch plain flags row stage is = lives_is bound has flags row plain.stage (subst (λ (s : coded.Stage). IsStage bound has s plain.stage) stage is.stage)
 
 -- a record that is neither BEGIN nor END moves the partial state
-moves : (number : ℕ) (c : Covered) (flags : ℕ) (state : plain.Partial) (work : Work) (head : Head) → IsLater head → closing head ≡ None
-    → went_on number c flags state work head ≡ (moved_by number c flags state >>= λ next. Ok (with_applied flags next work))
-moves number c flags state work (heads.Begin header len) later last = absurd later
-moves number c flags state work (heads.Object object kind bonus_kind block_size bonus_len max_block to) later last = refl
-moves number c flags state work (heads.FreeObjects first count to) later last = refl
-moves number c flags state work (heads.Write object kind offset size to) later last = refl
-moves number c flags state work (heads.Free object offset size to) later last = refl
-moves number c flags state work (heads.End sums to) later last = absurd cc
-moves number c flags state work (heads.Spill object size to) later last = refl
-moves number c flags state work (heads.Redact object offset size to) later last = refl
+moves : (number : ℕ) (c : Covered) (flags : ℕ) (state : models.Partial) (plain : Batch) (head : Head) → IsLater head → closing head ≡ None
+    → went_on number c flags state plain head ≡ (moved_by number c flags state >>= λ next. Ok (with_applied flags next plain))
+moves number c flags state plain (heads.Begin header len) later last = absurd later
+moves number c flags state plain (heads.Object object kind bonus_kind block_size bonus_len max_block to) later last = refl
+moves number c flags state plain (heads.FreeObjects first count to) later last = refl
+moves number c flags state plain (heads.Write object kind offset size to) later last = refl
+moves number c flags state plain (heads.Free object offset size to) later last = refl
+moves number c flags state plain (heads.End sums to) later last = absurd cc
+moves number c flags state plain (heads.Spill object size to) later last = refl
+moves number c flags state plain (heads.Redact object offset size to) later last = refl
 
-pub taken_is : (ask : RecvAsk) (running : Pool) (c : Covered) (work : Work) (number flags : ℕ) (state : plain.Partial) → work.stage ≡ Lives flags state → number ≡ running.number + 1
-    → IsLater c.head → closing c.head ≡ None → taken ask running c work ≡ (moved_by number c flags state >>= λ next. Ok (with_applied flags next work))
-taken_is ask running c work number flags state stage is later last =
-    ap (taken_at ask running c work) stage ∙ moves (running.number + 1) c flags state work c.head later last
-    ∙ ap (λ (n : ℕ). moved_by n c flags state >>= λ next. Ok (with_applied flags next work)) (sym is)
+pub taken_is : (ask : RecvAsk) (running : Pool) (c : Covered) (plain : Batch) (number flags : ℕ) (state : models.Partial) → plain.stage ≡ Lives flags state → number ≡ running.number + 1
+    → IsLater c.head → closing c.head ≡ None → taken ask running c plain ≡ (moved_by number c flags state >>= λ next. Ok (with_applied flags next plain))
+taken_is ask running c plain number flags state stage is later last =
+    ap (taken_at ask running c plain) stage ∙ moves (running.number + 1) c flags state plain c.head later last
+    ∙ ap (λ (n : ℕ). moved_by n c flags state >>= λ next. Ok (with_applied flags next plain)) (sym is)
 
 -- a refusal of what is done first is one of all
 pub refuses_on : {A B : Type 0} (first : Result A Refusal) (next : A → Result B Refusal) (whole : Result B Refusal) (fault : RecvFault) → whole ≡ (first >>= next) → TakeFault first fault → TakeFault whole fault
@@ -268,11 +268,11 @@ refuses_on first next whole (faults.Pool pools.OutOfMemory) is stops = stops
 refuses_on first next whole (faults.Stream fault) is stops = stops
 refuses_on first next whole (faults.CannotApply index fault) is stops = is ∙ ap (λ r. r >>= next) stops
 
--- what is refused leaves the work as it was, also over the blocks that were written
-pub work_stays : (bound : Option ℕ) (old new : DiskState) (space less : FreeSectors) (batch : Batch) (work : Work) (flags : ℕ) (row next : Partial) (state : plain.Partial) → FillsFree old space new less
-    → PartialIs bound (Has old.seen space) row state → work.stage ≡ Lives flags state → next ≡ row → IsWork bound (Has old.seen space) batch work
-    → IsWork bound (Has new.seen less) (record { stage = stages.Lives flags next; rolls = batch.rolls; taken = batch.taken; applied = batch.applied }) work
-work_stays bound old new space less batch work flags row next state fills stands stage same is = record {
+-- what is refused leaves the batch as it was, also over the blocks that were written
+pub batch_stays : (bound : Option ℕ) (old new : DiskState) (space less : FreeSectors) (batch : batches.Batch) (plain : Batch) (flags : ℕ) (row next : Partial) (state : models.Partial) → FillsFree old space new less
+    → PartialIs bound (Has old.seen space) row state → plain.stage ≡ Lives flags state → next ≡ row → IsBatch bound (Has old.seen space) batch plain
+    → IsBatch bound (Has new.seen less) (record { stage = stages.Lives flags next; rolls = batch.rolls; taken = batch.taken; applied = batch.applied }) plain
+batch_stays bound old new space less batch plain flags row next state fills stands stage same is = record {
   stage = subst (IsStage bound (Has new.seen less) (stages.Lives flags next)) (sym stage)
       (refl, subst (λ (r : Partial). PartialIs bound (Has new.seen less) r state) (sym same) (partial_stays bound old new space less row state fills stands));
   rolls = is.rolls;
@@ -281,10 +281,10 @@ work_stays bound old new space less batch work flags row next state fills stands
 }
 
 -- one record more
-pub one_more : (bound : Option ℕ) (has : Blocks) (batch : Batch) (work : Work) (flags applied : ℕ) (row : Partial) (next : plain.Partial) → PartialIs bound has row next → batch.rolls ≡ work.rolls
-    → batch.applied ≡ min work.applied (2 ^ 64 - 1) → applied ≡ min (batch.applied + 1) (2 ^ 64 - 1)
-    → IsWork bound has (record { stage = stages.Lives flags row; rolls = batch.rolls; taken = true; applied = applied }) (with_applied flags next work)
-one_more bound has batch work flags applied row next stands rolls count more = record {
+pub one_more : (bound : Option ℕ) (has : Blocks) (batch : batches.Batch) (plain : Batch) (flags applied : ℕ) (row : Partial) (next : models.Partial) → PartialIs bound has row next → batch.rolls ≡ plain.rolls
+    → batch.applied ≡ min plain.applied (2 ^ 64 - 1) → applied ≡ min (batch.applied + 1) (2 ^ 64 - 1)
+    → IsBatch bound has (record { stage = stages.Lives flags row; rolls = batch.rolls; taken = true; applied = applied }) (with_applied flags next plain)
+one_more bound has batch plain flags applied row next stands rolls count more = record {
   stage = (refl, stands);
   rolls = rolls;
   taken = refl;
@@ -292,13 +292,13 @@ one_more bound has batch work flags applied row next stands rolls count more = r
 }
 
 -- END
-pub ended_is : (bound : Option ℕ) (has : Blocks) (ask : RecvAsk) (running : Pool) (c : Covered) (work : Work) (batch : Batch) (flags : ℕ) (row : Partial) (sums : List ℕ) (to : ℕ) → batch.stage ≡ stages.Lives flags row
-    → c.head ≡ heads.End sums to → IsWork bound has batch work
-    → (after : Work) × (taken ask running c work ≡ Ok after) × IsWork bound has (record { stage = stages.Ends row; rolls = batch.rolls; taken = true; applied = batch.applied }) after
-ended_is bound has ask running c work batch flags row sums to stage end is =
-    let under = under_way bound has batch work flags row stage is in (
-      record work { stage = Ends under.0; taken = true },
-      ap (taken_at ask running c work) under.1 ∙ ap (went_on (running.number + 1) c flags under.0 work) end,
+pub ended_is : (bound : Option ℕ) (has : Blocks) (ask : RecvAsk) (running : Pool) (c : Covered) (plain : Batch) (batch : batches.Batch) (flags : ℕ) (row : Partial) (sums : List ℕ) (to : ℕ) → batch.stage ≡ stages.Lives flags row
+    → c.head ≡ heads.End sums to → IsBatch bound has batch plain
+    → (after : Batch) × (taken ask running c plain ≡ Ok after) × IsBatch bound has (record { stage = stages.Ends row; rolls = batch.rolls; taken = true; applied = batch.applied }) after
+ended_is bound has ask running c plain batch flags row sums to stage end is =
+    let under = under_way bound has batch plain flags row stage is in (
+      record plain { stage = Ends under.0; taken = true },
+      ap (taken_at ask running c plain) under.1 ∙ ap (went_on (running.number + 1) c flags under.0 plain) end,
       record { stage = under.2; rolls = is.rolls; taken = refl; applied = is.applied },
     )
 

@@ -16,10 +16,11 @@ use Rattle.zst_pool.specs.Calls.{IsAtRest}
 use Rattle.zst_pool.specs.Faults.{pool_refusal}
 use Rattle.zst_pool.specs.declared.fault.PoolFault.{PoolFault}
 use Rattle.zst_pool.specs.declared.fault.PoolFault.TheVariants as pools
-use Rattle.zst_recv.specs.Faults.{recv_refusal, stream_limit}
+use Rattle.zst_reader.specs.InputReads.{stream_limit}
+use Rattle.zst_recv.specs.Faults.{recv_refusal}
 use Rattle.zst_recv.specs.Feeds.{fed_piece, new_records, used_of}
-use Rattle.zst_recv.specs.ReceiveSteps.{Stage, Waits, Lives, Ends, Fed, Goes, Stops, at_stage, batch, left_by, pool_of}
-use Rattle.zst_recv.specs.Stages.{Receives, received_by}
+use Rattle.zst_recv.specs.ReceiveSteps.{Stage, Waits, Lives, Ends, Fed, Goes, Stops, at_stage, batch_of, left_by, pool_of}
+use Rattle.zst_recv.specs.Stages.{Receives, ask_of, received_by}
 use Rattle.zst_recv.specs.declared.fault.RecvFault.{RecvFault}
 use Rattle.zst_recv.specs.declared.fault.RecvFault.TheVariants as faults
 use Rattle.zst_recv.specs.declared.received_snapshot.ReceivedSnapshot.{ReceivedSnapshot}
@@ -39,7 +40,7 @@ is_done (Ends partial) = true
 
 -- how many records between BEGIN and END a piece applied
 abbrev pub applied_of : RecvAsk → List ℕ → List ℕ → Stage → Pool → ℕ
-applied_of ask text piece stage pool = (batch ask pool (new_records text piece) (at_stage stage)).work.applied
+applied_of ask text piece stage pool = (batch_of ask pool (new_records text piece) (at_stage stage)).batch.applied
 
 -- what a feed tells: the bytes of the piece that are of the stream, the records that it applied, the point, and whether END was covered
 pub record Tells (ask : RecvAsk) (text piece : List ℕ) (before after : Stage) (pool : Pool) (fed : coded.FeedReport) : Type 0 where
@@ -70,7 +71,7 @@ pub record IsFed (tight : Bool) (now : DiskState) (kept : PoolState) (recv : Rec
   pub definition_is : definition ≡ Goes next after
   pub rests : IsAtRest tight now kept next
   pub goes_on : GoesOn (bound_of tight next.number) now kept recv (text ++ piece) after
-  pub tells : Tells recv.ask text piece before after pool fed
+  pub tells : Tells (ask_of recv) text piece before after pool fed
 
 -- the definition refuses so, and what it leaves is at rest
 pub record IsStopped (tight : Bool) (now : DiskState) (kept : PoolState) (definition : Fed) (refusal : Refusal) : Type 0 where
@@ -99,5 +100,5 @@ FeedAnswer tight now kept recv text piece before pool definition (Err fault) = I
 
 -- A feed: at every moment each image reads as what is kept of the pool before it, or of the one that it leaves; and then by its answer.
 pub record Feeds (tight : Bool) (old now : DiskState) (kept : PoolState) (recv : Recv) (text piece : List ℕ) (before : Stage) (pool : Pool) (result : Result coded.FeedReport RecvFault) : Type 0 where
-  pub moments : Leaves old now (λ c. Reads tight (kept_of pool) c ⊎ Reads tight (kept_of (pool_of (fed_piece recv.ask text piece before pool))) c)
-  pub answer : FeedAnswer tight now kept recv text piece before pool (fed_piece recv.ask text piece before pool) result
+  pub moments : Leaves old now (λ c. Reads tight (kept_of pool) c ⊎ Reads tight (kept_of (pool_of (fed_piece (ask_of recv) text piece before pool))) c)
+  pub answer : FeedAnswer tight now kept recv text piece before pool (fed_piece (ask_of recv) text piece before pool) result

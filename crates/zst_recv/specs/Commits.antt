@@ -1,13 +1,19 @@
 -- What a feed commits.
-use Rattle.std.specs.Prelude.{◌≡◌, ◌⊎◌, Bool, Result, Ok, Err}
+use Rattle.std.specs.Prelude.{◌≡◌, ◌⊎◌, ℕ, Bool, false, Result, Ok, Err, IfErr, OnErr, OnOk}
 use Rattle.zst_outside.specs.Images.{DiskState, Leaves}
+use Rattle.zst_outside.specs.declared.disk.Disk.{Ghosts}
+use Rattle.zst_block.specs.IoStates.{IsHonest, disk_of}
+use Rattle.zst_image.specs.Commits.{Ready}
 use Rattle.zst_image.specs.Reads.{Reads}
 use Rattle.zst_image.specs.declared.pool_state.PoolState.{PoolState}
 use Rattle.zst_model.specs.declared.refusals.refusal.Refusal.{Refusal}
 use Rattle.zst_model.specs.pools.KeptPool.{kept_of}
 use Rattle.zst_model.specs.pools.Pool.{Pool}
-use Rattle.zst_pool.specs.Calls.{CallFault, IsAtRest}
+use Rattle.zst_pool.specs.Calls.{CallFault, CallGrows, IsAtRest, IsCallFault, IsCallFull}
+use Rattle.zst_pool.specs.Faults.{HasDiskCause, is_disk_fault}
 use Rattle.zst_pool.specs.declared.fault.PoolFault.{PoolFault}
+use Rattle.zst_pool.specs.declared.fault.PoolFault.TheVariants.{Full}
+use Rattle.zst_pool.specs.declared.pool.Pool as coded
 
 -- What stands after a commit of what was taken, or of nothing: what the definition makes of the pool, or the pool as it was.
 abbrev pub PutAnswer : (tight : Bool) → DiskState → PoolState → Pool → Result Pool Refusal → Result (Unit {0}) PoolFault → Type 0
@@ -18,3 +24,18 @@ PutAnswer tight now kept running definition (Err fault) = CallFault (IsAtRest ti
 pub record Puts (tight : Bool) (start now : DiskState) (kept : PoolState) (running : Pool) (definition : Result Pool Refusal) (result : Result (Unit {0}) PoolFault) : Type 0 where
   pub moments : Leaves start now (λ c. Reads tight (kept_of running) c ⊎ ((next : Pool) × (definition ≡ Ok next) × Reads tight (kept_of next) c))
   pub answer : PutAnswer tight now kept running definition result
+
+module _ {D : Type 0} {g : Ghosts D} where
+  -- how the commit of a batch ends over a pool that hasn't failed, whatever the image is; one in which no record was taken commits nothing
+  pub record CommitsBatch {A : Type 0} (old new : coded.Pool D g) (result : Result A PoolFault) : Type 0 where
+    -- there is no other refusal than E23, E24, E28 and E32, and after one what is kept stays
+    pub known : IfErr result IsCallFault
+    pub stays : OnErr result (new.kept ≡ old.kept)
+    -- before E24 no free extent had as many sectors as a directory may take that has 2,048 bytes more, and a commit grows by no more
+    pub short : (need largest : ℕ) → result ≡ Err (Full need largest) → IsCallFull old.io.space new.io.space old.kept.dir need largest
+    pub grows : OnOk result ((new.kept ≡ old.kept) ⊎ CallGrows old.io.space old.kept new.kept)
+    pub ready : new.io.failed ≡ false → Ready (disk_of new.io) new.kept.body
+    pub failed : new.io.failed ≡ is_disk_fault result
+    pub cause : HasDiskCause (disk_of old.io).faults (disk_of new.io).faults result
+    pub honest : IsHonest new.io → IsHonest old.io
+    pub same : new.io.disk.ghost_name ≡ old.io.disk.ghost_name

@@ -1,5 +1,5 @@
 -- What a piece of a stream costs of the free sectors, and where it finds no room.
-use Rattle.std.specs.Prelude.{◌≡◌, ◌⊎◌, ◌+◌, ◌-◌, ◌<◌, ◌≤◌, ℕ, List, [], ◌∷◌, drop, length, sum_by, Option, Some}
+use Rattle.std.specs.Prelude.{◌≡◌, ◌⊎◌, ◌+◌, ◌-◌, ◌<◌, ◌≤◌, ℕ, List, [], ◌∷◌, drop, length, sum_by, Option, Some, Result, Err, OnOk}
 use Rattle.zst_space.specs.FreeSectors.{FreeSectors, largest_of}
 use Rattle.zst_block.specs.IoCalls.{TakesAtMost}
 use Rattle.zst_block.specs.declared.fault.BlockFault.{BlockFault}
@@ -11,6 +11,9 @@ use Rattle.zst_image.specs.declared.pool_state.PoolState.{PoolState}
 use Rattle.zst_record.specs.Heads.{Covered}
 use Rattle.zst_stream.specs.Reading.{reading}
 use Rattle.zst_apply.specs.Costs.{record_block, record_cost}
+use Rattle.zst_pool.specs.declared.fault.PoolFault.TheVariants as pools
+use Rattle.zst_recv.specs.declared.fault.RecvFault.{RecvFault}
+use Rattle.zst_recv.specs.declared.fault.RecvFault.TheVariants as faults
 
 -- the records that a text covers behind those that were handed out
 abbrev pub records_behind : List Covered → List ℕ → List Covered
@@ -50,3 +53,8 @@ pub record PieceGrows (records : List Covered) (before after : PoolState) : Type
   pub directory : length (dir_bytes after.dir) ≤ length (dir_bytes before.dir) + 2048
   pub sectors : after.body.sectors ≡ before.body.sectors
   pub end : after.body.end ≤ before.body.end + piece_cost records before.dir
+
+-- A piece that covers these records, in a pool whose body and directory were these and that then keeps those, with so many sectors left: E24 comes only where it is short of them, and where it is taken no more are taken than it costs.
+pub record CostsPiece {A : Type 0} (records : List Covered) (before after : PoolState) (left : FreeSectors) (result : Result A RecvFault) : Type 0 where
+  pub short : (need largest : ℕ) → result ≡ Err (faults.Pool (pools.Full need largest)) → PieceIsShort records before left need largest
+  pub grows : OnOk result (PieceGrows records before after)

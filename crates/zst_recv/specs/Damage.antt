@@ -6,12 +6,12 @@ use Rattle.zst_block.specs.Blocks.{SparesTaken}
 use Rattle.zst_dir.specs.Rows.{Rows}
 use Rattle.zst_dir.specs.declared.rows.Partial.{Partial as Row}
 use Rattle.zst_apply.specs.Damage.{apply_damage}
-use Rattle.zst_recv.specs.Stages.{CanPut}
+use Rattle.zst_recv.specs.Stages.{CanPutFor}
 
 -- one of the set of a partial state of this target, which could be committed beside these rows
 pub record IsDamagedState (images : List ℕ → Type 0) (size : ℕ) (rows : Rows) (target : List ℕ) (sector : ℕ) (stated found : List ℕ) : Type 0 where
   pub row : Row
-  pub can : CanPut rows target row
+  pub can : CanPutFor rows target row
   pub damaged : apply_damage images size row.objects sector stated found
 
 -- one of the set that the partial state had when a record was applied: a read then gave what it gave before the feed, but for sectors that

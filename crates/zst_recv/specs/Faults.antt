@@ -1,5 +1,5 @@
 -- The faults of a receive.
-use Rattle.std.specs.Prelude.{◌≡◌, ◌<◌, ◌||◌, ◌^◌, ℕ, Bool, true, false, Option, Some, None, Result, Ok, Err}
+use Rattle.std.specs.Prelude.{◌≡◌, ◌<◌, ◌||◌, ℕ, Bool, true, false, Option, Some, None, Result, Ok, Err}
 use Rattle.zst_space.specs.FreeSectors.{largest_of}
 use Rattle.zst_block.specs.Blocks.{FillsFree}
 use Rattle.zst_block.specs.IoCalls.{HasCause, fails}
@@ -20,10 +20,6 @@ use Rattle.zst_pool.specs.declared.fault.PoolFault.TheVariants as pools
 use Rattle.zst_stream.specs.Findings.{IsFound}
 use Rattle.zst_recv.specs.declared.fault.RecvFault.{RecvFault}
 use Rattle.zst_recv.specs.declared.fault.RecvFault.TheVariants as faults
-
--- a stream has at most so many bytes
-abbrev pub stream_limit : ℕ
-stream_limit = 2 ^ 62
 
 -- the refusal that a receive's fault is
 abbrev pub recv_refusal : RecvFault → Refusal

@@ -26,15 +26,15 @@ pub data Stage : Type 0 where
   Lives : (flags : ℕ) → Partial → Stage
   Ends : Partial → Stage
 
--- what one feed has made: where the receive then stands, whether the target's head is rolled back with it, whether a record was taken, and how many of these stood between BEGIN and END
-pub record Work : Type 0 where
+-- a batch is what one feed has made: where the receive then stands, whether the target's head is rolled back with it, whether a record was taken, and how many of these stood between BEGIN and END
+pub record Batch : Type 0 where
   pub stage : Stage
   pub rolls : Bool
   pub taken : Bool
   pub applied : ℕ
 
 -- a feed begins where the receive stands
-abbrev pub at_stage : Stage → Work
+abbrev pub at_stage : Stage → Batch
 at_stage stage = record { stage = stage; rolls = false; taken = false; applied = 0 }
 
 -- ---- records
@@ -52,7 +52,7 @@ begun ask header component base = record {
 }
 
 -- BEGIN was taken by its plan: the stream's own flags hold, also where it goes on with a partial state
-abbrev pub opened : RecvAsk → Header → RecvPlan → Work
+abbrev pub opened : RecvAsk → Header → RecvPlan → Batch
 opened ask header (Resumes partial) = record { stage = Lives header.flags partial; rolls = false; taken = true; applied = 0 }
 opened ask header (Begins component base) = record { stage = Lives header.flags (begun ask header component base); rolls = base.rolls; taken = true; applied = 0 }
 
@@ -62,9 +62,9 @@ of_plan (Ok plan) = Ok plan
 of_plan (Err fault) = Err (refusal_of fault)
 
 -- BEGIN, by its plan; a reading gives it first, so that no other record comes before it
-abbrev pub began : RecvAsk → Pool → Work → Head → Result Work Refusal
-began ask pool work (heads.Begin header len) = of_plan (recv_plan ask header pool) >>= λ plan. Ok (opened ask header plan)
-began ask pool work head = Ok work
+abbrev pub began : RecvAsk → Pool → Batch → Head → Result Batch Refusal
+began ask pool batch (heads.Begin header len) = of_plan (recv_plan ask header pool) >>= λ plan. Ok (opened ask header plan)
+began ask pool batch head = Ok batch
 
 -- the partial state after a record that says these items: E21, then E23 of an index
 abbrev pub moved_by : (number : ℕ) → Covered → (flags : ℕ) → Partial → Result Partial Refusal
@@ -73,36 +73,36 @@ moved_by number c flags partial =
     Ok (record partial { objects = objects; point = point_of partial.point (items_by flags c.payload c.head) })
 
 -- one record more was applied, and this is the partial state
-abbrev pub with_applied : ℕ → Partial → Work → Work
-with_applied flags partial work = record work { stage = Lives flags partial; taken = true; applied = work.applied + 1 }
+abbrev pub with_applied : ℕ → Partial → Batch → Batch
+with_applied flags partial batch = record batch { stage = Lives flags partial; taken = true; applied = batch.applied + 1 }
 
 -- END, or a record that is applied; a reading gives BEGIN only first
-abbrev pub went_on : (number : ℕ) → Covered → (flags : ℕ) → Partial → Work → Head → Result Work Refusal
-went_on number c flags partial work (heads.Begin header len) = Ok work
-went_on number c flags partial work (heads.End sums to) = Ok (record work { stage = Ends partial; taken = true })
-went_on number c flags partial work head = moved_by number c flags partial >>= λ moved. Ok (with_applied flags moved work)
+abbrev pub went_on : (number : ℕ) → Covered → (flags : ℕ) → Partial → Batch → Head → Result Batch Refusal
+went_on number c flags partial batch (heads.Begin header len) = Ok batch
+went_on number c flags partial batch (heads.End sums to) = Ok (record batch { stage = Ends partial; taken = true })
+went_on number c flags partial batch head = moved_by number c flags partial >>= λ moved. Ok (with_applied flags moved batch)
 
 -- what one covered record makes of a feed, by where the receive stands; behind END none comes
-abbrev pub taken_at : RecvAsk → Pool → Covered → Work → Stage → Result Work Refusal
-taken_at ask pool c work Waits = began ask pool work c.head
-taken_at ask pool c work (Lives flags partial) = went_on (pool.number + 1) c flags partial work c.head
-taken_at ask pool c work (Ends partial) = Ok work
+abbrev pub taken_at : RecvAsk → Pool → Covered → Batch → Stage → Result Batch Refusal
+taken_at ask pool c batch Waits = began ask pool batch c.head
+taken_at ask pool c batch (Lives flags partial) = went_on (pool.number + 1) c flags partial batch c.head
+taken_at ask pool c batch (Ends partial) = Ok batch
 
-abbrev pub taken : RecvAsk → Pool → Covered → Work → Result Work Refusal
-taken ask pool c work = taken_at ask pool c work work.stage
+abbrev pub taken : RecvAsk → Pool → Covered → Batch → Result Batch Refusal
+taken ask pool c batch = taken_at ask pool c batch batch.stage
 
--- the records up to the first that is refused, and why it was
-pub record Batch : Type 0 where
-  pub work : Work
+-- a batch with the records up to the first that is refused, and why that was
+pub record EndedBatch : Type 0 where
+  pub batch : Batch
   pub fault : Option Refusal
 
-abbrev pub batch_by : Result Work Refusal → Work → (Work → Batch) → Batch
-batch_by (Err refusal) work next = record { work = work; fault = Some refusal }
-batch_by (Ok after) work next = next after
+abbrev pub batch_by : Result Batch Refusal → Batch → (Batch → EndedBatch) → EndedBatch
+batch_by (Err refusal) batch next = record { batch = batch; fault = Some refusal }
+batch_by (Ok after) batch next = next after
 
-unfoldable pub batch : RecvAsk → Pool → List Covered → Work → Batch
-batch ask pool [] work = record { work = work; fault = None }
-batch ask pool (c ∷ rest) work = batch_by (taken ask pool c work) work (batch ask pool rest)
+unfoldable pub batch_of : RecvAsk → Pool → List Covered → Batch → EndedBatch
+batch_of ask pool [] batch = record { batch = batch; fault = None }
+batch_of ask pool (c ∷ rest) batch = batch_by (taken ask pool c batch) batch (batch_of ask pool rest)
 
 -- ---- one feed
 
@@ -142,8 +142,8 @@ put_at rolls (Lives flags partial) pool = partial_put rolls partial pool
 put_at rolls (Ends partial) pool = partial_finished partial pool
 
 -- one commit where a record was taken, and else none
-abbrev pub put : Work → Pool → Result Pool Refusal
-put work pool = if work.taken then put_at work.rolls work.stage pool else Ok pool
+abbrev pub put : Batch → Pool → Result Pool Refusal
+put batch pool = if batch.taken then put_at batch.rolls batch.stage pool else Ok pool
 
 -- what follows a commit; where it is refused nothing of the feed stays
 abbrev pub committed : Stage → Pool → Result Pool Refusal → (Pool → Fed) → Fed
@@ -155,15 +155,15 @@ abbrev pub first_fault : Option Refusal → Option Refusal → Option Refusal
 first_fault None other = other
 first_fault (Some refusal) other = Some refusal
 
-abbrev pub settled : Stage → Pool → Work → Option Refusal → Fed
-settled before pool work None = committed before pool (put work pool) (λ next. Goes next work.stage)
-settled before pool work (Some refusal) =
-    if keeps_front refusal && is_kept work.stage
-    then committed before pool (put work pool) (λ next. Stops next refusal)
+abbrev pub settled : Stage → Pool → Batch → Option Refusal → Fed
+settled before pool batch None = committed before pool (put batch pool) (λ next. Goes next batch.stage)
+settled before pool batch (Some refusal) =
+    if keeps_front refusal && is_kept batch.stage
+    then committed before pool (put batch pool) (λ next. Stops next refusal)
     else Stops (left_by before pool) refusal
 
 -- what these records, and the fault that their reading ends with, make of a receive that stands here and of the pool that runs
 unfoldable pub fed : RecvAsk → List Covered → Option Refusal → Stage → Pool → Fed
 fed ask records fault stage pool =
-    let done = batch ask pool records (at_stage stage) in
-    settled stage pool done.work (first_fault done.fault fault)
+    let done = batch_of ask pool records (at_stage stage) in
+    settled stage pool done.batch (first_fault done.fault fault)

@@ -1,6 +1,6 @@
 -- What the code keeps of a receive, and what it stands for.
-use Rattle.std.specs.Prelude.{◌≡◌, ℕ, ◌-◌, ◌^◌, Bool, true, false, min, List, [], ◌∷◌, ◌++◌, All, IfSome, Option, Some, None, is_some}
-use Rattle.zst_dir.specs.Rows.{Rows, HasSnapshot, IsPartialRow}
+use Rattle.std.specs.Prelude.{◌≡◌, ℕ, ◌-◌, ◌^◌, Bool, true, false, min, List, [], All, Option, Some, None, is_some}
+use Rattle.zst_dir.specs.Rows.{Rows}
 use Rattle.zst_dir.specs.declared.rows.Partial.{Partial as Row}
 use Rattle.zst_image.specs.Reads.{PartialIs}
 use Rattle.zst_model.specs.declared.sends.header.Point.{Point}
@@ -8,6 +8,7 @@ use Rattle.zst_model.specs.sends.Items.{origin}
 use Rattle.zst_model.specs.pools.Pool.{Pool, dataset_named}
 use Rattle.zst_plan.specs.Receipts.{TellsDates}
 use Rattle.zst_plan.specs.declared.receive.RecvAsk.{RecvAsk}
+use Rattle.zst_pool.specs.PartialRows.{CanPut}
 use Rattle.zst_reader.specs.StandsFor.{StandsFor, HandsOut, pushed_of}
 use Rattle.zst_reader.specs.declared.reader.Reader.{Reader}
 use Rattle.zst_record.specs.Heads.{Covered}
@@ -16,7 +17,7 @@ use Rattle.zst_record.specs.declared.head.Head.TheVariants as heads
 use Rattle.zst_record.specs.Laws.{AreBytes}
 use Rattle.zst_stream.specs.Reading.{waiting}
 use Rattle.zst_tree.specs.Indices.{Blocks}
-use Rattle.zst_recv.specs.ReceiveSteps.{Stage, Waits, Lives, Ends, Work}
+use Rattle.zst_recv.specs.ReceiveSteps.{Stage, Waits, Lives, Ends, Batch}
 use Rattle.zst_recv.specs.declared.stage.Stage as coded
 use Rattle.zst_recv.specs.declared.stage.Stage.TheVariants as stages
 use Rattle.zst_recv.specs.declared.batch.Batch as batches
@@ -38,31 +39,29 @@ IsStage bound has (stages.Done received) stage = ⊥
 IsStage bound has stages.Over stage = ⊥
 
 -- over the blocks that are there, the code's batch is what a feed has made; its count stops at the largest number of 64 bits
-pub record IsWork (bound : Option ℕ) (has : Blocks) (batch : batches.Batch) (work : Work) : Type 0 where
-  pub stage : IsStage bound has batch.stage work.stage
-  pub rolls : batch.rolls ≡ work.rolls
-  pub taken : batch.taken ≡ work.taken
-  pub applied : batch.applied ≡ min work.applied (2 ^ 64 - 1)
+pub record IsBatch (bound : Option ℕ) (has : Blocks) (batch : batches.Batch) (plain : Batch) : Type 0 where
+  pub stage : IsStage bound has batch.stage plain.stage
+  pub rolls : batch.rolls ≡ plain.rolls
+  pub taken : batch.taken ≡ plain.taken
+  pub applied : batch.applied ≡ min plain.applied (2 ^ 64 - 1)
 
--- a partial state's row can be committed for this target: its base is there, and its snapshot isn't
-pub record CanPut (rows : Rows) (target : List ℕ) (row : Row) : Type 0 where
-  pub row_fits : IsPartialRow row
+-- a partial state's row can be committed for this target
+pub record CanPutFor (rows : Rows) (target : List ℕ) (row : Row) : Type 0 where
   pub of_target : row.target ≡ target
-  pub base : IfSome row.base (HasSnapshot rows)
-  pub new : HasSnapshot rows (row.target ++ 64 ∷ row.snapshot) → ⊥
+  pub can : CanPut rows row
 
 -- so it is with the one that a stage has which isn't over
 abbrev pub StageFits : Rows → List ℕ → coded.Stage → Type 0
 StageFits rows target stages.Waits = Unit {0}
-StageFits rows target (stages.Lives flags row) = CanPut rows target row
-StageFits rows target (stages.Ends row) = CanPut rows target row
+StageFits rows target (stages.Lives flags row) = CanPutFor rows target row
+StageFits rows target (stages.Ends row) = CanPutFor rows target row
 StageFits rows target (stages.Done received) = ⊥
 StageFits rows target stages.Over = ⊥
 
 -- so it still is with one that goes on, once it was committed
 abbrev pub LivesOn : Rows → List ℕ → coded.Stage → Type 0
 LivesOn rows target stages.Waits = Unit {0}
-LivesOn rows target (stages.Lives flags row) = CanPut rows target row
+LivesOn rows target (stages.Lives flags row) = CanPutFor rows target row
 LivesOn rows target (stages.Ends row) = Unit {0}
 LivesOn rows target (stages.Done received) = Unit {0}
 LivesOn rows target stages.Over = Unit {0}
@@ -118,13 +117,23 @@ received_at (stages.Ends row) = None
 received_at (stages.Done received) = Some received
 received_at stages.Over = None
 
--- the same of a receive
+-- what a receive asks for, where it stands, and its reader
+abbrev pub ask_of : Recv → RecvAsk
+ask_of recv = recv.ask
+
+abbrev pub stage_of : Recv → coded.Stage
+stage_of recv = recv.stage
+
+abbrev pub reader_of : Recv → Reader
+reader_of recv = recv.reader
+
+-- the snapshot that it made, once END was received
 abbrev pub received_by : Recv → Option ReceivedSnapshot
-received_by recv = received_at recv.stage
+received_by recv = received_at (stage_of recv)
 
 -- how many bytes it was fed
 abbrev pub fed_of : Recv → ℕ
-fed_of recv = pushed_of recv.reader
+fed_of recv = pushed_of (reader_of recv)
 
 -- whether BEGIN isn't covered yet
 abbrev pub waits_at : coded.Stage → Bool
@@ -135,7 +144,7 @@ waits_at (stages.Done received) = false
 waits_at stages.Over = false
 
 abbrev pub is_waiting : Recv → Bool
-is_waiting recv = waits_at recv.stage
+is_waiting recv = waits_at (stage_of recv)
 
 -- whether a record is END, and whether it is BEGIN
 abbrev pub is_end : Head → Bool
@@ -164,8 +173,8 @@ pub record HasRead (reader : Reader) (stage : coded.Stage) : Type 0 where
 
 -- what it keeps is in its ranges, whatever the image: it has read some bytes, and its partial state can be committed beside these rows
 pub record RecvFits (rows : Rows) (recv : Recv) : Type 0 where
-  pub stage : LivesOn rows recv.ask.target recv.stage
-  pub reads : HasRead recv.reader recv.stage
+  pub stage : LivesOn rows (ask_of recv).target (stage_of recv)
+  pub reads : HasRead (reader_of recv) (stage_of recv)
 
 -- the sets tell the dates that a plan may look at: none where the target isn't there
 abbrev pub TellsTarget : RecvAsk → Rows → Pool → Type 0
@@ -186,6 +195,6 @@ WaitsAtBegin handed (Ends partial) = Unit {0}
 -- the receive was fed this text, of which all that is covered was taken, and stands here
 pub record Receives (bound : Option ℕ) (has : Blocks) (recv : Recv) (text : List ℕ) (stage : Stage) : Type 0 where
   pub handed : List Covered
-  pub reads : HandsOut recv.reader text handed waiting
+  pub reads : HandsOut (reader_of recv) text handed waiting
   pub waits : WaitsAtBegin handed stage
-  pub stands : IsStage bound has recv.stage stage
+  pub stands : IsStage bound has (stage_of recv) stage

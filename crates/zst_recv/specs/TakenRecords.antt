@@ -17,7 +17,7 @@ use Rattle.zst_stream.specs.PassedRecords.{StatesHeader, bare_head}
 use Rattle.zst_stream.specs.Reading.{Outcome, waiting, faulty, complete, reading}
 use Rattle.zst_recv.specs.Faults.{recv_refusal}
 use Rattle.zst_recv.specs.Feeds.{fault_of, new_records}
-use Rattle.zst_recv.specs.ReceiveSteps.{Batch, Work, batch, first_fault, taken}
+use Rattle.zst_recv.specs.ReceiveSteps.{EndedBatch, Batch, batch_of, first_fault, taken}
 use Rattle.zst_recv.specs.Stages.{StandsBehind, is_live}
 use Rattle.zst_recv.specs.declared.fault.RecvFault.{RecvFault}
 use Rattle.zst_recv.specs.declared.fault.RecvFault.TheVariants as faults
@@ -59,38 +59,38 @@ Makes Is definition (Ok done) = (after : Partial) × (definition ≡ Ok after) �
 Makes Is definition (Err fault) = TakeFault definition fault
 
 -- a record was taken as the definition says, or the definition refuses it; what was taken before stays
-abbrev pub Takes : (Work → Type 0) → Work → Result Work Refusal → Result (Unit {0}) RecvFault → Type 0
-Takes Is work definition (Ok done) = (after : Work) × (definition ≡ Ok after) × Is after
-Takes Is work definition (Err fault) = TakeFault definition fault × Is work
+abbrev pub Takes : (Batch → Type 0) → Batch → Result Batch Refusal → Result (Unit {0}) RecvFault → Type 0
+Takes Is batch definition (Ok done) = (after : Batch) × (definition ≡ Ok after) × Is after
+Takes Is batch definition (Err fault) = TakeFault definition fault × Is batch
 
 -- ---- as many records as are covered
 
 -- these were taken
-abbrev pub AreTaken : RecvAsk → Pool → List Covered → Work → Work → Type 0
-AreTaken ask pool records work after = batch ask pool records work ≡ record { work = after; fault = None }
+abbrev pub AreTaken : RecvAsk → Pool → List Covered → Batch → Batch → Type 0
+AreTaken ask pool records batch after = batch_of ask pool records batch ≡ record { batch = after; fault = None }
 
 -- and the reading of the text ends so with them
-pub record Drained (ask : RecvAsk) (pool : Pool) (reader : Reader) (text : List ℕ) (handed : List Covered) (work after : Work) (outcome : Outcome) : Type 0 where
+pub record Drained (ask : RecvAsk) (pool : Pool) (reader : Reader) (text : List ℕ) (handed : List Covered) (batch after : Batch) (outcome : Outcome) : Type 0 where
   pub records : List Covered
   pub reads : HandsOut reader text (handed ++ records) outcome
-  pub were_taken : AreTaken ask pool records work after
+  pub were_taken : AreTaken ask pool records batch after
 
 -- they were, and the next one that the text covers isn't
-pub record Refused (ask : RecvAsk) (pool : Pool) (reader : Reader) (text : List ℕ) (handed : List Covered) (work after : Work) (fault : RecvFault) : Type 0 where
+pub record Refused (ask : RecvAsk) (pool : Pool) (reader : Reader) (text : List ℕ) (handed : List Covered) (batch after : Batch) (fault : RecvFault) : Type 0 where
   pub records : List Covered
   pub next : Covered
   pub reads : StandsFor reader text (handed ++ (records ++ next ∷ []))
-  pub were_taken : AreTaken ask pool records work after
+  pub were_taken : AreTaken ask pool records batch after
   pub refused : TakeFault (taken ask pool next after) fault
 
 -- all that a text covers was taken, and whether END was covered; or the first fault, of the stream or of a record
-abbrev pub Drains : RecvAsk → Pool → Reader → List ℕ → List Covered → (Work → Type 0) → Work → Result Bool RecvFault → Type 0
-Drains ask pool reader text handed Is work (Ok ended) =
-    (after : Work) × Drained ask pool reader text handed work after (if ended then complete else waiting) × Is after
-Drains ask pool reader text handed Is work (Err (faults.Stream fault)) =
-    (after : Work) × Drained ask pool reader text handed work after (faulty fault) × Is after
-Drains ask pool reader text handed Is work (Err fault) =
-    (after : Work) × Refused ask pool reader text handed work after fault × Is after
+abbrev pub Drains : RecvAsk → Pool → Reader → List ℕ → List Covered → (Batch → Type 0) → Batch → Result Bool RecvFault → Type 0
+Drains ask pool reader text handed Is batch (Ok ended) =
+    (after : Batch) × Drained ask pool reader text handed batch after (if ended then complete else waiting) × Is after
+Drains ask pool reader text handed Is batch (Err (faults.Stream fault)) =
+    (after : Batch) × Drained ask pool reader text handed batch after (faulty fault) × Is after
+Drains ask pool reader text handed Is batch (Err fault) =
+    (after : Batch) × Refused ask pool reader text handed batch after fault × Is after
 
 -- whatever the image, the reader has handed out more of its text, and the stage stands behind it: it doesn't go on behind END
 pub record HandedOn (reader : Reader) (text : List ℕ) (stage : coded.Stage) (ended : Bool) : Type 0 where
@@ -102,16 +102,16 @@ pub record HandedOn (reader : Reader) (text : List ℕ) (stage : coded.Stage) (e
 -- ---- a piece
 
 -- what the definition takes of a piece behind a text, and the first fault
-abbrev pub taken_of : RecvAsk → Pool → List ℕ → List ℕ → Work → Batch
-taken_of ask pool text piece work = batch ask pool (new_records text piece) work
+abbrev pub taken_of : RecvAsk → Pool → List ℕ → List ℕ → Batch → EndedBatch
+taken_of ask pool text piece batch = batch_of ask pool (new_records text piece) batch
 
-abbrev pub fault_in : RecvAsk → Pool → List ℕ → List ℕ → Work → Option Refusal
-fault_in ask pool text piece work = first_fault (taken_of ask pool text piece work).fault (fault_of (reading (text ++ piece)).outcome)
+abbrev pub fault_in : RecvAsk → Pool → List ℕ → List ℕ → Batch → Option Refusal
+fault_in ask pool text piece batch = first_fault (taken_of ask pool text piece batch).fault (fault_of (reading (text ++ piece)).outcome)
 
 -- the definition takes all that the piece covers, and finds no fault: the reader stands behind it, or has ended
-pub record TakesAll (ask : RecvAsk) (pool : Pool) (reader : Reader) (text piece : List ℕ) (Is : Work → Type 0) (work : Work) : Type 0 where
-  pub whole : fault_in ask pool text piece work ≡ None
-  pub is : Is (taken_of ask pool text piece work).work
+pub record TakesAll (ask : RecvAsk) (pool : Pool) (reader : Reader) (text piece : List ℕ) (Is : Batch → Type 0) (batch : Batch) : Type 0 where
+  pub whole : fault_in ask pool text piece batch ≡ None
+  pub is : Is (taken_of ask pool text piece batch).batch
   pub waits : (reading (text ++ piece)).outcome ≡ waiting → (handed : List Covered) × HandsOut reader (text ++ piece) handed waiting
   pub ends : (reading (text ++ piece)).outcome ≡ complete → (read : List ℕ) × HandsOut reader read (reading (text ++ piece)).covered complete
 
@@ -132,7 +132,7 @@ ReadFault first (faults.Stream fault) = first ≡ Some (recv_refusal (faults.Str
 ReadFault first (faults.CannotApply index fault) = first ≡ Some (recv_refusal (faults.CannotApply index fault))
 
 -- a piece was read: all that it covers was taken, or what the definition takes before its first fault
-abbrev pub Reads : RecvAsk → Pool → Reader → List ℕ → List ℕ → (Work → Type 0) → Work → Result (Unit {0}) RecvFault → Type 0
-Reads ask pool reader text piece Is work (Ok done) = TakesAll ask pool reader text piece Is work
-Reads ask pool reader text piece Is work (Err fault) =
-    ReadFault (fault_in ask pool text piece work) fault × (fault_in ask pool text piece work ≡ Some (recv_refusal fault) → Is (taken_of ask pool text piece work).work)
+abbrev pub Reads : RecvAsk → Pool → Reader → List ℕ → List ℕ → (Batch → Type 0) → Batch → Result (Unit {0}) RecvFault → Type 0
+Reads ask pool reader text piece Is batch (Ok done) = TakesAll ask pool reader text piece Is batch
+Reads ask pool reader text piece Is batch (Err fault) =
+    ReadFault (fault_in ask pool text piece batch) fault × (fault_in ask pool text piece batch ≡ Some (recv_refusal fault) → Is (taken_of ask pool text piece batch).batch)

@@ -1,5 +1,5 @@
 // What one feed takes of a stream.
-ghost use Rattle.std.specs.Prelude.{◌≡◌, ◌+◌, ℕ, Bool, false, true, List, [], ◌∷◌, Option, None, Ok, Err, IfErr, OnErr, OnOk};
+ghost use Rattle.std.specs.Prelude.{◌≡◌, ◌+◌, ℕ, Bool, false, true, List, [], ◌∷◌, Option, None, Ok, Err, IfErr, OnErr};
 ghost use Rattle.zst_apply.specs.Damage.{apply_damage};
 ghost use Rattle.zst_block.specs.Blocks.{Has};
 ghost use Rattle.zst_block.specs.IoStates.{IsHonest, IsSparedBy, blocks_of, disk_of, io_of};
@@ -8,7 +8,6 @@ ghost use Rattle.zst_dir.specs.RowNames.{AreNamed};
 ghost use Rattle.zst_dir.specs.Rows.{Rows};
 ghost use Rattle.zst_image.specs.Reads.{PartialIs, RunsBy, bound_of};
 ghost use Rattle.zst_model.specs.declared.refusals.plan_fault.PlanFault.{PlanFault};
-ghost use Rattle.zst_model.specs.declared.sends.header.Header.{Header as PlainHeader};
 ghost use Rattle.zst_model.specs.pools.Pool.{Partial as PlainPartial, Pool as Plain};
 ghost use Rattle.zst_plan.specs.Receipts.{TellsNeeded};
 ghost use Rattle.zst_plan.specs.RecvPlan.{recv_plan};
@@ -19,12 +18,13 @@ ghost use Rattle.zst_record.specs.RecordValues.{IsLater};
 ghost use Rattle.zst_record.specs.Heads.{Covered, covered_of};
 ghost use Rattle.zst_record.specs.declared.head.Head.TheVariants as heads;
 ghost use Rattle.zst_stream.specs.Reading.{closing};
+ghost use Rattle.zst_recv.specs.Batches.{Moves, PlansBegin};
 ghost use Rattle.zst_recv.specs.Costs.{Spends};
 ghost use Rattle.zst_recv.specs.Damage.{IsDamagedState};
 ghost use Rattle.zst_recv.specs.Faults.{Fills, IsRecordFault, stop_of};
 ghost use Rattle.zst_recv.specs.Plans.{IsPlannedBy, is_planned};
-ghost use Rattle.zst_recv.specs.ReceiveSteps.{Stage as PlainStage, Work, at_stage, moved_by, taken};
-ghost use Rattle.zst_recv.specs.Stages.{CanPut, IsStage, IsWork, StageFits, TellsBefore, has_partial, is_begin, is_end, is_live, waits_at};
+ghost use Rattle.zst_recv.specs.ReceiveSteps.{Batch as PlainBatch, Stage as PlainStage, at_stage, moved_by, taken};
+ghost use Rattle.zst_recv.specs.Stages.{CanPutFor, IsBatch, IsStage, StageFits, TellsBefore, waits_at};
 ghost use Rattle.zst_recv.specs.TakenRecords.{IsRead, Makes, Takes};
 
 use crate::fault::{RecvFault, of_record};
@@ -69,7 +69,7 @@ fn move_by<D: Disk>(
     ensures damaged { (sector : ℕ) (stated found : List ℕ) → IsHonest io.new → result ≡ Err (RecvFault.Pool (PoolFault.Damaged sector stated found))
         → apply_damage (IsSparedBy io.old) (disk_of io.old).size partial.old.objects sector stated found }
     ensures unplanned { (fault : PlanFault) → result ≡ Err (RecvFault.Pool (PoolFault.Plan fault)) → is_planned fault ≡ false }
-    ensures puts { (rows : Rows) (target : List ℕ) → CanPut rows target partial.old → CanPut rows target partial.new }
+    ensures puts { (rows : Rows) (target : List ℕ) → CanPutFor rows target partial.old → CanPutFor rows target partial.new }
     ensures fills { Fills (io_of io.old) (io_of io.new) (stop_of result) }
     ensures spends { Spends (covered_of covered.now ∷ []) io.old.space io.new.space (stop_of result) }
 {
@@ -87,7 +87,7 @@ impl Batch {
     pub fn new(stage: Stage) -> Batch
         ensures stage { result.stage ≡ stage }
         ensures taken { result.taken ≡ false }
-        ensures work { (bound : Option ℕ) (image : List ℕ) (space : FreeSectors) (at : PlainStage) → IsStage bound (Has image space) stage at → IsWork bound (Has image space) result (at_stage at) }
+        ensures batch { (bound : Option ℕ) (image : List ℕ) (space : FreeSectors) (at : PlainStage) → IsStage bound (Has image space) stage at → IsBatch bound (Has image space) result (at_stage at) }
     {
         Batch {
             stage,
@@ -107,27 +107,15 @@ impl Batch {
     ) -> Result<(), RecvFault>
         requires stage { StageFits kept.now.dir ask.now.target self.old.stage }
         requires covered { IsRead (covered_of covered.now) }
-        ensures took { (tight : Bool) (start : D) (running : Plain) (work : Work) → IsHonest io.new → IsUnderWay tight (D.state start) (disk_of io.old) io.old.space kept.now running → TellsBefore ask.now work.stage kept.now.dir running
-            → IsWork (bound_of tight (running.number + 1)) (blocks_of io.old) self.old work
-            → Takes (IsWork (bound_of tight (running.number + 1)) (blocks_of io.new) self.new) work (taken ask.now running (covered_of covered.now) work) result }
-        ensures stays { OnErr result (self.new ≡ self.old) }
-        ensures idle { self.new.taken ≡ false → self.new ≡ self.old }
-        // Whatever the image, BEGIN is the end of waiting, END that of a partial state which is under way, and nothing else begins one.
-        ensures waits { waits_at self.new.stage ≡ true → self.new ≡ self.old }
-        ensures begins { OnOk result (is_begin covered.now.head.now ≡ true → waits_at self.new.stage ≡ false) }
-        ensures ends { is_end covered.now.head.now ≡ true → has_partial self.new.stage ≡ false }
-        ensures lives { has_partial self.new.stage ≡ true → is_live self.old.stage ≡ true }
-        // END alone ends one that goes on.
-        ensures over { is_live self.old.stage ≡ true → is_live self.new.stage ≡ false → is_end covered.now.head.now ≡ true }
+        ensures took { (tight : Bool) (start : D) (running : Plain) (plain : PlainBatch) → IsHonest io.new → IsUnderWay tight (D.state start) (disk_of io.old) io.old.space kept.now running → TellsBefore ask.now plain.stage kept.now.dir running
+            → IsBatch (bound_of tight (running.number + 1)) (blocks_of io.old) self.old plain
+            → Takes (IsBatch (bound_of tight (running.number + 1)) (blocks_of io.new) self.new) plain (taken ask.now running (covered_of covered.now) plain) result }
+        ensures moves { Moves kept.now.dir ask.now.target covered.now.head.now self.old self.new result }
+        ensures plans { PlansBegin kept.now.dir ask.now covered.now.head.now (waits_at self.old.stage) result }
         ensures known { IfErr result IsRecordFault }
         // E25 tells a damage of the set as the refused record found it.
         ensures damaged { (sector : ℕ) (stated found : List ℕ) → IsHonest io.new → result ≡ Err (RecvFault.Pool (PoolFault.Damaged sector stated found))
             → IsDamagedState (IsSparedBy io.old) (disk_of io.old).size kept.now.dir ask.now.target sector stated found }
-        // Whatever the image, whether BEGIN is taken is for its plan over the rows alone to say, and nothing else asks a plan.
-        ensures planned { (running : Plain) (header : PlainHeader) (len : ℕ) → covered.now.head.now ≡ heads.Begin header len → waits_at self.old.stage ≡ true → AreNamed kept.now.dir running → TellsNeeded kept.now.dir running ask.now header
-            → IsPlannedBy (recv_plan ask.now header running) result }
-        ensures because { (fault : PlanFault) → is_planned fault ≡ true → result ≡ Err (RecvFault.Pool (PoolFault.Plan fault)) → (waits_at self.old.stage ≡ true) × (header : PlainHeader) × (len : ℕ) × (covered.now.head.now ≡ heads.Begin header len) }
-        ensures stage { StageFits kept.now.dir ask.now.target self.new.stage }
         ensures fills { Fills (io_of io.old) (io_of io.new) (stop_of result) }
         ensures spends { Spends (covered_of covered.now ∷ []) io.old.space io.new.space (stop_of result) }
     {
@@ -145,18 +133,12 @@ impl Batch {
     fn begin(&mut self, dir: &Dir, ask: &RecvAsk, header: &Header) -> Result<(), RecvFault>
         requires header { StatesBegin header.now }
         requires stage { StageFits dir.now ask.now.target self.old.stage }
-        ensures began { (bound : Option ℕ) (image : List ℕ) (space : FreeSectors) (running : Plain) (work : Work) (c : Covered) (len : ℕ) → c.head ≡ heads.Begin header.now len → RunsBy bound (Has image space) dir.now running → TellsBefore ask.now work.stage dir.now running
-            → IsWork bound (Has image space) self.old work → Takes (IsWork bound (Has image space) self.new) work (taken ask.now running c work) result }
-        ensures stays { OnErr result (self.new ≡ self.old) }
-        ensures idle { self.new.taken ≡ false → self.new ≡ self.old }
-        ensures waits { waits_at self.new.stage ≡ true → self.new ≡ self.old }
-        ensures begins { OnOk result (waits_at self.new.stage ≡ false) }
-        ensures lives { has_partial self.new.stage ≡ true → is_live self.old.stage ≡ true }
-        ensures still { is_live self.old.stage ≡ true → is_live self.new.stage ≡ true }
+        ensures began { (bound : Option ℕ) (image : List ℕ) (space : FreeSectors) (running : Plain) (plain : PlainBatch) (c : Covered) (len : ℕ) → c.head ≡ heads.Begin header.now len → RunsBy bound (Has image space) dir.now running → TellsBefore ask.now plain.stage dir.now running
+            → IsBatch bound (Has image space) self.old plain → Takes (IsBatch bound (Has image space) self.new) plain (taken ask.now running c plain) result }
+        ensures moves { (len : ℕ) → Moves dir.now ask.now.target (heads.Begin header.now len) self.old self.new result }
         ensures known { IfErr result IsRecordFault }
         ensures planned { (running : Plain) → waits_at self.old.stage ≡ true → AreNamed dir.now running → TellsNeeded dir.now running ask.now header.now → IsPlannedBy (recv_plan ask.now header.now running) result }
         ensures because { OnErr result (waits_at self.old.stage ≡ true) }
-        ensures stage { StageFits dir.now ask.now.target self.new.stage }
         ensures no_block { stop_of result ≡ None }
     {
         if !matches!(self.stage, Stage::Waits) {
@@ -173,12 +155,9 @@ impl Batch {
 
     // END: the partial state is to become the snapshot.
     fn end(&mut self)
-        ensures ended { (bound : Option ℕ) (image : List ℕ) (space : FreeSectors) (running : Plain) (ask : Ask) (work : Work) (c : Covered) (sums : List ℕ) (to : ℕ) → c.head ≡ heads.End sums to
-            → IsWork bound (Has image space) self.old work → (after : Work) × (taken ask running c work ≡ Ok after) × IsWork bound (Has image space) self.new after }
-        ensures idle { self.new.taken ≡ false → self.new ≡ self.old }
-        ensures waits { waits_at self.new.stage ≡ true → self.new ≡ self.old }
-        ensures ends { has_partial self.new.stage ≡ false }
-        ensures stage { (rows : Rows) (target : List ℕ) → StageFits rows target self.old.stage → StageFits rows target self.new.stage }
+        ensures ended { (bound : Option ℕ) (image : List ℕ) (space : FreeSectors) (running : Plain) (ask : Ask) (plain : PlainBatch) (c : Covered) (sums : List ℕ) (to : ℕ) → c.head ≡ heads.End sums to
+            → IsBatch bound (Has image space) self.old plain → (after : PlainBatch) × (taken ask running c plain ≡ Ok after) × IsBatch bound (Has image space) self.new after }
+        ensures moves { (rows : Rows) (target sums : List ℕ) (to : ℕ) → Moves {A = Unit {0}} rows target (heads.End sums to) self.old self.new (Ok tt) }
     {
         match mem::replace(&mut self.stage, Stage::Over) {
             Stage::Lives { partial, .. } => {
@@ -199,19 +178,14 @@ impl Batch {
         requires covered { IsRead (covered_of covered.now) }
         requires later { IsLater covered.now.head.now }
         requires not_last { closing covered.now.head.now ≡ None }
-        ensures took { (tight : Bool) (running : Plain) (ask : Ask) (work : Work) → IsHonest io.new → number ≡ running.number + 1
-            → IsWork (bound_of tight (running.number + 1)) (blocks_of io.old) self.old work
-            → Takes (IsWork (bound_of tight (running.number + 1)) (blocks_of io.new) self.new) work (taken ask running (covered_of covered.now) work) result }
-        ensures stays { OnErr result (self.new ≡ self.old) }
-        ensures idle { self.new.taken ≡ false → self.new ≡ self.old }
-        ensures waits { waits_at self.new.stage ≡ true → self.new ≡ self.old }
-        ensures lives { has_partial self.new.stage ≡ true → is_live self.old.stage ≡ true }
-        ensures still { is_live self.old.stage ≡ true → is_live self.new.stage ≡ true }
+        ensures took { (tight : Bool) (running : Plain) (ask : Ask) (plain : PlainBatch) → IsHonest io.new → number ≡ running.number + 1
+            → IsBatch (bound_of tight (running.number + 1)) (blocks_of io.old) self.old plain
+            → Takes (IsBatch (bound_of tight (running.number + 1)) (blocks_of io.new) self.new) plain (taken ask running (covered_of covered.now) plain) result }
+        ensures moves { (rows : Rows) (target : List ℕ) → Moves rows target covered.now.head.now self.old self.new result }
         ensures known { IfErr result IsRecordFault }
         ensures damaged { (rows : Rows) (target : List ℕ) (sector : ℕ) (stated found : List ℕ) → IsHonest io.new → StageFits rows target self.old.stage → result ≡ Err (RecvFault.Pool (PoolFault.Damaged sector stated found))
             → IsDamagedState (IsSparedBy io.old) (disk_of io.old).size rows target sector stated found }
         ensures unplanned { (fault : PlanFault) → result ≡ Err (RecvFault.Pool (PoolFault.Plan fault)) → is_planned fault ≡ false }
-        ensures stage { (rows : Rows) (target : List ℕ) → StageFits rows target self.old.stage → StageFits rows target self.new.stage }
         ensures fills { Fills (io_of io.old) (io_of io.new) (stop_of result) }
         ensures spends { Spends (covered_of covered.now ∷ []) io.old.space io.new.space (stop_of result) }
     {

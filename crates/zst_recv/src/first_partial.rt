@@ -13,7 +13,7 @@ ghost use Rattle.zst_plan.specs.Places.{AnswerAlike, FindAlike, StandsAt};
 ghost use Rattle.zst_plan.specs.Receipts.{TellsNeeded};
 ghost use Rattle.zst_plan.specs.RecvPlan.{Base, recv_plan, snapshot_name};
 ghost use Rattle.zst_recv.specs.ReceiveSteps.{begun, opened};
-ghost use Rattle.zst_recv.specs.Stages.{CanPut, IsWork, StageFits, has_partial, is_live};
+ghost use Rattle.zst_recv.specs.Stages.{CanPutFor, IsBatch, StageFits, has_partial, is_live};
 ghost use Rattle.zst_tree.specs.Sets.{SetFits};
 
 use crate::batch::Batch;
@@ -61,7 +61,7 @@ fn begun(dir: &Dir, ask: &RecvAsk, header: &Header, name: &SnapName, base: Optio
     requires header { IsStated header.now }
     requires name { dataset_of 64 name.now ≡ ask.now.target }
     requires new { HasSnapshot dir.now name.now → ⊥ }
-    ensures fits { CanPut dir.now ask.now.target result }
+    ensures fits { CanPutFor dir.now ask.now.target result }
     ensures begun { (bound : Option ℕ) (image : List ℕ) (space : FreeSectors) (running : Plain) (component : List ℕ) (found : Base)
         → RunsBy bound (Has image space) dir.now running → FindAlike (StandsAt dir.now.snapshots running.snapshots) base found.snapshot → name.now ≡ snapshot_name ask.now.target component
         → PartialIs bound (Has image space) result (begun ask.now header.now component found) }
@@ -107,7 +107,7 @@ pub(crate) fn open(dir: &Dir, ask: &RecvAsk, header: &Header) -> Result<Batch, P
     ensures live { IfOk result (λ batch. is_live batch.stage ≡ true) }
     ensures taken { IfOk result (λ batch. batch.taken ≡ true) }
     ensures exact { (bound : Option ℕ) (image : List ℕ) (space : FreeSectors) (running : Plain) → RunsBy bound (Has image space) dir.now running → TellsNeeded dir.now running ask.now header.now
-        → AnswerAlike (λ batch plan. IsWork bound (Has image space) batch (opened ask.now header.now plan)) result (recv_plan ask.now header.now running) }
+        → AnswerAlike (λ batch plan. IsBatch bound (Has image space) batch (opened ask.now header.now plan)) result (recv_plan ask.now header.now running) }
     // Whether it begins is for the rows alone to say, whatever the object sets hold.
     ensures planned { (running : Plain) → AreNamed dir.now running → TellsNeeded dir.now running ask.now header.now → AnswerAlike (λ batch plan. Unit {0}) result (recv_plan ask.now header.now running) }
 {

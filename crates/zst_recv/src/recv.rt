@@ -1,5 +1,5 @@
 ghost use Rattle.std.specs.Prelude.{◌≡◌};
-ghost use Rattle.zst_recv.specs.Faults.{stream_limit};
+ghost use Rattle.zst_reader.specs.InputReads.{stream_limit};
 
 use crate::batch::Batch;
 use crate::commits::{keeps_before, put};
@@ -37,28 +37,26 @@ pub struct Recv {
 }
 
 impl Recv {
-    ghost use Rattle.std.specs.Prelude.{◌≡◌, ◌+◌, ◌<◌, ◌≤◌, ◌||◌, ◌-◌, ℕ, Bool, List, [], length, Option, IfErr, IfOk, IsSome, OnOk, Err, false, true, not, sum_by, if◌then◌else◌, ◌++◌};
-    ghost use Rattle.zst_block.specs.Blocks.{Has, KeepsBlocks};
+    ghost use Rattle.std.specs.Prelude.{◌≡◌, ◌-◌, ℕ, Bool, List, Option, IfErr, IfOk, Err, false, true, not, sum_by, if◌then◌else◌, ◌++◌};
+    ghost use Rattle.zst_block.specs.Blocks.{Has};
     ghost use Rattle.zst_block.specs.IoStates.{IsHonest, disk_of};
-    ghost use Rattle.zst_block.specs.IoCalls.{HasCause, fails};
     ghost use Rattle.zst_image.specs.Commits.{Ready};
     ghost use Rattle.zst_image.specs.Reads.{bound_of, free_by};
-    ghost use Rattle.zst_model.specs.declared.refusals.plan_fault.PlanFault.{PlanFault as PlainPlanFault};
-    ghost use Rattle.zst_model.specs.declared.refusals.stream_fault.StreamFault.{StreamFault as PlainFault};
     ghost use Rattle.zst_model.specs.pools.Pool.{Pool as Plain};
     ghost use Rattle.zst_pool.specs.Calls.{IsAtRest};
     ghost use Rattle.zst_pool.specs.Partials.{without_unkept};
-    ghost use Rattle.zst_reader.specs.StandsFor.{HandsOut, StandsFor, pushed_of};
+    ghost use Rattle.zst_reader.specs.StandsFor.{StandsFor};
     ghost use Rattle.zst_record.specs.Heads.{Covered, size_of};
-    ghost use Rattle.zst_stream.specs.Reading.{complete, faulty, reading, waiting};
-    ghost use Rattle.zst_space.specs.FreeSectors.{FreeSectors, largest_of};
-    ghost use Rattle.zst_recv.specs.Answers.{Feeds, goes_on};
-    ghost use Rattle.zst_recv.specs.Costs.{PieceGrows, PieceIsShort, records_behind};
+    ghost use Rattle.zst_space.specs.FreeSectors.{FreeSectors};
+    ghost use Rattle.zst_recv.specs.Answers.{Feeds};
+    ghost use Rattle.zst_recv.specs.Costs.{CostsPiece, records_behind};
     ghost use Rattle.zst_recv.specs.Damage.{IsDamagedFeed};
-    ghost use Rattle.zst_recv.specs.Faults.{IsFeedFault, cut_of, stop_of, stream_limit};
-    ghost use Rattle.zst_recv.specs.Plans.{RefusesEach, RefusesOne, is_planned};
-    ghost use Rattle.zst_recv.specs.ReceiveSteps.{Stage as PlainStage, Waits, left_by};
-    ghost use Rattle.zst_recv.specs.Stages.{Receives, RecvFits, TellsBefore, fed_of, is_live, is_waiting, point_in, received_by, stage_behind};
+    ghost use Rattle.zst_recv.specs.Faults.{cut_of};
+    ghost use Rattle.zst_recv.specs.FedPools.{LeavesPool};
+    ghost use Rattle.zst_recv.specs.FedReceives.{IsFresh, LeavesReceive};
+    ghost use Rattle.zst_recv.specs.ReadTexts.{ReadsText};
+    ghost use Rattle.zst_recv.specs.ReceiveSteps.{Stage as PlainStage, left_by};
+    ghost use Rattle.zst_recv.specs.Stages.{Receives, RecvFits, TellsBefore, ask_of, fed_of, is_live, is_waiting, point_in, reader_of, received_by, stage_behind, stage_of};
 
     /// Begins a receive, and takes all of its memory. Nothing is read or committed.
     pub fn open<D: Disk>(
@@ -66,13 +64,7 @@ impl Recv {
         alloc: Global,
         ask: RecvAsk,
     ) -> Result<Recv, PoolFault>
-        ensures opens { (bound : Option ℕ) (image : List ℕ) (space : FreeSectors) → IfOk result (λ recv. Receives bound (Has image space) recv [] Waits) }
-        ensures stands { IfOk result (λ recv. StandsFor recv.reader [] []) }
-        ensures ask { IfOk result (λ recv. recv.ask ≡ ask) }
-        ensures fits { IfOk result (RecvFits pool.new.kept.dir) }
-        ensures live { IfOk result (λ recv. is_live recv.stage ≡ true) }
-        ensures waiting { IfOk result (λ recv. is_waiting recv ≡ true) }
-        ensures fed { IfOk result (λ recv. fed_of recv ≡ 0) }
+        ensures fresh { IfOk result (IsFresh pool.new.kept.dir ask) }
         ensures failed_pool { pool.old.io.failed ≡ true → result ≡ Err PoolFault.Failed }
         ensures known { pool.old.io.failed ≡ false → IfErr result (λ fault. fault ≡ PoolFault.OutOfMemory) }
         ensures disk { pool.new.io.disk.now ≡ pool.old.io.disk.now }
@@ -93,7 +85,7 @@ impl Recv {
 
     /// Whether it goes on: it is over after END and after a refusal.
     pub fn live(&self) -> bool
-        ensures { result ≡ is_live self.now.stage }
+        ensures { result ≡ is_live (stage_of self.now) }
     {
         self.stage.is_live()
     }
@@ -120,67 +112,27 @@ impl Recv {
         alloc: Global,
         piece: &[u8],
     ) -> Result<FeedReport, RecvFault>
-        requires live { is_live self.old.stage ≡ true }
+        requires live { is_live (stage_of self.old) ≡ true }
         requires recv { RecvFits pool.old.kept.dir self.old }
         requires ready { pool.old.io.failed ≡ false → Ready (disk_of pool.old.io) pool.old.kept.body }
         // What the definition makes of the pool that runs and of the receive, at every moment and in the end.
         ensures feeds { (tight : Bool) (running : Plain) (text : List ℕ) (stage : PlainStage) → IsHonest pool.new.io → pool.old.io.failed ≡ false
-            → IsAtRest tight (disk_of pool.old.io) pool.old.kept running → TellsBefore self.old.ask stage pool.old.kept.dir running
+            → IsAtRest tight (disk_of pool.old.io) pool.old.kept running → TellsBefore (ask_of self.old) stage pool.old.kept.dir running
             → Receives (bound_of tight running.number) (Has (disk_of pool.old.io).seen (free_by pool.old.kept.body)) self.old text stage
             → Feeds tight (disk_of pool.old.io) (disk_of pool.new.io) pool.new.kept self.new text piece.now stage running result }
-        // Whatever the image, E24 comes only where the longest extent that is then free is shorter than what is needed.
-        ensures full { (need largest : ℕ) → result ≡ Err (RecvFault.Pool (PoolFault.Full need largest)) → (largest < need) × (largest ≡ largest_of pool.new.io.space) }
-        // Whatever the image and the text: fewer sectors were free before it than the piece costs, by what it covers behind what was handed out.
-        ensures short { (text : List ℕ) (handed : List Covered) (need largest : ℕ) → StandsFor self.old.reader text handed → result ≡ Err (RecvFault.Pool (PoolFault.Full need largest))
-            → PieceIsShort (records_behind handed (text ++ piece.now)) pool.old.kept pool.new.io.space need largest }
-        // And where it is taken, no more sectors are taken than it costs.
-        ensures grows { (text : List ℕ) (handed : List Covered) → StandsFor self.old.reader text handed → OnOk result (PieceGrows (records_behind handed (text ++ piece.now)) pool.old.kept pool.new.kept) }
-        // After E24 the body is as it was.
-        ensures stays { (need largest : ℕ) → result ≡ Err (RecvFault.Pool (PoolFault.Full need largest)) → pool.new.kept.body ≡ pool.old.kept.body }
-        ensures ask { self.new.ask ≡ self.old.ask }
-        ensures live { is_live self.new.stage ≡ goes_on result }
-        ensures recv { RecvFits pool.new.kept.dir self.new }
-        // All of a piece that doesn't end the stream was taken, and a stream has no more bytes than it may have.
-        ensures fed { IfOk result (λ told. told.done ≡ false → fed_of self.new ≡ fed_of self.old + length piece.now) }
-        ensures within { fed_of self.new ≤ stream_limit }
-        // With END there is the snapshot.
-        ensures received { IfOk result (λ told. told.done ≡ true → IsSome (received_by self.new)) }
-        // As long as BEGIN isn't covered nothing is committed.
-        ensures waits { is_waiting self.new ≡ true → pool.new.kept ≡ pool.old.kept }
-        // A pool that has failed answers nothing else, and does nothing.
-        ensures failed_pool { pool.old.io.failed ≡ true → result ≡ Err (RecvFault.Pool PoolFault.Failed) }
-        ensures idle_disk { pool.old.io.failed ≡ true → pool.new.io.disk.now ≡ pool.old.io.disk.now }
-        // Whatever the image, there is no other refusal, and only a pool that has failed answers so.
-        ensures known { pool.old.io.failed ≡ false → IfErr result IsFeedFault }
-        // E17 to E19 are of the stream alone.
-        ensures stream { (text : List ℕ) (handed : List Covered) (fault : PlainFault) → StandsFor self.old.reader text handed → result ≡ Err (RecvFault.Stream fault) → (reading (text ++ piece.now)).outcome ≡ faulty fault }
-        // Whatever the image, a receive that goes on stands for all that it was fed.
-        ensures stands { (text : List ℕ) (handed : List Covered) → StandsFor self.old.reader text handed → IfOk result (λ told. told.done ≡ false → (later : List Covered) × StandsFor self.new.reader (text ++ piece.now) later) }
-        // And if it had handed out all that it covered, it has again.
-        ensures hands_out { (text : List ℕ) (handed : List Covered) → HandsOut self.old.reader text handed waiting → IfOk result (λ told. told.done ≡ false → (later : List Covered) × HandsOut self.new.reader (text ++ piece.now) later waiting) }
-        // With END the reading of all that it was fed is complete.
-        ensures whole { (text : List ℕ) (handed : List Covered) → StandsFor self.old.reader text handed → IfOk result (λ told. told.done ≡ true → (reading (text ++ piece.now)).outcome ≡ complete) }
+        // Whatever the image and the text that it was fed: what reading says of it with the piece, unless the pool has failed, and what
+        // the piece costs by what it covers behind what was handed out.
+        ensures texts { pool.old.io.failed ≡ false → (text : List ℕ) (handed : List Covered) → StandsFor (reader_of self.old) text handed
+            → ReadsText pool.old.kept.dir (ask_of self.old) text handed (text ++ piece.now) (stage_of self.old) (stage_of self.new) (reader_of self.new) result }
+        ensures costs { (text : List ℕ) (handed : List Covered) → StandsFor (reader_of self.old) text handed
+            → CostsPiece (records_behind handed (text ++ piece.now)) pool.old.kept pool.new.kept pool.new.io.space result }
         // Whatever the image, E25 tells a damage of a set of this target's partial state, as the refused record found it.
         ensures damaged { (sector : ℕ) (stated found : List ℕ) → IsHonest pool.new.io → pool.old.io.failed ≡ false → result ≡ Err (RecvFault.Pool (PoolFault.Damaged sector stated found))
-            → IsDamagedFeed (disk_of pool.old.io) (free_by pool.old.kept.body) pool.old.kept.dir self.old.ask.target sector stated found }
-        // Whatever the image, where BEGIN is covered and its plan refuses a pool that the rows name, that is the answer: nothing else, as
-        // E24, E25 or E28, comes before. And of all but limits no other answer is a plan's: it refuses each pool that they name.
-        ensures planned { (text : List ℕ) (handed : List Covered) (fault : PlainPlanFault) → pool.old.io.failed ≡ false → is_waiting self.old ≡ true → StandsFor self.old.reader text handed → (reading text).covered ≡ []
-            → length text + length piece.now ≤ stream_limit → RefusesOne pool.old.kept.dir self.old.ask (text ++ piece.now) fault → result ≡ Err (RecvFault.Pool (PoolFault.Plan fault)) }
-        ensures because { (text : List ℕ) (handed : List Covered) (fault : PlainPlanFault) → pool.old.io.failed ≡ false → StandsFor self.old.reader text handed → is_planned fault ≡ true → result ≡ Err (RecvFault.Pool (PoolFault.Plan fault))
-            → (is_waiting self.old ≡ true) × RefusesEach pool.old.kept.dir self.old.ask (text ++ piece.now) fault }
-        // It waits for BEGIN as long as nothing is covered, and never again.
-        ensures waited { is_waiting self.new ≡ true → is_waiting self.old ≡ true }
-        ensures still { (text : List ℕ) (handed : List Covered) → is_waiting self.old ≡ true → StandsFor self.old.reader text handed → (reading (text ++ piece.now)).covered ≡ [] → OnOk result (is_waiting self.new ≡ true) }
-        ensures uncovered { (text : List ℕ) (handed : List Covered) → StandsFor self.old.reader text handed → (reading text).covered ≡ [] → is_waiting self.new ≡ true → (reading (text ++ piece.now)).covered ≡ [] }
-        ensures open_still { pool.old.io.failed ≡ false → ¬ (result ≡ Err (RecvFault.Pool PoolFault.Failed)) }
-        // Where it goes on, the blocks that were there still are, over the sectors that the latest body leaves free.
-        ensures blocks { IfOk result (λ told. told.done ≡ false → KeepsBlocks (disk_of pool.old.io).seen (free_by pool.old.kept.body) (disk_of pool.new.io).seen (free_by pool.new.kept.body)) }
-        ensures ready { pool.new.io.failed ≡ false → Ready (disk_of pool.new.io) pool.new.kept.body }
-        ensures failed { pool.new.io.failed ≡ (pool.old.io.failed || fails (stop_of result)) }
-        ensures cause { HasCause (disk_of pool.old.io).faults (disk_of pool.new.io).faults (stop_of result) }
-        ensures honest { IsHonest pool.new.io → IsHonest pool.old.io }
-        ensures same { pool.new.io.disk.ghost_name ≡ pool.old.io.disk.ghost_name }
+            → IsDamagedFeed (disk_of pool.old.io) (free_by pool.old.kept.body) pool.old.kept.dir (ask_of self.old).target sector stated found }
+        // As long as BEGIN isn't covered nothing is committed.
+        ensures waits { is_waiting self.new ≡ true → pool.new.kept ≡ pool.old.kept }
+        ensures pool { LeavesPool pool.old pool.new result }
+        ensures receive { LeavesReceive pool.new.kept.dir piece.now self.old self.new result }
     {
         if pool.io.failed {
             self.stage = Stage::Over;
@@ -211,7 +163,7 @@ impl Recv {
     /// Ends a receive: E20 where it was live, and its partial state stays only where it is kept.
     pub fn cut<D: Disk>(self, pool: &mut Pool<'_, D>) -> Result<(), StreamFault>
         requires recv { RecvFits pool.old.kept.dir self }
-        ensures result { result ≡ cut_of (is_live self.stage) (pushed_of self.reader) }
+        ensures result { result ≡ cut_of (is_live (stage_of self)) (fed_of self) }
         ensures rests { (tight : Bool) (bound : Option ℕ) (disk : D) (running : Plain) (image : List ℕ) (space : FreeSectors) (stage : PlainStage) (text : List ℕ) → IsAtRest tight (D.state disk) pool.old.kept running
             → Receives bound (Has image space) self text stage → IsAtRest tight (D.state disk) pool.new.kept (left_by stage running) }
         ensures body { pool.new.kept.body ≡ pool.old.kept.body }
@@ -231,11 +183,11 @@ impl Recv {
 
     // Goes on behind what was committed, and tells of it.
     fn go_on(&mut self, batch: Batch, started: u64, len: usize) -> FeedReport
-        ensures ask { self.new.ask ≡ self.old.ask }
-        ensures reader { self.new.reader ≡ self.old.reader }
-        ensures stage { self.new.stage ≡ stage_behind batch.stage }
+        ensures ask { ask_of self.new ≡ ask_of self.old }
+        ensures reader { reader_of self.new ≡ reader_of self.old }
+        ensures stage { stage_of self.new ≡ stage_behind batch.stage }
         ensures all { is_live batch.stage ≡ true → result.used ≡ len }
-        ensures front { (text : List ℕ) (handed : List Covered) → StandsFor self.old.reader text handed → is_live batch.stage ≡ false → result.used ≡ sum_by (λ c. size_of c.head) handed - started }
+        ensures front { (text : List ℕ) (handed : List Covered) → StandsFor (reader_of self.old) text handed → is_live batch.stage ≡ false → result.used ≡ sum_by (λ c. size_of c.head) handed - started }
         ensures applied { result.applied ≡ batch.applied }
         ensures point { result.point ≡ point_in batch.stage }
         ensures done { result.done ≡ not (is_live batch.stage) }
@@ -258,11 +210,11 @@ impl Recv {
 
     // It is over, and the partial state of the target goes, where it was committed and isn't kept.
     fn leave<D: Disk>(&mut self, pool: &mut Pool<'_, D>, held: bool)
-        ensures over { self.new.stage ≡ Stage.Over }
-        ensures ask { self.new.ask ≡ self.old.ask }
-        ensures reader { self.new.reader ≡ self.old.reader }
+        ensures over { stage_of self.new ≡ Stage.Over }
+        ensures ask { ask_of self.new ≡ ask_of self.old }
+        ensures reader { reader_of self.new ≡ reader_of self.old }
         ensures rests { (tight : Bool) (disk : D) (running : Plain) → IsAtRest tight (D.state disk) pool.old.kept running
-            → IsAtRest tight (D.state disk) pool.new.kept (if held then without_unkept self.old.ask.target running else running) }
+            → IsAtRest tight (D.state disk) pool.new.kept (if held then without_unkept (ask_of self.old).target running else running) }
         ensures body { pool.new.kept.body ≡ pool.old.kept.body }
         ensures io { pool.new.io ≡ pool.old.io }
     {
@@ -280,11 +232,11 @@ impl Recv {
         fault: RecvFault,
     ) -> RecvFault
         ensures fault { result ≡ fault }
-        ensures over { self.new.stage ≡ Stage.Over }
-        ensures ask { self.new.ask ≡ self.old.ask }
-        ensures reader { self.new.reader ≡ self.old.reader }
+        ensures over { stage_of self.new ≡ Stage.Over }
+        ensures ask { ask_of self.new ≡ ask_of self.old }
+        ensures reader { reader_of self.new ≡ reader_of self.old }
         ensures rests { (tight : Bool) (disk : D) (running : Plain) → IsAtRest tight (D.state disk) pool.old.kept running
-            → IsAtRest tight (D.state disk) pool.new.kept (if held then without_unkept self.old.ask.target running else running) }
+            → IsAtRest tight (D.state disk) pool.new.kept (if held then without_unkept (ask_of self.old).target running else running) }
         ensures body { pool.new.kept.body ≡ pool.old.kept.body }
         ensures io { pool.new.io ≡ pool.old.io }
     {

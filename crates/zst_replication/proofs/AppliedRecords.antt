@@ -15,7 +15,7 @@ use Rattle.zst_record.specs.declared.head.Head.TheVariants as heads
 use Rattle.zst_record.specs.Heads.{Covered}
 use Rattle.zst_stream.specs.Items.{items_by, items_of}
 use Rattle.zst_stream.specs.PassedRecords.{IsBegin}
-use Rattle.zst_recv.specs.ReceiveSteps.{Stage, Waits, Lives, Ends, Work, batch, batch_by, began, begun, moved_by, of_plan, opened, taken, taken_at, went_on, with_applied}
+use Rattle.zst_recv.specs.ReceiveSteps.{Stage, Waits, Lives, Ends, Batch, batch_of, batch_by, began, begun, moved_by, of_plan, opened, taken, taken_at, went_on, with_applied}
 use Rattle.zst_replication.specs.Resumption.{IsApplied}
 use Rattle.zst_replication.proofs.RecordEffects.{all_applied, applied_on, moves, points_on}
 use Rattle.zst_replication.proofs.FirstRecords.{FirstIsBegin}
@@ -88,18 +88,18 @@ module _ (law : ReceivedIsApplied) (ask : RecvAsk) (start pool : Pool) where
   opened_applied c header len (Resumes old) head planned = begun_behind c header len (Resumes old) old head planned refl
   opened_applied c header len (Begins component base) head planned = begun_behind c header len (Begins component base) (begun ask header component base) head planned refl
 
-  began_applied : (c : Covered) (work after : Work) (head : Head) → c.head ≡ head → IsBegin head → pool ≡ start → began ask pool work head ≡ Ok after → Applied ask start pool after.stage (c ∷ [])
-  began_applied c work after (heads.Begin header len) head is same e =
+  began_applied : (c : Covered) (batch after : Batch) (head : Head) → c.head ≡ head → IsBegin head → pool ≡ start → began ask pool batch head ≡ Ok after → Applied ask start pool after.stage (c ∷ [])
+  began_applied c batch after (heads.Begin header len) head is same e =
       let found = bound (of_plan (recv_plan ask header pool)) (λ plan. Ok (opened ask header plan)) after e in
-      subst (λ (w : Work). Applied ask start pool w.stage (c ∷ [])) (ok_parts _ _ found.2)
+      subst (λ (w : Batch). Applied ask start pool w.stage (c ∷ [])) (ok_parts _ _ found.2)
       (opened_applied c header len found.0 head (subst (λ (p : Pool). recv_plan ask header p ≡ Ok found.0) same (plan_ok _ found.0 found.1)))
-  began_applied c work after (heads.Object object kind bonus_kind block_size bonus_len max_block to) head is same e = absurd is
-  began_applied c work after (heads.FreeObjects first count to) head is same e = absurd is
-  began_applied c work after (heads.Write object kind offset size to) head is same e = absurd is
-  began_applied c work after (heads.Free object offset size to) head is same e = absurd is
-  began_applied c work after (heads.End sums to) head is same e = absurd is
-  began_applied c work after (heads.Spill object size to) head is same e = absurd is
-  began_applied c work after (heads.Redact object offset size to) head is same e = absurd is
+  began_applied c batch after (heads.Object object kind bonus_kind block_size bonus_len max_block to) head is same e = absurd is
+  began_applied c batch after (heads.FreeObjects first count to) head is same e = absurd is
+  began_applied c batch after (heads.Write object kind offset size to) head is same e = absurd is
+  began_applied c batch after (heads.Free object offset size to) head is same e = absurd is
+  began_applied c batch after (heads.End sums to) head is same e = absurd is
+  began_applied c batch after (heads.Spill object size to) head is same e = absurd is
+  began_applied c batch after (heads.Redact object offset size to) head is same e = absurd is
 
   -- ---- the records behind it
 
@@ -133,55 +133,55 @@ module _ (law : ReceivedIsApplied) (ask : RecvAsk) (start pool : Pool) where
         head_is = behind.head_is;
       }
 
-  moved_applied : (c : Covered) (records : List Covered) (flags : ℕ) (partial : Partial) (work after : Work) → AppliedBehind ask start records flags partial
-      → (moved_by (pool.number + 1) c flags partial >>= λ next. Ok (with_applied flags next work)) ≡ Ok after → Applied ask start pool after.stage (records ++ c ∷ [])
-  moved_applied c records flags partial work after behind e =
-      let found = bound (moved_by (pool.number + 1) c flags partial) (λ next. Ok (with_applied flags next work)) after e in
+  moved_applied : (c : Covered) (records : List Covered) (flags : ℕ) (partial : Partial) (batch after : Batch) → AppliedBehind ask start records flags partial
+      → (moved_by (pool.number + 1) c flags partial >>= λ next. Ok (with_applied flags next batch)) ≡ Ok after → Applied ask start pool after.stage (records ++ c ∷ [])
+  moved_applied c records flags partial batch after behind e =
+      let found = bound (moved_by (pool.number + 1) c flags partial) (λ next. Ok (with_applied flags next batch)) after e in
       let moved = moves (pool.number + 1) c flags partial found.0 found.1 in
-      subst (λ (w : Work). Applied ask start pool w.stage (records ++ c ∷ [])) (ok_parts _ _ found.2)
+      subst (λ (w : Batch). Applied ask start pool w.stage (records ++ c ∷ [])) (ok_parts _ _ found.2)
       (behind_on c records flags partial found.0 behind
       (all_applied law (pool.number + 1) c.index (items_by flags c.payload c.head) partial.objects found.0.objects moved.objects) moved.point moved.further)
 
-  went_applied : (c : Covered) (records : List Covered) (flags : ℕ) (partial : Partial) (work after : Work) (head : Head) → c.head ≡ head → work.stage ≡ Lives flags partial
-      → AppliedBehind ask start records flags partial → went_on (pool.number + 1) c flags partial work head ≡ Ok after → Applied ask start pool after.stage (records ++ c ∷ [])
-  went_applied c records flags partial work after (heads.Begin header len) head is behind e =
+  went_applied : (c : Covered) (records : List Covered) (flags : ℕ) (partial : Partial) (batch after : Batch) (head : Head) → c.head ≡ head → batch.stage ≡ Lives flags partial
+      → AppliedBehind ask start records flags partial → went_on (pool.number + 1) c flags partial batch head ≡ Ok after → Applied ask start pool after.stage (records ++ c ∷ [])
+  went_applied c records flags partial batch after (heads.Begin header len) head is behind e =
       let none : items_by flags c.payload c.head ≡ [] = ap (items_by flags c.payload) head in
-      subst (λ (s : Stage). Applied ask start pool s (records ++ c ∷ [])) (sym is ∙ ap (λ (w : Work). w.stage) (ok_parts _ _ e))
+      subst (λ (s : Stage). Applied ask start pool s (records ++ c ∷ [])) (sym is ∙ ap (λ (w : Batch). w.stage) (ok_parts _ _ e))
       (behind_on c records flags partial partial behind (ap (λ (is : List Item). apply_all is partial.objects.state) none) (sym (ap (point_of partial.point) none)) refl)
-  went_applied c records flags partial work after (heads.End sums to) head is behind e =
-      subst (λ (w : Work). Applied ask start pool w.stage (records ++ c ∷ [])) (ok_parts _ _ e)
+  went_applied c records flags partial batch after (heads.End sums to) head is behind e =
+      subst (λ (w : Batch). Applied ask start pool w.stage (records ++ c ∷ [])) (ok_parts _ _ e)
       (record { flags = flags; front = records; last = c; more = []; records_are = refl; ends = subst (λ (h : Head). IsEnd h) (sym head) tt; behind = behind })
-  went_applied c records flags partial work after (heads.Object object kind bonus_kind block_size bonus_len max_block to) head is behind e = moved_applied c records flags partial work after behind e
-  went_applied c records flags partial work after (heads.FreeObjects first count to) head is behind e = moved_applied c records flags partial work after behind e
-  went_applied c records flags partial work after (heads.Write object kind offset size to) head is behind e = moved_applied c records flags partial work after behind e
-  went_applied c records flags partial work after (heads.Free object offset size to) head is behind e = moved_applied c records flags partial work after behind e
-  went_applied c records flags partial work after (heads.Spill object size to) head is behind e = moved_applied c records flags partial work after behind e
-  went_applied c records flags partial work after (heads.Redact object offset size to) head is behind e = moved_applied c records flags partial work after behind e
+  went_applied c records flags partial batch after (heads.Object object kind bonus_kind block_size bonus_len max_block to) head is behind e = moved_applied c records flags partial batch after behind e
+  went_applied c records flags partial batch after (heads.FreeObjects first count to) head is behind e = moved_applied c records flags partial batch after behind e
+  went_applied c records flags partial batch after (heads.Write object kind offset size to) head is behind e = moved_applied c records flags partial batch after behind e
+  went_applied c records flags partial batch after (heads.Free object offset size to) head is behind e = moved_applied c records flags partial batch after behind e
+  went_applied c records flags partial batch after (heads.Spill object size to) head is behind e = moved_applied c records flags partial batch after behind e
+  went_applied c records flags partial batch after (heads.Redact object offset size to) head is behind e = moved_applied c records flags partial batch after behind e
 
-  taken_applied : (c : Covered) (records : List Covered) (work after : Work) (stage : Stage) → work.stage ≡ stage → (records ≡ [] → IsBegin c.head) → Applied ask start pool stage records
-      → taken_at ask pool c work stage ≡ Ok after → Applied ask start pool after.stage (records ++ c ∷ [])
-  taken_applied c records work after Waits is begins applied e =
-      subst (λ (cs : List Covered). Applied ask start pool after.stage (cs ++ c ∷ [])) (sym applied.1) (began_applied c work after c.head refl (begins applied.1) applied.0 e)
-  taken_applied c records work after (Lives flags partial) is begins behind e = went_applied c records flags partial work after c.head refl is behind e
-  taken_applied c records work after (Ends partial) is begins ended e =
-      subst (λ (s : Stage). Applied ask start pool s (records ++ c ∷ [])) (sym is ∙ ap (λ (w : Work). w.stage) (ok_parts _ _ e)) (ended_more ask start records (c ∷ []) partial ended)
+  taken_applied : (c : Covered) (records : List Covered) (batch after : Batch) (stage : Stage) → batch.stage ≡ stage → (records ≡ [] → IsBegin c.head) → Applied ask start pool stage records
+      → taken_at ask pool c batch stage ≡ Ok after → Applied ask start pool after.stage (records ++ c ∷ [])
+  taken_applied c records batch after Waits is begins applied e =
+      subst (λ (cs : List Covered). Applied ask start pool after.stage (cs ++ c ∷ [])) (sym applied.1) (began_applied c batch after c.head refl (begins applied.1) applied.0 e)
+  taken_applied c records batch after (Lives flags partial) is begins behind e = went_applied c records flags partial batch after c.head refl is behind e
+  taken_applied c records batch after (Ends partial) is begins ended e =
+      subst (λ (s : Stage). Applied ask start pool s (records ++ c ∷ [])) (sym is ∙ ap (λ (w : Batch). w.stage) (ok_parts _ _ e)) (ended_more ask start records (c ∷ []) partial ended)
 
   -- ---- all records of a feed
 
-  pub batch_applied : (done records : List Covered) (work : Work) → FirstIsBegin (done ++ records) → Applied ask start pool work.stage done → (batch ask pool records work).fault ≡ None
-      → Applied ask start pool (batch ask pool records work).work.stage (done ++ records)
-  unfolding batch
-  batch_applied done [] work begins applied free = subst (λ (cs : List Covered). Applied ask start pool work.stage cs) (sym (append-nil done)) applied
-  batch_applied done (c ∷ rest) work begins applied free =
+  pub batch_applied : (done records : List Covered) (batch : Batch) → FirstIsBegin (done ++ records) → Applied ask start pool batch.stage done → (batch_of ask pool records batch).fault ≡ None
+      → Applied ask start pool (batch_of ask pool records batch).batch.stage (done ++ records)
+  unfolding batch_of
+  batch_applied done [] batch begins applied free = subst (λ (cs : List Covered). Applied ask start pool batch.stage cs) (sym (append-nil done)) applied
+  batch_applied done (c ∷ rest) batch begins applied free =
       let same = append_assoc done (c ∷ []) rest in
-      go (taken ask pool c work) refl (λ after more f.
-      subst (λ (cs : List Covered). Applied ask start pool (batch ask pool rest after).work.stage cs) same
+      go (taken ask pool c batch) refl (λ after more f.
+      subst (λ (cs : List Covered). Applied ask start pool (batch_of ask pool rest after).batch.stage cs) same
       (batch_applied (done ++ c ∷ []) rest after (subst (λ (cs : List Covered). FirstIsBegin cs) (sym same) begins) more f)) free
     where
-      go : (r : Result Work Refusal) → taken ask pool c work ≡ r
-          → ((after : Work) → Applied ask start pool after.stage (done ++ c ∷ []) → (batch ask pool rest after).fault ≡ None → Applied ask start pool (batch ask pool rest after).work.stage (done ++ c ∷ rest))
-          → (batch_by r work (batch ask pool rest)).fault ≡ None → Applied ask start pool (batch_by r work (batch ask pool rest)).work.stage (done ++ c ∷ rest)
-      go (Ok after) e on f = on after (taken_applied c done work after work.stage refl (λ none. subst (λ (cs : List Covered). FirstIsBegin (cs ++ c ∷ rest)) none begins) applied e) f
+      go : (r : Result Batch Refusal) → taken ask pool c batch ≡ r
+          → ((after : Batch) → Applied ask start pool after.stage (done ++ c ∷ []) → (batch_of ask pool rest after).fault ≡ None → Applied ask start pool (batch_of ask pool rest after).batch.stage (done ++ c ∷ rest))
+          → (batch_by r batch (batch_of ask pool rest)).fault ≡ None → Applied ask start pool (batch_by r batch (batch_of ask pool rest)).batch.stage (done ++ c ∷ rest)
+      go (Ok after) e on f = on after (taken_applied c done batch after batch.stage refl (λ none. subst (λ (cs : List Covered). FirstIsBegin (cs ++ c ∷ rest)) none begins) applied e) f
       go (Err refusal) e on f = absurd cc
 
   -- those up to the first that is refused are some of the first of these
@@ -191,18 +191,18 @@ module _ (law : ReceivedIsApplied) (ask : RecvAsk) (start pool : Pool) where
     pub split : front ++ left ≡ all
     pub applied : Applied ask start pool stage front
 
-  pub batch_somewhere : (done records : List Covered) (work : Work) → FirstIsBegin (done ++ records) → Applied ask start pool work.stage done
-      → AppliedFront (done ++ records) (batch ask pool records work).work.stage
-  unfolding batch
-  batch_somewhere done [] work begins applied = record { front = done; left = []; split = refl; applied = applied }
-  batch_somewhere done (c ∷ rest) work begins applied =
+  pub batch_somewhere : (done records : List Covered) (batch : Batch) → FirstIsBegin (done ++ records) → Applied ask start pool batch.stage done
+      → AppliedFront (done ++ records) (batch_of ask pool records batch).batch.stage
+  unfolding batch_of
+  batch_somewhere done [] batch begins applied = record { front = done; left = []; split = refl; applied = applied }
+  batch_somewhere done (c ∷ rest) batch begins applied =
       let same = append_assoc done (c ∷ []) rest in
-      go (taken ask pool c work) refl (λ after more.
-      subst (λ (cs : List Covered). AppliedFront cs (batch ask pool rest after).work.stage) same
+      go (taken ask pool c batch) refl (λ after more.
+      subst (λ (cs : List Covered). AppliedFront cs (batch_of ask pool rest after).batch.stage) same
       (batch_somewhere (done ++ c ∷ []) rest after (subst (λ (cs : List Covered). FirstIsBegin cs) (sym same) begins) more))
     where
-      go : (r : Result Work Refusal) → taken ask pool c work ≡ r
-          → ((after : Work) → Applied ask start pool after.stage (done ++ c ∷ []) → AppliedFront (done ++ c ∷ rest) (batch ask pool rest after).work.stage)
-          → AppliedFront (done ++ c ∷ rest) (batch_by r work (batch ask pool rest)).work.stage
-      go (Ok after) e on = on after (taken_applied c done work after work.stage refl (λ none. subst (λ (cs : List Covered). FirstIsBegin (cs ++ c ∷ rest)) none begins) applied e)
+      go : (r : Result Batch Refusal) → taken ask pool c batch ≡ r
+          → ((after : Batch) → Applied ask start pool after.stage (done ++ c ∷ []) → AppliedFront (done ++ c ∷ rest) (batch_of ask pool rest after).batch.stage)
+          → AppliedFront (done ++ c ∷ rest) (batch_by r batch (batch_of ask pool rest)).batch.stage
+      go (Ok after) e on = on after (taken_applied c done batch after batch.stage refl (λ none. subst (λ (cs : List Covered). FirstIsBegin (cs ++ c ∷ rest)) none begins) applied e)
       go (Err refusal) e on = record { front = done; left = c ∷ rest; split = refl; applied = applied }

@@ -12,12 +12,12 @@ use Rattle.zst_stream.specs.Laws.{FrontsAgree}
 use Rattle.zst_stream.specs.Reading.{after, reading, reading_from, ruling}
 use Rattle.zst_recv.specs.Answers.{is_done}
 use Rattle.zst_recv.specs.Feeds.{and_feed, fault_of, fed_piece, feeds, new_records, receives}
-use Rattle.zst_recv.specs.ReceiveSteps.{Stage, Waits, Lives, Ends, Fed, Goes, Stops, Batch, at_stage, batch, committed, fed, first_fault, is_kept, keeps_front, left_by, put, settled}
+use Rattle.zst_recv.specs.ReceiveSteps.{Stage, Waits, Lives, Ends, Fed, Goes, Stops, EndedBatch, at_stage, batch_of, committed, fed, first_fault, is_kept, keeps_front, left_by, put, settled}
 use Rattle.zst_replication.proofs.FeedSteps.{StopsBy, goes_on, new_are, stops_by}
 use Rattle.zst_replication.proofs.AppliedRecords.{Applied, batch_applied, batch_somewhere, ended_more}
 use Rattle.zst_replication.proofs.FirstRecords.{FirstIsBegin, first_is_begin}
 use Rattle.zst_replication.proofs.Rows.{filter_narrow}
-use Rattle.zst_replication.proofs.RunningPools.{Asked, Runs, Worked, batch_ended, batch_worked, nothing_worked, work_runs}
+use Rattle.zst_replication.proofs.RunningPools.{Asked, Runs, Worked, batch_ended, batch_worked, nothing_worked, batch_runs}
 
 -- what goes where a receive ends isn't kept
 pub kept_left : (stage : Stage) (pool : Pool) → kept_of (left_by stage pool) ≡ kept_of pool
@@ -37,15 +37,15 @@ module _ (ask : RecvAsk) (start : Pool) where
   same_waiting : (before : Stage) (pool : Pool) → Stands ask start before pool → before ≡ Waits → pool ≡ start
   same_waiting before pool stands waits = subst (λ (s : Stage). Runs ask start s pool) waits stands.runs
 
-  pub feed_worked : (before : Stage) (pool : Pool) (records : List Covered) → Stands ask start before pool → Worked ask start before (batch ask pool records (at_stage before)).work
+  pub feed_worked : (before : Stage) (pool : Pool) (records : List Covered) → Stands ask start before pool → Worked ask start before (batch_of ask pool records (at_stage before)).batch
   feed_worked before pool records stands =
       batch_worked ask start pool before (same_waiting before pool stands) records (at_stage before) (nothing_worked ask start before stands.asked)
 
   pub put_stands : (before : Stage) (pool next : Pool) (records : List Covered) → is_done before ≡ false → Stands ask start before pool
-      → put (batch ask pool records (at_stage before)).work pool ≡ Ok next → Stands ask start (batch ask pool records (at_stage before)).work.stage next
+      → put (batch_of ask pool records (at_stage before)).batch pool ≡ Ok next → Stands ask start (batch_of ask pool records (at_stage before)).batch.stage next
   put_stands before pool next records unended stands e =
       let worked = feed_worked before pool records stands in
-      record { runs = work_runs ask start before pool next (batch ask pool records (at_stage before)).work unended stands.runs stands.asked worked e; asked = worked.asked }
+      record { runs = batch_runs ask start before pool next (batch_of ask pool records (at_stage before)).batch unended stands.runs stands.asked worked e; asked = worked.asked }
 
   -- a feed that goes on stands behind what it took
   pub fed_stands : (before after : Stage) (pool next : Pool) (records : List Covered) (fault : Option Refusal) → is_done before ≡ false → Stands ask start before pool
@@ -59,17 +59,17 @@ module _ (ask : RecvAsk) (start : Pool) where
     pub stage : Stage
     pub standing : Pool
     pub stands : Stands ask start stage standing
-    pub which : ((stage ≡ before) × (standing ≡ pool)) ⊎ ((stage ≡ (batch ask pool records (at_stage before)).work.stage) × (is_kept stage ≡ true))
+    pub which : ((stage ≡ before) × (standing ≡ pool)) ⊎ ((stage ≡ (batch_of ask pool records (at_stage before)).batch.stage) × (is_kept stage ≡ true))
     pub keeps : kept_of next ≡ kept_of standing
 
   pub fed_keeps : (before : Stage) (pool next : Pool) (records : List Covered) (fault : Option Refusal) (refusal : Refusal) → is_done before ≡ false → Stands ask start before pool
       → fed ask records fault before pool ≡ Stops next refusal → KeepsAtStop before pool next records
   fed_keeps before pool next records fault refusal unended stands e = go (stops_by ask records fault before pool next refusal e)
     where
-      go : StopsBy before pool (batch ask pool records (at_stage before)).work next → KeepsAtStop before pool next records
+      go : StopsBy before pool (batch_of ask pool records (at_stage before)).batch next → KeepsAtStop before pool next records
       go (inl left) = record { stage = before; standing = pool; stands = stands; which = inl (refl, refl); keeps = ap kept_of left ∙ kept_left before pool }
       go (inr taken) = record {
-        stage = (batch ask pool records (at_stage before)).work.stage;
+        stage = (batch_of ask pool records (at_stage before)).batch.stage;
         standing = next;
         stands = put_stands before pool next records unended stands taken.1;
         which = inr (refl, taken.0);
@@ -85,7 +85,7 @@ ended_feed partial pool (Some refusal) = Stops pool refusal
 pub fed_ended : (ask : RecvAsk) (records : List Covered) (fault : Option Refusal) (partial : Partial) (pool : Pool) → fed ask records fault (Ends partial) pool ≡ ended_feed partial pool fault
 unfolding fed
 fed_ended ask records fault partial pool =
-    ap (λ (done : Batch). settled (Ends partial) pool done.work (first_fault done.fault fault)) (batch_ended ask pool records partial) ∙ go fault
+    ap (λ (done : EndedBatch). settled (Ends partial) pool done.batch (first_fault done.fault fault)) (batch_ended ask pool records partial) ∙ go fault
   where
     go : (f : Option Refusal) → settled (Ends partial) pool (at_stage (Ends partial)) f ≡ ended_feed partial pool f
     go None = refl
@@ -145,7 +145,7 @@ module _ (law : ReceivedIsApplied) (ask : RecvAsk) (start : Pool) where
         keeps = kept.keeps;
       }
 
-      go : ((kept.stage ≡ before) × (kept.standing ≡ pool)) ⊎ ((kept.stage ≡ (batch ask pool records (at_stage before)).work.stage) × (is_kept kept.stage ≡ true)) → OnWay (done ++ records) next
+      go : ((kept.stage ≡ before) × (kept.standing ≡ pool)) ⊎ ((kept.stage ≡ (batch_of ask pool records (at_stage before)).batch.stage) × (is_kept kept.stage ≡ true)) → OnWay (done ++ records) next
       go (inl same) = on_way done records refl (subst (λ (s : Stage). Applied ask start pool s done) (sym same.0) applied)
       go (inr taken) =
           let some = batch_somewhere law ask start pool done records (at_stage before) begins applied in

@@ -8,7 +8,7 @@ use Rattle.zst_record.specs.Heads.{Covered}
 use Rattle.zst_stream.specs.Laws.{FrontsAgree}
 use Rattle.zst_stream.specs.Reading.{reading}
 use Rattle.zst_recv.specs.Feeds.{new_records}
-use Rattle.zst_recv.specs.ReceiveSteps.{Stage, Goes, Stops, Work, at_stage, batch, committed, fed, first_fault, is_kept, keeps_front, left_by, put, settled}
+use Rattle.zst_recv.specs.ReceiveSteps.{Stage, Goes, Stops, Batch, at_stage, batch_of, committed, fed, first_fault, is_kept, keeps_front, left_by, put, settled}
 
 -- the records of a longer text are those of its front, and the new ones
 pub new_are : FrontsAgree → (text piece : List ℕ) → (reading (text ++ piece)).covered ≡ (reading text).covered ++ new_records text piece
@@ -18,10 +18,10 @@ new_are agree text piece =
 
 -- the records of a feed that goes on are all taken, its reading has no fault, and one commit follows
 pub record GoesOn (ask : RecvAsk) (records : List Covered) (fault : Option Refusal) (stage after : Stage) (pool next : Pool) : Type 0 where
-  pub none_refused : (batch ask pool records (at_stage stage)).fault ≡ None
+  pub none_refused : (batch_of ask pool records (at_stage stage)).fault ≡ None
   pub none_found : fault ≡ None
-  pub after_is : (batch ask pool records (at_stage stage)).work.stage ≡ after
-  pub put_is : put (batch ask pool records (at_stage stage)).work pool ≡ Ok next
+  pub after_is : (batch_of ask pool records (at_stage stage)).batch.stage ≡ after
+  pub put_is : put (batch_of ask pool records (at_stage stage)).batch pool ≡ Ok next
 
 goes_parts : (a b : Pool) (s t : Stage) → Goes a s ≡ Goes b t → (a ≡ b) × (s ≡ t)
 goes_parts a b s t e = (cc, cc)
@@ -30,19 +30,19 @@ stops_not : (before : Stage) (pool : Pool) (refusal : Refusal) (r : Result Pool 
 stops_not before pool refusal (Ok now) next after e = cc
 stops_not before pool refusal (Err other) next after e = cc
 
-commits : (before : Stage) (pool : Pool) (work : Work) (r : Result Pool Refusal) (next : Pool) (after : Stage) → committed before pool r (λ now. Goes now work.stage) ≡ Goes next after
-    → (r ≡ Ok next) × (work.stage ≡ after)
-commits before pool work (Ok now) next after e = let both = goes_parts now next work.stage after e in (ap (λ (p : Pool). Ok p) both.0, both.1)
-commits before pool work (Err other) next after e = absurd cc
+commits : (before : Stage) (pool : Pool) (batch : Batch) (r : Result Pool Refusal) (next : Pool) (after : Stage) → committed before pool r (λ now. Goes now batch.stage) ≡ Goes next after
+    → (r ≡ Ok next) × (batch.stage ≡ after)
+commits before pool batch (Ok now) next after e = let both = goes_parts now next batch.stage after e in (ap (λ (p : Pool). Ok p) both.0, both.1)
+commits before pool batch (Err other) next after e = absurd cc
 
-pub settles : (before : Stage) (pool : Pool) (work : Work) (fault : Option Refusal) (next : Pool) (after : Stage) → settled before pool work fault ≡ Goes next after
-    → (fault ≡ None) × (put work pool ≡ Ok next) × (work.stage ≡ after)
-settles before pool work None next after e = let both = commits before pool work (put work pool) next after e in (refl, both.0, both.1)
-settles before pool work (Some refusal) next after e = go (keeps_front refusal && is_kept work.stage) e
+pub settles : (before : Stage) (pool : Pool) (batch : Batch) (fault : Option Refusal) (next : Pool) (after : Stage) → settled before pool batch fault ≡ Goes next after
+    → (fault ≡ None) × (put batch pool ≡ Ok next) × (batch.stage ≡ after)
+settles before pool batch None next after e = let both = commits before pool batch (put batch pool) next after e in (refl, both.0, both.1)
+settles before pool batch (Some refusal) next after e = go (keeps_front refusal && is_kept batch.stage) e
   where
-    go : (t : Bool) → cond t (committed before pool (put work pool) (λ now. Stops now refusal)) (Stops (left_by before pool) refusal) ≡ Goes next after
-        → (◌≡◌ {A = Option Refusal} (Some refusal) None) × (put work pool ≡ Ok next) × (work.stage ≡ after)
-    go true e = absurd (stops_not before pool refusal (put work pool) next after e)
+    go : (t : Bool) → cond t (committed before pool (put batch pool) (λ now. Stops now refusal)) (Stops (left_by before pool) refusal) ≡ Goes next after
+        → (◌≡◌ {A = Option Refusal} (Some refusal) None) × (put batch pool ≡ Ok next) × (batch.stage ≡ after)
+    go true e = absurd (stops_not before pool refusal (put batch pool) next after e)
     go false e = absurd cc
 
 no_first : (a b : Option Refusal) → first_fault a b ≡ None → (a ≡ None) × (b ≡ None)
@@ -53,40 +53,40 @@ pub goes_on : (ask : RecvAsk) (records : List Covered) (fault : Option Refusal) 
     → GoesOn ask records fault stage after pool next
 unfolding fed
 goes_on ask records fault stage after pool next e =
-    let done = batch ask pool records (at_stage stage) in
-    let well = settles stage pool done.work (first_fault done.fault fault) next after e in
+    let done = batch_of ask pool records (at_stage stage) in
+    let well = settles stage pool done.batch (first_fault done.fault fault) next after e in
     let none = no_first done.fault fault well.0 in
     record { none_refused = none.0; none_found = none.1; after_is = well.2; put_is = well.1 }
 
 -- ---- a feed that stops
 
-abbrev pub StopsBy : Stage → Pool → Work → Pool → Type 0
-StopsBy before pool work next = (next ≡ left_by before pool) ⊎ ((is_kept work.stage ≡ true) × (put work pool ≡ Ok next))
+abbrev pub StopsBy : Stage → Pool → Batch → Pool → Type 0
+StopsBy before pool batch next = (next ≡ left_by before pool) ⊎ ((is_kept batch.stage ≡ true) × (put batch pool ≡ Ok next))
 
 same_stop : (a b : Pool) (r s : Refusal) → Stops a r ≡ Stops b s → b ≡ a
 same_stop a b r s e = cc
 
-refused_stop : (before stage : Stage) (pool : Pool) (work : Work) (r : Result Pool Refusal) (next : Pool) (refusal : Refusal) → committed before pool r (λ now. Goes now stage) ≡ Stops next refusal → StopsBy before pool work next
-refused_stop before stage pool work (Ok now) next refusal e = absurd cc
-refused_stop before stage pool work (Err other) next refusal e = inl (same_stop (left_by before pool) next other refusal e)
+refused_stop : (before stage : Stage) (pool : Pool) (batch : Batch) (r : Result Pool Refusal) (next : Pool) (refusal : Refusal) → committed before pool r (λ now. Goes now stage) ≡ Stops next refusal → StopsBy before pool batch next
+refused_stop before stage pool batch (Ok now) next refusal e = absurd cc
+refused_stop before stage pool batch (Err other) next refusal e = inl (same_stop (left_by before pool) next other refusal e)
 
-kept_stop : (before : Stage) (pool : Pool) (work : Work) (fault : Refusal) (r : Result Pool Refusal) (next : Pool) (refusal : Refusal) → is_kept work.stage ≡ true → put work pool ≡ r
-    → committed before pool r (λ now. Stops now fault) ≡ Stops next refusal → StopsBy before pool work next
-kept_stop before pool work fault (Ok now) next refusal kept is e = inr (kept, is ∙ ap (λ (p : Pool). Ok p) (sym (same_stop now next fault refusal e)))
-kept_stop before pool work fault (Err other) next refusal kept is e = inl (same_stop (left_by before pool) next other refusal e)
+kept_stop : (before : Stage) (pool : Pool) (batch : Batch) (fault : Refusal) (r : Result Pool Refusal) (next : Pool) (refusal : Refusal) → is_kept batch.stage ≡ true → put batch pool ≡ r
+    → committed before pool r (λ now. Stops now fault) ≡ Stops next refusal → StopsBy before pool batch next
+kept_stop before pool batch fault (Ok now) next refusal kept is e = inr (kept, is ∙ ap (λ (p : Pool). Ok p) (sym (same_stop now next fault refusal e)))
+kept_stop before pool batch fault (Err other) next refusal kept is e = inl (same_stop (left_by before pool) next other refusal e)
 
-settled_stop : (before : Stage) (pool : Pool) (work : Work) (fault : Option Refusal) (next : Pool) (refusal : Refusal) → settled before pool work fault ≡ Stops next refusal → StopsBy before pool work next
-settled_stop before pool work None next refusal e = refused_stop before work.stage pool work (put work pool) next refusal e
-settled_stop before pool work (Some fault) next refusal e = go (keeps_front fault) (is_kept work.stage) refl e
+settled_stop : (before : Stage) (pool : Pool) (batch : Batch) (fault : Option Refusal) (next : Pool) (refusal : Refusal) → settled before pool batch fault ≡ Stops next refusal → StopsBy before pool batch next
+settled_stop before pool batch None next refusal e = refused_stop before batch.stage pool batch (put batch pool) next refusal e
+settled_stop before pool batch (Some fault) next refusal e = go (keeps_front fault) (is_kept batch.stage) refl e
   where
-    go : (front kept : Bool) → is_kept work.stage ≡ kept → cond (front && kept) (committed before pool (put work pool) (λ now. Stops now fault)) (Stops (left_by before pool) fault) ≡ Stops next refusal → StopsBy before pool work next
-    go true true is e = kept_stop before pool work fault (put work pool) next refusal is refl e
+    go : (front kept : Bool) → is_kept batch.stage ≡ kept → cond (front && kept) (committed before pool (put batch pool) (λ now. Stops now fault)) (Stops (left_by before pool) fault) ≡ Stops next refusal → StopsBy before pool batch next
+    go true true is e = kept_stop before pool batch fault (put batch pool) next refusal is refl e
     go true false is e = inl (same_stop (left_by before pool) next fault refusal e)
     go false kept is e = inl (same_stop (left_by before pool) next fault refusal e)
 
 pub stops_by : (ask : RecvAsk) (records : List Covered) (fault : Option Refusal) (stage : Stage) (pool next : Pool) (refusal : Refusal) → fed ask records fault stage pool ≡ Stops next refusal
-    → StopsBy stage pool (batch ask pool records (at_stage stage)).work next
+    → StopsBy stage pool (batch_of ask pool records (at_stage stage)).batch next
 unfolding fed
 stops_by ask records fault stage pool next refusal e =
-    let done = batch ask pool records (at_stage stage) in
-    settled_stop stage pool done.work (first_fault done.fault fault) next refusal e
+    let done = batch_of ask pool records (at_stage stage) in
+    settled_stop stage pool done.batch (first_fault done.fault fault) next refusal e

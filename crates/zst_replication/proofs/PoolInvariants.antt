@@ -24,7 +24,7 @@ use Rattle.zst_stream.specs.Reading.{reading}
 use Rattle.zst_recv.proofs.CommitLemmas.{commit_is}
 use Rattle.zst_recv.specs.Answers.{is_done}
 use Rattle.zst_recv.specs.Feeds.{and_feed, fault_of, fed_piece, feeds, new_records, receives}
-use Rattle.zst_recv.specs.ReceiveSteps.{Stage, Waits, Lives, Ends, Work, Fed, Goes, Stops, at_stage, batch, batch_by, began, begun, fed, left_by, moved_by, of_plan, opened, put, put_at, taken, taken_at, went_on, with_applied}
+use Rattle.zst_recv.specs.ReceiveSteps.{Stage, Waits, Lives, Ends, Batch, Fed, Goes, Stops, at_stage, batch_of, batch_by, began, begun, fed, left_by, moved_by, of_plan, opened, put, put_at, taken, taken_at, went_on, with_applied}
 use Rattle.zst_replication.proofs.EarlierDates.{all_carry, dated_higher, stays_on, stays_same}
 use Rattle.zst_replication.proofs.FeedSteps.{goes_on, stops_by}
 use Rattle.zst_replication.proofs.FeedSequences.{Stands, ended_feed, fed_ended, feed_worked, put_stands, stands_first}
@@ -134,32 +134,32 @@ module _ (law : ReceivedIsApplied) (ask : RecvAsk) (start : Pool) (linked : IsLi
           (old_grown number old up (found_there (λ (p : Partial). bytes_eq p.target ask.target) start.partials old found).0)
 
   module _ (pool : Pool) (up : start.number ≤ pool.number) where
-    -- what the work of a feed has under way, in the next commit
-    abbrev Coming : Work → Type 0
-    Coming work = Comes ask start (pool.number + 1) work.stage pool
+    -- what the batch of a feed has under way, in the next commit
+    abbrev Coming : Batch → Type 0
+    Coming batch = Comes ask start (pool.number + 1) batch.stage pool
 
-    same_work : (work after : Work) → Coming work → ◌≡◌ {A = Result Work Refusal} (Ok work) (Ok after) → Coming after
-    same_work work after comes e = subst (λ (w : Work). Coming w) (ok_parts work after e) comes
+    same_batch : (batch after : Batch) → Coming batch → ◌≡◌ {A = Result Batch Refusal} (Ok batch) (Ok after) → Coming after
+    same_batch batch after comes e = subst (λ (w : Batch). Coming w) (ok_parts batch after e) comes
 
-    began_comes : (work after : Work) (head : Head) → Coming work → work.stage ≡ Waits → began ask pool work head ≡ Ok after → Coming after
-    began_comes work after (heads.Begin header len) comes waits e =
+    began_comes : (batch after : Batch) (head : Head) → Coming batch → batch.stage ≡ Waits → began ask pool batch head ≡ Ok after → Coming after
+    began_comes batch after (heads.Begin header len) comes waits e =
         let same : pool ≡ start = subst (λ (s : Stage). Comes ask start (pool.number + 1) s pool) waits comes in
         let found = bound (of_plan (recv_plan ask header pool)) (λ plan. Ok (opened ask header plan)) after e in
         let planned = subst (λ (p : Pool). recv_plan ask header p ≡ Ok found.0) same (plan_ok _ found.0 found.1) in
-        subst (λ (w : Work). Coming w) (ok_parts _ _ found.2) (opened_comes header found.0 (pool.number + 1) pool (omega (arith, up)) planned)
-    began_comes work after (heads.Object object kind bonus_kind block_size bonus_len max_block to) comes waits e = same_work work after comes e
-    began_comes work after (heads.FreeObjects first many to) comes waits e = same_work work after comes e
-    began_comes work after (heads.Write object kind offset size to) comes waits e = same_work work after comes e
-    began_comes work after (heads.Free object offset size to) comes waits e = same_work work after comes e
-    began_comes work after (heads.End sums to) comes waits e = same_work work after comes e
-    began_comes work after (heads.Spill object size to) comes waits e = same_work work after comes e
-    began_comes work after (heads.Redact object offset size to) comes waits e = same_work work after comes e
+        subst (λ (w : Batch). Coming w) (ok_parts _ _ found.2) (opened_comes header found.0 (pool.number + 1) pool (omega (arith, up)) planned)
+    began_comes batch after (heads.Object object kind bonus_kind block_size bonus_len max_block to) comes waits e = same_batch batch after comes e
+    began_comes batch after (heads.FreeObjects first many to) comes waits e = same_batch batch after comes e
+    began_comes batch after (heads.Write object kind offset size to) comes waits e = same_batch batch after comes e
+    began_comes batch after (heads.Free object offset size to) comes waits e = same_batch batch after comes e
+    began_comes batch after (heads.End sums to) comes waits e = same_batch batch after comes e
+    began_comes batch after (heads.Spill object size to) comes waits e = same_batch batch after comes e
+    began_comes batch after (heads.Redact object offset size to) comes waits e = same_batch batch after comes e
 
     -- a record that is applied
-    moved_comes : (work after : Work) (c : Covered) (flags : ℕ) (partial : Partial) → IsGrown ask start (pool.number + 1) partial
-        → (moved_by (pool.number + 1) c flags partial >>= λ moved. Ok (with_applied flags moved work)) ≡ Ok after → Coming after
-    moved_comes work after c flags partial grown e =
-        let found = bound (moved_by (pool.number + 1) c flags partial) (λ moved. Ok (with_applied flags moved work)) after e in
+    moved_comes : (batch after : Batch) (c : Covered) (flags : ℕ) (partial : Partial) → IsGrown ask start (pool.number + 1) partial
+        → (moved_by (pool.number + 1) c flags partial >>= λ moved. Ok (with_applied flags moved batch)) ≡ Ok after → Coming after
+    moved_comes batch after c flags partial grown e =
+        let found = bound (moved_by (pool.number + 1) c flags partial) (λ moved. Ok (with_applied flags moved batch)) after e in
         let next = found.0 in
         let moved = moves (pool.number + 1) c flags partial next found.1 in
         let carries = all_carry law (pool.number + 1) c.index _ partial.objects next.objects moved.objects in
@@ -167,34 +167,34 @@ module _ (law : ReceivedIsApplied) (ask : RecvAsk) (start : Pool) (linked : IsLi
         let now : IsGrown ask start (pool.number + 1) after_is =
         grown_on (cleared ask start) start.partials (pool.number + 1) (pool.number + 1) partial after_is refl refl refl grown
         (stays_on start.number grown.from partial.objects next.objects grown.stays (carries.stays start.number (omega (arith, up)))) (carries.dated grown.dated) in
-        subst (λ (w : Work). Coming w) (ok_parts _ _ found.2) (subst (λ (p : Partial). IsGrown ask start (pool.number + 1) p) (sym moved.further) now)
+        subst (λ (w : Batch). Coming w) (ok_parts _ _ found.2) (subst (λ (p : Partial). IsGrown ask start (pool.number + 1) p) (sym moved.further) now)
 
-    went_comes : (work after : Work) (c : Covered) (flags : ℕ) (partial : Partial) (head : Head) → Coming work → IsGrown ask start (pool.number + 1) partial
-        → went_on (pool.number + 1) c flags partial work head ≡ Ok after → Coming after
-    went_comes work after c flags partial (heads.Begin header len) comes grown e = same_work work after comes e
-    went_comes work after c flags partial (heads.Object object kind bonus_kind block_size bonus_len max_block to) comes grown e = moved_comes work after c flags partial grown e
-    went_comes work after c flags partial (heads.FreeObjects first many to) comes grown e = moved_comes work after c flags partial grown e
-    went_comes work after c flags partial (heads.Write object kind offset size to) comes grown e = moved_comes work after c flags partial grown e
-    went_comes work after c flags partial (heads.Free object offset size to) comes grown e = moved_comes work after c flags partial grown e
-    went_comes work after c flags partial (heads.End sums to) comes grown e = subst (λ (w : Work). Coming w) (ok_parts _ _ e) grown
-    went_comes work after c flags partial (heads.Spill object size to) comes grown e = moved_comes work after c flags partial grown e
-    went_comes work after c flags partial (heads.Redact object offset size to) comes grown e = moved_comes work after c flags partial grown e
+    went_comes : (batch after : Batch) (c : Covered) (flags : ℕ) (partial : Partial) (head : Head) → Coming batch → IsGrown ask start (pool.number + 1) partial
+        → went_on (pool.number + 1) c flags partial batch head ≡ Ok after → Coming after
+    went_comes batch after c flags partial (heads.Begin header len) comes grown e = same_batch batch after comes e
+    went_comes batch after c flags partial (heads.Object object kind bonus_kind block_size bonus_len max_block to) comes grown e = moved_comes batch after c flags partial grown e
+    went_comes batch after c flags partial (heads.FreeObjects first many to) comes grown e = moved_comes batch after c flags partial grown e
+    went_comes batch after c flags partial (heads.Write object kind offset size to) comes grown e = moved_comes batch after c flags partial grown e
+    went_comes batch after c flags partial (heads.Free object offset size to) comes grown e = moved_comes batch after c flags partial grown e
+    went_comes batch after c flags partial (heads.End sums to) comes grown e = subst (λ (w : Batch). Coming w) (ok_parts _ _ e) grown
+    went_comes batch after c flags partial (heads.Spill object size to) comes grown e = moved_comes batch after c flags partial grown e
+    went_comes batch after c flags partial (heads.Redact object offset size to) comes grown e = moved_comes batch after c flags partial grown e
 
-    taken_comes : (c : Covered) (work after : Work) (stage : Stage) → work.stage ≡ stage → Coming work → taken_at ask pool c work stage ≡ Ok after → Coming after
-    taken_comes c work after Waits is comes e = began_comes work after c.head comes is e
-    taken_comes c work after (Lives flags partial) is comes e =
-        went_comes work after c flags partial c.head comes (subst (λ (s : Stage). Comes ask start (pool.number + 1) s pool) is comes) e
-    taken_comes c work after (Ends partial) is comes e = same_work work after comes e
+    taken_comes : (c : Covered) (batch after : Batch) (stage : Stage) → batch.stage ≡ stage → Coming batch → taken_at ask pool c batch stage ≡ Ok after → Coming after
+    taken_comes c batch after Waits is comes e = began_comes batch after c.head comes is e
+    taken_comes c batch after (Lives flags partial) is comes e =
+        went_comes batch after c flags partial c.head comes (subst (λ (s : Stage). Comes ask start (pool.number + 1) s pool) is comes) e
+    taken_comes c batch after (Ends partial) is comes e = same_batch batch after comes e
 
     -- all records of a feed
-    pub batch_comes : (records : List Covered) (work : Work) → Coming work → Coming (batch ask pool records work).work
-    unfolding batch
-    batch_comes [] work comes = comes
-    batch_comes (c ∷ rest) work comes = go (taken ask pool c work) refl (λ after more. batch_comes rest after more)
+    pub batch_comes : (records : List Covered) (batch : Batch) → Coming batch → Coming (batch_of ask pool records batch).batch
+    unfolding batch_of
+    batch_comes [] batch comes = comes
+    batch_comes (c ∷ rest) batch comes = go (taken ask pool c batch) refl (λ after more. batch_comes rest after more)
       where
-        go : (r : Result Work Refusal) → taken ask pool c work ≡ r → ((after : Work) → Coming after → Coming (batch ask pool rest after).work)
-            → Coming (batch_by r work (batch ask pool rest)).work
-        go (Ok after) e on = on after (taken_comes c work after work.stage refl comes e)
+        go : (r : Result Batch Refusal) → taken ask pool c batch ≡ r → ((after : Batch) → Coming after → Coming (batch_of ask pool rest after).batch)
+            → Coming (batch_by r batch (batch_of ask pool rest)).batch
+        go (Ok after) e on = on after (taken_comes c batch after batch.stage refl comes e)
         go (Err refusal) e on = comes
 
   -- ---- where a receive stands
@@ -239,25 +239,25 @@ module _ (law : ReceivedIsApplied) (ask : RecvAsk) (start : Pool) (linked : IsLi
       let n : next.number ≡ pool.number + 1 = ap (λ (p : Pool). p.number) (commit_is (with_finished partial pool) next e) in
       (subst (λ (m : ℕ). IsGrown ask start m partial) (sym n) comes, omega (arith, n, later))
 
-  work_comes : (before : Stage) (pool next : Pool) (work : Work) → StandsWell before pool → (work.taken ≡ false → work.stage ≡ before) → Comes ask start (pool.number + 1) work.stage pool → put work pool ≡ Ok next
-      → Comes ask start next.number work.stage next × (start.number ≤ next.number)
-  work_comes before pool next work well idle comes e = go work.taken refl e
+  work_comes : (before : Stage) (pool next : Pool) (batch : Batch) → StandsWell before pool → (batch.taken ≡ false → batch.stage ≡ before) → Comes ask start (pool.number + 1) batch.stage pool → put batch pool ≡ Ok next
+      → Comes ask start next.number batch.stage next × (start.number ≤ next.number)
+  work_comes before pool next batch well idle comes e = go batch.taken refl e
     where
-      go : (t : Bool) → work.taken ≡ t → cond t (put_at work.rolls work.stage pool) (Ok pool) ≡ Ok next → Comes ask start next.number work.stage next × (start.number ≤ next.number)
-      go true is e = put_comes work.stage work.rolls pool next e well.later comes
+      go : (t : Bool) → batch.taken ≡ t → cond t (put_at batch.rolls batch.stage pool) (Ok pool) ≡ Ok next → Comes ask start next.number batch.stage next × (start.number ≤ next.number)
+      go true is e = put_comes batch.stage batch.rolls pool next e well.later comes
       go false is e =
           let same = ok_parts pool next e in (
             subst (λ (s : Stage). Comes ask start next.number s next) (sym (idle is)) (subst (λ (p : Pool). Comes ask start p.number before p) same well.comes),
             subst (λ (p : Pool). start.number ≤ p.number) same well.later,
           )
 
-  batch_well : (before : Stage) (pool next : Pool) (records : List Covered) → is_done before ≡ false → StandsWell before pool → put (batch ask pool records (at_stage before)).work pool ≡ Ok next
-      → StandsWell (batch ask pool records (at_stage before)).work.stage next
+  batch_well : (before : Stage) (pool next : Pool) (records : List Covered) → is_done before ≡ false → StandsWell before pool → put (batch_of ask pool records (at_stage before)).batch pool ≡ Ok next
+      → StandsWell (batch_of ask pool records (at_stage before)).batch.stage next
   batch_well before pool next records unended well e =
       let worked = feed_worked ask start before pool records well.stands in
-      let work = (batch ask pool records (at_stage before)).work in
+      let batch = (batch_of ask pool records (at_stage before)).batch in
       let comes = batch_comes pool well.later records (at_stage before) (comes_later ask start pool.number (pool.number + 1) before pool (omega arith) well.comes) in
-      let now = work_comes before pool next work well worked.idle comes e in
+      let now = work_comes before pool next batch well worked.idle comes e in
       record { stands = put_stands ask start before pool next records unended well.stands e; comes = now.0; later = now.1 }
 
   others_target : (target : List ℕ) → target ≡ ask.target → (other : Partial) → Contains (partials_of_others ask.target start) other → other.target ≡ target → ⊥
@@ -304,7 +304,7 @@ module _ (law : ReceivedIsApplied) (ask : RecvAsk) (start : Pool) (linked : IsLi
         subst (λ (s : Stage). StandsWell s next) on.after_is (batch_well before pool next records unended well on.put_is)
     fed_on records fault before pool unended well (Stops next refusal) e = elim (stops_by ask records fault before pool next refusal e) [
       | inl left ↦ subst (λ (p : Pool). Holds p) (sym left) (left_holds before pool (well_holds before pool well))
-      | inr taken ↦ well_holds (batch ask pool records (at_stage before)).work.stage next (batch_well before pool next records unended well taken.1)
+      | inr taken ↦ well_holds (batch_of ask pool records (at_stage before)).batch.stage next (batch_well before pool next records unended well taken.1)
     ]
 
     fed_well : (records : List Covered) (fault : Option Refusal) (before : Stage) (pool : Pool) → StandsWell before pool → FedWell (fed ask records fault before pool)

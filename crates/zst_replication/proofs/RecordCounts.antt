@@ -17,7 +17,7 @@ use Rattle.zst_stream.specs.PassedRecords.{CoveredInOrder, IsInPlace, IsBegin}
 use Rattle.zst_stream.specs.Reading.{closing, reading}
 use Rattle.zst_recv.specs.Answers.{is_done}
 use Rattle.zst_recv.specs.Feeds.{fault_of, new_records}
-use Rattle.zst_recv.specs.ReceiveSteps.{Stage, Waits, Lives, Ends, Work, at_stage, batch, batch_by, began, moved_by, of_plan, opened, taken, taken_at, went_on, with_applied}
+use Rattle.zst_recv.specs.ReceiveSteps.{Stage, Waits, Lives, Ends, Batch, at_stage, batch_of, batch_by, began, moved_by, of_plan, opened, taken, taken_at, went_on, with_applied}
 use Rattle.zst_replication.specs.RecordCounts.{Counts, RecordsAreCounted}
 use Rattle.zst_replication.proofs.FeedSteps.{goes_on, new_are}
 use Rattle.zst_replication.proofs.Results.{bound, ok_parts}
@@ -28,20 +28,20 @@ Counted count place Waits n = (place ≡ 0) × (n ≡ 0)
 Counted count place (Lives flags partial) n = place ≡ n + 1
 Counted count place (Ends partial) n = (place ≡ n + 2) × (place ≡ count)
 
-abbrev CountedWork : ℕ → ℕ → Work → ℕ → Type 0
-CountedWork count place work n = Counted count place work.stage (n + work.applied)
+abbrev CountedBatch : ℕ → ℕ → Batch → ℕ → Type 0
+CountedBatch count place batch n = Counted count place batch.stage (n + batch.applied)
 
 -- ---- one record
 
-module _ (ask : RecvAsk) (pool : Pool) (c : Covered) (count place n : ℕ) (work : Work) where
-  opened_counted : (header : Header) (plan : RecvPlan) → place ≡ 0 → n ≡ 0 → CountedWork count (place + 1) (opened ask header plan) n
+module _ (ask : RecvAsk) (pool : Pool) (c : Covered) (count place n : ℕ) (batch : Batch) where
+  opened_counted : (header : Header) (plan : RecvPlan) → place ≡ 0 → n ≡ 0 → CountedBatch count (place + 1) (opened ask header plan) n
   opened_counted header (Resumes partial) at none = omega (arith, at, none)
   opened_counted header (Begins component base) at none = omega (arith, at, none)
 
-  began_counted : (head : Head) (after : Work) → IsBegin head → place ≡ 0 → n + work.applied ≡ 0 → began ask pool work head ≡ Ok after → CountedWork count (place + 1) after n
+  began_counted : (head : Head) (after : Batch) → IsBegin head → place ≡ 0 → n + batch.applied ≡ 0 → began ask pool batch head ≡ Ok after → CountedBatch count (place + 1) after n
   began_counted (heads.Begin header len) after is at none e =
       let found = bound (of_plan (recv_plan ask header pool)) (λ plan. Ok (opened ask header plan)) after e in
-      subst (λ (w : Work). CountedWork count (place + 1) w n) (ok_parts _ _ found.2) (opened_counted header found.0 at (omega (arith, none)))
+      subst (λ (w : Batch). CountedBatch count (place + 1) w n) (ok_parts _ _ found.2) (opened_counted header found.0 at (omega (arith, none)))
   began_counted (heads.Object object kind bonus_kind block_size bonus_len max_block to) after is at none e = absurd is
   began_counted (heads.FreeObjects first many to) after is at none e = absurd is
   began_counted (heads.Write object kind offset size to) after is at none e = absurd is
@@ -50,24 +50,24 @@ module _ (ask : RecvAsk) (pool : Pool) (c : Covered) (count place n : ℕ) (work
   began_counted (heads.Spill object size to) after is at none e = absurd is
   began_counted (heads.Redact object offset size to) after is at none e = absurd is
 
-  moved_counted : (flags : ℕ) (r : Result Partial Refusal) (after : Work) → place ≡ n + work.applied + 1 → (r >>= λ moved. Ok (with_applied flags moved work)) ≡ Ok after → CountedWork count (place + 1) after n
+  moved_counted : (flags : ℕ) (r : Result Partial Refusal) (after : Batch) → place ≡ n + batch.applied + 1 → (r >>= λ moved. Ok (with_applied flags moved batch)) ≡ Ok after → CountedBatch count (place + 1) after n
   moved_counted flags r after at e =
-      let found = bound r (λ moved. Ok (with_applied flags moved work)) after e in
-      subst (λ (w : Work). CountedWork count (place + 1) w n) (ok_parts _ _ found.2) (omega (arith, at))
+      let found = bound r (λ moved. Ok (with_applied flags moved batch)) after e in
+      subst (λ (w : Batch). CountedBatch count (place + 1) w n) (ok_parts _ _ found.2) (omega (arith, at))
 
-  went_counted : (flags : ℕ) (partial : Partial) (head : Head) (after : Work) → IsLater head → (closing head ≡ None) ⊎ (place + 1 ≡ count) → place ≡ n + work.applied + 1
-      → went_on (pool.number + 1) c flags partial work head ≡ Ok after → CountedWork count (place + 1) after n
+  went_counted : (flags : ℕ) (partial : Partial) (head : Head) (after : Batch) → IsLater head → (closing head ≡ None) ⊎ (place + 1 ≡ count) → place ≡ n + batch.applied + 1
+      → went_on (pool.number + 1) c flags partial batch head ≡ Ok after → CountedBatch count (place + 1) after n
   went_counted flags partial (heads.Begin header len) after later last at e = absurd later
   went_counted flags partial (heads.Object object kind bonus_kind block_size bonus_len max_block to) after later last at e = moved_counted flags (moved_by (pool.number + 1) c flags partial) after at e
   went_counted flags partial (heads.FreeObjects first many to) after later last at e = moved_counted flags (moved_by (pool.number + 1) c flags partial) after at e
   went_counted flags partial (heads.Write object kind offset size to) after later last at e = moved_counted flags (moved_by (pool.number + 1) c flags partial) after at e
   went_counted flags partial (heads.Free object offset size to) after later last at e = moved_counted flags (moved_by (pool.number + 1) c flags partial) after at e
   went_counted flags partial (heads.End sums to) after later (inl still) at e = absurd cc
-  went_counted flags partial (heads.End sums to) after later (inr all) at e = subst (λ (w : Work). CountedWork count (place + 1) w n) (ok_parts _ _ e) (omega (arith, at), all)
+  went_counted flags partial (heads.End sums to) after later (inr all) at e = subst (λ (w : Batch). CountedBatch count (place + 1) w n) (ok_parts _ _ e) (omega (arith, at), all)
   went_counted flags partial (heads.Spill object size to) after later last at e = moved_counted flags (moved_by (pool.number + 1) c flags partial) after at e
   went_counted flags partial (heads.Redact object offset size to) after later last at e = moved_counted flags (moved_by (pool.number + 1) c flags partial) after at e
 
-  taken_counted : (stage : Stage) (after : Work) → IsInPlace place count c → place < count → Counted count place stage (n + work.applied) → taken_at ask pool c work stage ≡ Ok after → CountedWork count (place + 1) after n
+  taken_counted : (stage : Stage) (after : Batch) → IsInPlace place count c → place < count → Counted count place stage (n + batch.applied) → taken_at ask pool c batch stage ≡ Ok after → CountedBatch count (place + 1) after n
   taken_counted Waits after is below counted e = began_counted c.head after (is.first counted.0) counted.0 counted.1 e
   taken_counted (Lives flags partial) after is below counted e =
       let behind : 0 < place = omega (arith, counted) in
@@ -80,13 +80,13 @@ at_seam : (done : List Covered) (c : Covered) (rest : List Covered) → slice_ge
 at_seam [] c rest = refl
 at_seam (d ∷ done) c rest = at_seam done c rest
 
-all_counted : (ask : RecvAsk) (pool : Pool) (n : ℕ) (all done rest : List Covered) (work : Work) → ((place : ℕ) (c : Covered) → slice_get all place ≡ Some c → IsInPlace place (length all) c)
-    → done ++ rest ≡ all → CountedWork (length all) (length done) work n → (batch ask pool rest work).fault ≡ None → CountedWork (length all) (length all) (batch ask pool rest work).work n
-unfolding batch
-all_counted ask pool n all done [] work places same counted none =
+all_counted : (ask : RecvAsk) (pool : Pool) (n : ℕ) (all done rest : List Covered) (batch : Batch) → ((place : ℕ) (c : Covered) → slice_get all place ≡ Some c → IsInPlace place (length all) c)
+    → done ++ rest ≡ all → CountedBatch (length all) (length done) batch n → (batch_of ask pool rest batch).fault ≡ None → CountedBatch (length all) (length all) (batch_of ask pool rest batch).batch n
+unfolding batch_of
+all_counted ask pool n all done [] batch places same counted none =
     let whole : done ≡ all = sym (append-nil done) ∙ same in
-    subst (λ (cs : List Covered). CountedWork (length all) (length cs) work n) whole counted
-all_counted ask pool n all done (c ∷ rest) work places same counted none = go (taken ask pool c work) refl none
+    subst (λ (cs : List Covered). CountedBatch (length all) (length cs) batch n) whole counted
+all_counted ask pool n all done (c ∷ rest) batch places same counted none = go (taken ask pool c batch) refl none
     (λ after more free. all_counted ask pool n all (done ++ c ∷ []) rest after places (append_assoc done (c ∷ []) rest ∙ same) more free)
   where
     seam : slice_get all (length done) ≡ Some c
@@ -98,12 +98,12 @@ all_counted ask pool n all done (c ∷ rest) work places same counted none = go 
     one_more : length (done ++ c ∷ []) ≡ length done + 1
     one_more = length-append done (c ∷ [])
 
-    go : (r : Result Work Refusal) → taken ask pool c work ≡ r → (batch_by r work (batch ask pool rest)).fault ≡ None
-        → ((after : Work) → CountedWork (length all) (length (done ++ c ∷ [])) after n → (batch ask pool rest after).fault ≡ None → CountedWork (length all) (length all) (batch ask pool rest after).work n)
-        → CountedWork (length all) (length all) (batch_by r work (batch ask pool rest)).work n
+    go : (r : Result Batch Refusal) → taken ask pool c batch ≡ r → (batch_by r batch (batch_of ask pool rest)).fault ≡ None
+        → ((after : Batch) → CountedBatch (length all) (length (done ++ c ∷ [])) after n → (batch_of ask pool rest after).fault ≡ None → CountedBatch (length all) (length all) (batch_of ask pool rest after).batch n)
+        → CountedBatch (length all) (length all) (batch_by r batch (batch_of ask pool rest)).batch n
     go (Ok after) e free on =
-        on after (subst (λ (k : ℕ). CountedWork (length all) k after n) (sym one_more)
-        (taken_counted ask pool c (length all) (length done) n work work.stage after (places (length done) c seam) below counted e)) free
+        on after (subst (λ (k : ℕ). CountedBatch (length all) k after n) (sym one_more)
+        (taken_counted ask pool c (length all) (length done) n batch batch.stage after (places (length done) c seam) below counted e)) free
     go (Err refusal) e free on = absurd cc
 
 begins : (text : List ℕ) (stage : Stage) (n count : ℕ) → is_done stage ≡ false → Counts text stage n → Counted count (length (reading text).covered) stage (n + 0)
@@ -121,6 +121,6 @@ records_counted order agree ask text piece stage after pool next n bytes unended
     let new = new_records text piece in
     let on = goes_on ask new (fault_of (reading (text ++ piece)).outcome) stage after pool next e in
     let all = (reading (text ++ piece)).covered in
-    let done = batch ask pool new (at_stage stage) in
+    let done = batch_of ask pool new (at_stage stage) in
     let counted = all_counted ask pool n all (reading text).covered new (at_stage stage) (λ place c at. order (text ++ piece) place c bytes at) (sym (new_are agree text piece)) (begins text stage n (length all) unended counts) on.none_refused in
-    ends (text ++ piece) after (n + done.work.applied) (subst (λ (s : Stage). Counted (length all) (length all) s (n + done.work.applied)) on.after_is counted)
+    ends (text ++ piece) after (n + done.batch.applied) (subst (λ (s : Stage). Counted (length all) (length all) s (n + done.batch.applied)) on.after_is counted)

@@ -15,7 +15,7 @@ use Rattle.zst_record.specs.declared.head.Head.TheVariants as heads
 use Rattle.zst_record.specs.Heads.{Covered}
 use Rattle.zst_recv.proofs.CommitLemmas.{commit_is}
 use Rattle.zst_recv.specs.Answers.{is_done}
-use Rattle.zst_recv.specs.ReceiveSteps.{Stage, Waits, Lives, Ends, Work, at_stage, batch, batch_by, began, moved_by, of_plan, opened, put, put_at, taken, taken_at, went_on, with_applied}
+use Rattle.zst_recv.specs.ReceiveSteps.{Stage, Waits, Lives, Ends, Batch, at_stage, batch_of, batch_by, began, moved_by, of_plan, opened, put, put_at, taken, taken_at, went_on, with_applied}
 use Rattle.zst_replication.proofs.RecordEffects.{moves}
 use Rattle.zst_replication.proofs.ReceivePlans.{base_there, begins_anew, own_target, resumes}
 use Rattle.zst_replication.proofs.Results.{bound, ok_parts, plan_ok}
@@ -91,14 +91,14 @@ Asked ask start Waits = Unit {0}
 Asked ask start (Lives flags partial) = IsAsked ask start partial
 Asked ask start (Ends partial) = IsAsked ask start partial
 
--- ---- the work of a feed
+-- ---- the batch of a feed
 
 -- what a feed has done so far
-pub record Worked (ask : RecvAsk) (start : Pool) (before : Stage) (work : Work) : Type 0 where
-  pub asked : Asked ask start work.stage
-  pub rolls : work.rolls ≡ true → MayRoll ask start × (before ≡ Waits)
-  pub idle : work.taken ≡ false → work.stage ≡ before
-  pub waits : work.stage ≡ Waits → before ≡ Waits
+pub record Worked (ask : RecvAsk) (start : Pool) (before : Stage) (batch : Batch) : Type 0 where
+  pub asked : Asked ask start batch.stage
+  pub rolls : batch.rolls ≡ true → MayRoll ask start × (before ≡ Waits)
+  pub idle : batch.taken ≡ false → batch.stage ≡ before
+  pub waits : batch.stage ≡ Waits → before ≡ Waits
 
 pub nothing_worked : (ask : RecvAsk) (start : Pool) (stage : Stage) → Asked ask start stage → Worked ask start stage (at_stage stage)
 nothing_worked ask start stage asked = record { asked = asked; rolls = λ r. absurd cc; idle = λ i. refl; waits = λ w. w }
@@ -126,24 +126,24 @@ module _ (ask : RecvAsk) (start pool : Pool) (before : Stage) (same : before ≡
       go None none at_start = fresh_worked header plan waited none at_start
       go (Some old) found at_start = resumed_worked header plan old found at_start
 
-  began_worked : (work after : Work) (head : Head) → Worked ask start before work → work.stage ≡ Waits → began ask pool work head ≡ Ok after → Worked ask start before after
-  began_worked work after (heads.Begin header len) worked waiting e =
+  began_worked : (batch after : Batch) (head : Head) → Worked ask start before batch → batch.stage ≡ Waits → began ask pool batch head ≡ Ok after → Worked ask start before after
+  began_worked batch after (heads.Begin header len) worked waiting e =
       let found = bound (of_plan (recv_plan ask header pool)) (λ plan. Ok (opened ask header plan)) after e in
-      subst (λ (w : Work). Worked ask start before w) (ok_parts _ _ found.2) (opened_worked header found.0 (worked.waits waiting) (plan_ok _ found.0 found.1))
-  began_worked work after (heads.Object object kind bonus_kind block_size bonus_len max_block to) worked waiting e = subst (λ (w : Work). Worked ask start before w) (ok_parts _ _ e) worked
-  began_worked work after (heads.FreeObjects first many to) worked waiting e = subst (λ (w : Work). Worked ask start before w) (ok_parts _ _ e) worked
-  began_worked work after (heads.Write object kind offset size to) worked waiting e = subst (λ (w : Work). Worked ask start before w) (ok_parts _ _ e) worked
-  began_worked work after (heads.Free object offset size to) worked waiting e = subst (λ (w : Work). Worked ask start before w) (ok_parts _ _ e) worked
-  began_worked work after (heads.End sums to) worked waiting e = subst (λ (w : Work). Worked ask start before w) (ok_parts _ _ e) worked
-  began_worked work after (heads.Spill object size to) worked waiting e = subst (λ (w : Work). Worked ask start before w) (ok_parts _ _ e) worked
-  began_worked work after (heads.Redact object offset size to) worked waiting e = subst (λ (w : Work). Worked ask start before w) (ok_parts _ _ e) worked
+      subst (λ (w : Batch). Worked ask start before w) (ok_parts _ _ found.2) (opened_worked header found.0 (worked.waits waiting) (plan_ok _ found.0 found.1))
+  began_worked batch after (heads.Object object kind bonus_kind block_size bonus_len max_block to) worked waiting e = subst (λ (w : Batch). Worked ask start before w) (ok_parts _ _ e) worked
+  began_worked batch after (heads.FreeObjects first many to) worked waiting e = subst (λ (w : Batch). Worked ask start before w) (ok_parts _ _ e) worked
+  began_worked batch after (heads.Write object kind offset size to) worked waiting e = subst (λ (w : Batch). Worked ask start before w) (ok_parts _ _ e) worked
+  began_worked batch after (heads.Free object offset size to) worked waiting e = subst (λ (w : Batch). Worked ask start before w) (ok_parts _ _ e) worked
+  began_worked batch after (heads.End sums to) worked waiting e = subst (λ (w : Batch). Worked ask start before w) (ok_parts _ _ e) worked
+  began_worked batch after (heads.Spill object size to) worked waiting e = subst (λ (w : Batch). Worked ask start before w) (ok_parts _ _ e) worked
+  began_worked batch after (heads.Redact object offset size to) worked waiting e = subst (λ (w : Batch). Worked ask start before w) (ok_parts _ _ e) worked
 
-  moved_worked : (work after : Work) (c : Covered) (flags : ℕ) (partial : Partial) → Worked ask start before work → IsAsked ask start partial
-      → (moved_by (pool.number + 1) c flags partial >>= λ moved. Ok (with_applied flags moved work)) ≡ Ok after → Worked ask start before after
-  moved_worked work after c flags partial worked asked e =
-      let found = bound (moved_by (pool.number + 1) c flags partial) (λ moved. Ok (with_applied flags moved work)) after e in
+  moved_worked : (batch after : Batch) (c : Covered) (flags : ℕ) (partial : Partial) → Worked ask start before batch → IsAsked ask start partial
+      → (moved_by (pool.number + 1) c flags partial >>= λ moved. Ok (with_applied flags moved batch)) ≡ Ok after → Worked ask start before after
+  moved_worked batch after c flags partial worked asked e =
+      let found = bound (moved_by (pool.number + 1) c flags partial) (λ moved. Ok (with_applied flags moved batch)) after e in
       let further = (moves (pool.number + 1) c flags partial found.0 found.1).further in
-      subst (λ (w : Work). Worked ask start before w) (ok_parts _ _ found.2)
+      subst (λ (w : Batch). Worked ask start before w) (ok_parts _ _ found.2)
       (record {
         asked = record { target = ap (λ (p : Partial). p.target) further ∙ asked.target; keep = ap (λ (p : Partial). p.keep) further ∙ asked.keep };
         rolls = worked.rolls;
@@ -151,37 +151,37 @@ module _ (ask : RecvAsk) (start pool : Pool) (before : Stage) (same : before ≡
         waits = λ w. absurd cc;
       })
 
-  went_worked : (work after : Work) (c : Covered) (flags : ℕ) (partial : Partial) (head : Head) → Worked ask start before work → IsAsked ask start partial
-      → went_on (pool.number + 1) c flags partial work head ≡ Ok after → Worked ask start before after
-  went_worked work after c flags partial (heads.Begin header len) worked asked e = subst (λ (w : Work). Worked ask start before w) (ok_parts _ _ e) worked
-  went_worked work after c flags partial (heads.Object object kind bonus_kind block_size bonus_len max_block to) worked asked e = moved_worked work after c flags partial worked asked e
-  went_worked work after c flags partial (heads.FreeObjects first many to) worked asked e = moved_worked work after c flags partial worked asked e
-  went_worked work after c flags partial (heads.Write object kind offset size to) worked asked e = moved_worked work after c flags partial worked asked e
-  went_worked work after c flags partial (heads.Free object offset size to) worked asked e = moved_worked work after c flags partial worked asked e
-  went_worked work after c flags partial (heads.End sums to) worked asked e =
-      subst (λ (w : Work). Worked ask start before w) (ok_parts _ _ e)
+  went_worked : (batch after : Batch) (c : Covered) (flags : ℕ) (partial : Partial) (head : Head) → Worked ask start before batch → IsAsked ask start partial
+      → went_on (pool.number + 1) c flags partial batch head ≡ Ok after → Worked ask start before after
+  went_worked batch after c flags partial (heads.Begin header len) worked asked e = subst (λ (w : Batch). Worked ask start before w) (ok_parts _ _ e) worked
+  went_worked batch after c flags partial (heads.Object object kind bonus_kind block_size bonus_len max_block to) worked asked e = moved_worked batch after c flags partial worked asked e
+  went_worked batch after c flags partial (heads.FreeObjects first many to) worked asked e = moved_worked batch after c flags partial worked asked e
+  went_worked batch after c flags partial (heads.Write object kind offset size to) worked asked e = moved_worked batch after c flags partial worked asked e
+  went_worked batch after c flags partial (heads.Free object offset size to) worked asked e = moved_worked batch after c flags partial worked asked e
+  went_worked batch after c flags partial (heads.End sums to) worked asked e =
+      subst (λ (w : Batch). Worked ask start before w) (ok_parts _ _ e)
       (record { asked = asked; rolls = worked.rolls; idle = λ i. absurd cc; waits = λ w. absurd cc })
-  went_worked work after c flags partial (heads.Spill object size to) worked asked e = moved_worked work after c flags partial worked asked e
-  went_worked work after c flags partial (heads.Redact object offset size to) worked asked e = moved_worked work after c flags partial worked asked e
+  went_worked batch after c flags partial (heads.Spill object size to) worked asked e = moved_worked batch after c flags partial worked asked e
+  went_worked batch after c flags partial (heads.Redact object offset size to) worked asked e = moved_worked batch after c flags partial worked asked e
 
-  taken_worked : (c : Covered) (work after : Work) (stage : Stage) → work.stage ≡ stage → Worked ask start before work → taken_at ask pool c work stage ≡ Ok after → Worked ask start before after
-  taken_worked c work after Waits is worked e = began_worked work after c.head worked is e
-  taken_worked c work after (Lives flags partial) is worked e = went_worked work after c flags partial c.head worked (subst (λ (s : Stage). Asked ask start s) is worked.asked) e
-  taken_worked c work after (Ends partial) is worked e = subst (λ (w : Work). Worked ask start before w) (ok_parts _ _ e) worked
+  taken_worked : (c : Covered) (batch after : Batch) (stage : Stage) → batch.stage ≡ stage → Worked ask start before batch → taken_at ask pool c batch stage ≡ Ok after → Worked ask start before after
+  taken_worked c batch after Waits is worked e = began_worked batch after c.head worked is e
+  taken_worked c batch after (Lives flags partial) is worked e = went_worked batch after c flags partial c.head worked (subst (λ (s : Stage). Asked ask start s) is worked.asked) e
+  taken_worked c batch after (Ends partial) is worked e = subst (λ (w : Batch). Worked ask start before w) (ok_parts _ _ e) worked
 
-  pub batch_worked : (records : List Covered) (work : Work) → Worked ask start before work → Worked ask start before (batch ask pool records work).work
-  unfolding batch
-  batch_worked [] work worked = worked
-  batch_worked (c ∷ rest) work worked = go (taken ask pool c work) refl (λ after more. batch_worked rest after more)
+  pub batch_worked : (records : List Covered) (batch : Batch) → Worked ask start before batch → Worked ask start before (batch_of ask pool records batch).batch
+  unfolding batch_of
+  batch_worked [] batch worked = worked
+  batch_worked (c ∷ rest) batch worked = go (taken ask pool c batch) refl (λ after more. batch_worked rest after more)
     where
-      go : (r : Result Work Refusal) → taken ask pool c work ≡ r → ((after : Work) → Worked ask start before after → Worked ask start before (batch ask pool rest after).work)
-          → Worked ask start before (batch_by r work (batch ask pool rest)).work
-      go (Ok after) e on = on after (taken_worked c work after work.stage refl worked e)
+      go : (r : Result Batch Refusal) → taken ask pool c batch ≡ r → ((after : Batch) → Worked ask start before after → Worked ask start before (batch_of ask pool rest after).batch)
+          → Worked ask start before (batch_by r batch (batch_of ask pool rest)).batch
+      go (Ok after) e on = on after (taken_worked c batch after batch.stage refl worked e)
       go (Err refusal) e on = worked
 
 -- behind END nothing is taken
-pub batch_ended : (ask : RecvAsk) (pool : Pool) (records : List Covered) (partial : Partial) → batch ask pool records (at_stage (Ends partial)) ≡ record { work = at_stage (Ends partial); fault = None }
-unfolding batch
+pub batch_ended : (ask : RecvAsk) (pool : Pool) (records : List Covered) (partial : Partial) → batch_of ask pool records (at_stage (Ends partial)) ≡ record { batch = at_stage (Ends partial); fault = None }
+unfolding batch_of
 batch_ended ask pool [] partial = refl
 batch_ended ask pool (c ∷ rest) partial = batch_ended ask pool rest partial
 
@@ -282,12 +282,12 @@ module _ (ask : RecvAsk) (start : Pool) where
   put_runs (Lives old other) (Ends partial) pool next rolls unended runs asked now only waits e = finish_again partial other pool next now.target asked.target runs e
   put_runs (Ends other) stage pool next rolls unended runs asked now only waits e = absurd cc
 
-  pub work_runs : (before : Stage) (pool next : Pool) (work : Work) → is_done before ≡ false → Runs ask start before pool → Asked ask start before → Worked ask start before work
-      → put work pool ≡ Ok next → Runs ask start work.stage next
-  work_runs before pool next work unended runs asked worked e = go work.taken refl e
+  pub batch_runs : (before : Stage) (pool next : Pool) (batch : Batch) → is_done before ≡ false → Runs ask start before pool → Asked ask start before → Worked ask start before batch
+      → put batch pool ≡ Ok next → Runs ask start batch.stage next
+  batch_runs before pool next batch unended runs asked worked e = go batch.taken refl e
     where
-      go : (t : Bool) → work.taken ≡ t → cond t (put_at work.rolls work.stage pool) (Ok pool) ≡ Ok next → Runs ask start work.stage next
-      go true is e = put_runs before work.stage pool next work.rolls unended runs asked worked.asked worked.rolls worked.waits e
+      go : (t : Bool) → batch.taken ≡ t → cond t (put_at batch.rolls batch.stage pool) (Ok pool) ≡ Ok next → Runs ask start batch.stage next
+      go true is e = put_runs before batch.stage pool next batch.rolls unended runs asked worked.asked worked.rolls worked.waits e
       go false is e =
           subst (λ (s : Stage). Runs ask start s next) (sym (worked.idle is))
           (subst (λ (p : Pool). Runs ask start before p) (ok_parts _ _ e) runs)

@@ -12,7 +12,7 @@ use Rattle.zst_record.specs.Heads.{Covered}
 use Rattle.zst_stream.specs.Reading.{reading}
 use Rattle.zst_recv.specs.Answers.{is_done}
 use Rattle.zst_recv.specs.Feeds.{and_feed, fault_of, fed_piece, feeds, new_records}
-use Rattle.zst_recv.specs.ReceiveSteps.{Stage, Waits, Lives, Ends, Fed, Goes, Stops, at_stage, batch, fed, is_kept}
+use Rattle.zst_recv.specs.ReceiveSteps.{Stage, Waits, Lives, Ends, Fed, Goes, Stops, at_stage, batch_of, fed, is_kept}
 use Rattle.zst_replication.specs.Outcomes.{HasNothing, HasPartial, IsRolled, IsUntouched}
 use Rattle.zst_replication.specs.Replicas.{CutLeavesNothing, IsWaiting}
 use Rattle.zst_replication.proofs.FeedSequences.{KeepsAtStop, Stands, ended_feed, fed_ended, fed_keeps, fed_stands, stands_first}
@@ -91,7 +91,7 @@ module _ (ask : RecvAsk) (start : Pool) (none : partial_of ask.target start ≡ 
       kept : KeepsAtStop ask start before pool next records
       kept = fed_keeps ask start before pool next records fault refusal unended stands e
 
-      go : ((kept.stage ≡ before) × (kept.standing ≡ pool)) ⊎ ((kept.stage ≡ (batch ask pool records (at_stage before)).work.stage) × (is_kept kept.stage ≡ true)) → HasNothing ask (kept_of start) (kept_of next)
+      go : ((kept.stage ≡ before) × (kept.standing ≡ pool)) ⊎ ((kept.stage ≡ (batch_of ask pool records (at_stage before)).batch.stage) × (is_kept kept.stage ≡ true)) → HasNothing ask (kept_of start) (kept_of next)
       go (inl same) =
           subst (λ (p : Pool). HasNothing ask (kept_of start) p) (sym kept.keeps)
           (nothing_stands kept.stage kept.standing fleeting (ap is_done same.0 ∙ unended) kept.stands)

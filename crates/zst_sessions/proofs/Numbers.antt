@@ -17,9 +17,9 @@ use Rattle.zst_pool.specs.Partials.{next_commit, with_finished, with_partial}
 use Rattle.zst_recv.proofs.Results.{ok_parts}
 use Rattle.zst_recv.proofs.CommitLemmas.{commit_is}
 use Rattle.zst_recv.specs.Answers.{applied_of}
-use Rattle.zst_recv.specs.Faults.{stream_limit}
+use Rattle.zst_reader.specs.InputReads.{stream_limit}
 use Rattle.zst_recv.specs.Feeds.{fault_of, fed_piece, new_records}
-use Rattle.zst_recv.specs.ReceiveSteps.{Stage, Waits, Lives, Ends, Work, Fed, Goes, Stops, at_stage, batch, committed, fed, first_fault, is_kept, keeps_front, left_by, pool_of, put, put_at, settled}
+use Rattle.zst_recv.specs.ReceiveSteps.{Stage, Waits, Lives, Ends, Batch, Fed, Goes, Stops, at_stage, batch_of, committed, fed, first_fault, is_kept, keeps_front, left_by, pool_of, put, put_at, settled}
 use Rattle.zst_recv.specs.Tokens.{token_of_partial, token_told}
 use Rattle.zst_script.specs.declared.event.Event.{Event}
 use Rattle.zst_script.specs.declared.event.Event.TheVariants as events
@@ -60,27 +60,27 @@ put_number rolls Waits pool next e = let same : pool.number ≡ next.number = ap
 put_number rolls (Lives flags partial) pool next e = next_number (with_partial rolls partial pool) next e
 put_number rolls (Ends partial) pool next e = next_number (with_finished partial pool) next e
 
-work_number : (work : Work) (pool next : Pool) → put work pool ≡ Ok next → pool.number ≤ next.number
-work_number work pool next e = go work.taken e
+batch_number : (batch : Batch) (pool next : Pool) → put batch pool ≡ Ok next → pool.number ≤ next.number
+batch_number batch pool next e = go batch.taken e
   where
-    go : (t : Bool) → cond t (put_at work.rolls work.stage pool) (Ok pool) ≡ Ok next → pool.number ≤ next.number
-    go true e = put_number work.rolls work.stage pool next e
+    go : (t : Bool) → cond t (put_at batch.rolls batch.stage pool) (Ok pool) ≡ Ok next → pool.number ≤ next.number
+    go true e = put_number batch.rolls batch.stage pool next e
     go false e = let same : pool.number ≡ next.number = ap (λ (p : Pool). p.number) (ok_parts pool next e) in omega (arith, same)
 
-committed_number : (before : Stage) (pool : Pool) (work : Work) (f : Pool → Fed) → ((next : Pool) → pool_of (f next) ≡ next) → (r : Result Pool Refusal) → put work pool ≡ r
+committed_number : (before : Stage) (pool : Pool) (batch : Batch) (f : Pool → Fed) → ((next : Pool) → pool_of (f next) ≡ next) → (r : Result Pool Refusal) → put batch pool ≡ r
     → pool.number ≤ (pool_of (committed before pool r f)).number
-committed_number before pool work f is (Ok next) e =
+committed_number before pool batch f is (Ok next) e =
     let same : (pool_of (f next)).number ≡ next.number = ap (λ (p : Pool). p.number) (is next) in
-    let rose = work_number work pool next e in
+    let rose = batch_number batch pool next e in
     omega (arith, same, rose)
-committed_number before pool work f is (Err refusal) e = left_number before pool
+committed_number before pool batch f is (Err refusal) e = left_number before pool
 
-settled_number : (before : Stage) (pool : Pool) (work : Work) (fault : Option Refusal) → pool.number ≤ (pool_of (settled before pool work fault)).number
-settled_number before pool work None = committed_number before pool work (λ next. Goes next work.stage) (λ next. refl) (put work pool) refl
-settled_number before pool work (Some refusal) = go (keeps_front refusal && is_kept work.stage)
+settled_number : (before : Stage) (pool : Pool) (batch : Batch) (fault : Option Refusal) → pool.number ≤ (pool_of (settled before pool batch fault)).number
+settled_number before pool batch None = committed_number before pool batch (λ next. Goes next batch.stage) (λ next. refl) (put batch pool) refl
+settled_number before pool batch (Some refusal) = go (keeps_front refusal && is_kept batch.stage)
   where
-    go : (t : Bool) → pool.number ≤ (pool_of (cond t (committed before pool (put work pool) (λ next. Stops next refusal)) (Stops (left_by before pool) refusal))).number
-    go true = committed_number before pool work (λ next. Stops next refusal) (λ next. refl) (put work pool) refl
+    go : (t : Bool) → pool.number ≤ (pool_of (cond t (committed before pool (put batch pool) (λ next. Stops next refusal)) (Stops (left_by before pool) refusal))).number
+    go true = committed_number before pool batch (λ next. Stops next refusal) (λ next. refl) (put batch pool) refl
     go false = left_number before pool
 
 fed_number : (ask : RecvAsk) (text piece : List ℕ) (stage : Stage) (pool : Pool) → pool.number ≤ (pool_of (feeding ask text piece stage pool)).number
@@ -93,8 +93,8 @@ fed_number ask text piece stage pool = go (nat_lt stream_limit (length text + le
     go : (t : Bool) → pool.number ≤ (pool_of (cond t (Stops (left_by stage pool) (refusals.Limit quantities.Stream stream_limit)) (fed_piece ask text piece stage pool))).number
     go true = left_number stage pool
     go false =
-        let done = batch ask pool records (at_stage stage) in
-        settled_number stage pool done.work (first_fault done.fault (fault_of (reading (text ++ piece)).outcome))
+        let done = batch_of ask pool records (at_stage stage) in
+        settled_number stage pool done.batch (first_fault done.fault (fault_of (reading (text ++ piece)).outcome))
 
 -- ---- worlds
 

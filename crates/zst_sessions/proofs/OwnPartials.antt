@@ -32,9 +32,9 @@ use Rattle.zst_record.specs.declared.head.Head.TheVariants as heads
 use Rattle.zst_record.specs.Heads.{Covered}
 use Rattle.zst_recv.proofs.Results.{bound, ok_parts, unless_ok}
 use Rattle.zst_recv.proofs.CommitLemmas.{commit_is}
-use Rattle.zst_recv.specs.Faults.{stream_limit}
+use Rattle.zst_reader.specs.InputReads.{stream_limit}
 use Rattle.zst_recv.specs.Feeds.{fault_of, fed_piece, new_records}
-use Rattle.zst_recv.specs.ReceiveSteps.{Stage, Waits, Lives, Ends, Work, Fed, Goes, Stops, at_stage, batch, batch_by, began, committed, fed, first_fault, is_kept, keeps_front, left_by, moved_by, of_plan, opened, pool_of, put, put_at, settled, taken, taken_at, went_on, with_applied}
+use Rattle.zst_recv.specs.ReceiveSteps.{Stage, Waits, Lives, Ends, Batch, Fed, Goes, Stops, at_stage, batch_of, batch_by, began, committed, fed, first_fault, is_kept, keeps_front, left_by, moved_by, of_plan, opened, pool_of, put, put_at, settled, taken, taken_at, went_on, with_applied}
 use Rattle.zst_stream.specs.Items.{items_by}
 use Rattle.zst_stream.specs.Reading.{reading}
 use Rattle.zst_sessions.specs.Lawfulness.{ClaimedStays, EndsLeaveOthers, FeedsLeaveOthers, FeedsStand, IsEnded, IsStanding}
@@ -167,18 +167,18 @@ resumes_own ask header pool partial e =
     go None component e = absurd (fresh_begins ask header component pool partial e)
     go (Some old) component e = ap (λ (p : Partial). Some p) (resumed_is header old partial e)
 
--- ---- work
+-- ---- batches
 
 -- what a feed has made is the target's, and where it has taken nothing it stands where it began
-record OwnWork (ask : RecvAsk) (before : Stage) (work : Work) : Type 0 where
-  own : Own ask work.stage
-  idle : work.taken ≡ false → work.stage ≡ before
+record OwnBatch (ask : RecvAsk) (before : Stage) (batch : Batch) : Type 0 where
+  own : Own ask batch.stage
+  idle : batch.taken ≡ false → batch.stage ≡ before
 
 module _ (ask : RecvAsk) (pool : Pool) (before : Stage) where
-  is_after : (work after : Work) → ◌≡◌ {A = Result Work Refusal} (Ok work) (Ok after) → OwnWork ask before work → OwnWork ask before after
-  is_after work after e own = subst (OwnWork ask before) (ok_parts work after e) own
+  is_after : (batch after : Batch) → ◌≡◌ {A = Result Batch Refusal} (Ok batch) (Ok after) → OwnBatch ask before batch → OwnBatch ask before after
+  is_after batch after e own = subst (OwnBatch ask before) (ok_parts batch after e) own
 
-  opened_own : (header : Header) (plan : RecvPlan) → recv_plan ask header pool ≡ Ok plan → OwnWork ask before (opened ask header plan)
+  opened_own : (header : Header) (plan : RecvPlan) → recv_plan ask header pool ≡ Ok plan → OwnBatch ask before (opened ask header plan)
   opened_own header (Resumes partial) e = record { own = found_own ask.target pool partial (resumes_own ask header pool partial e); idle = λ i. absurd cc }
   opened_own header (Begins component base) e = record { own = refl; idle = λ i. absurd cc }
 
@@ -186,53 +186,53 @@ module _ (ask : RecvAsk) (pool : Pool) (before : Stage) where
   plan_ok (Ok other) plan e = cc
   plan_ok (Err fault) plan e = absurd cc
 
-  began_own : (work after : Work) → OwnWork ask before work → (head : Head) → began ask pool work head ≡ Ok after → OwnWork ask before after
-  began_own work after own (heads.Begin header len) e =
+  began_own : (batch after : Batch) → OwnBatch ask before batch → (head : Head) → began ask pool batch head ≡ Ok after → OwnBatch ask before after
+  began_own batch after own (heads.Begin header len) e =
       let found = bound (of_plan (recv_plan ask header pool)) (λ plan. Ok (opened ask header plan)) after e in
       is_after (opened ask header found.0) after found.2 (opened_own header found.0 (plan_ok (recv_plan ask header pool) found.0 found.1))
-  began_own work after own (heads.Object object kind bonus_kind block_size bonus_len max_block to) e = is_after work after e own
-  began_own work after own (heads.FreeObjects first many to) e = is_after work after e own
-  began_own work after own (heads.Write object kind offset size to) e = is_after work after e own
-  began_own work after own (heads.Free object offset size to) e = is_after work after e own
-  began_own work after own (heads.End sums to) e = is_after work after e own
-  began_own work after own (heads.Spill object size to) e = is_after work after e own
-  began_own work after own (heads.Redact object offset size to) e = is_after work after e own
+  began_own batch after own (heads.Object object kind bonus_kind block_size bonus_len max_block to) e = is_after batch after e own
+  began_own batch after own (heads.FreeObjects first many to) e = is_after batch after e own
+  began_own batch after own (heads.Write object kind offset size to) e = is_after batch after e own
+  began_own batch after own (heads.Free object offset size to) e = is_after batch after e own
+  began_own batch after own (heads.End sums to) e = is_after batch after e own
+  began_own batch after own (heads.Spill object size to) e = is_after batch after e own
+  began_own batch after own (heads.Redact object offset size to) e = is_after batch after e own
 
-  moved_own : (c : Covered) (flags : ℕ) (partial : Partial) (work after : Work) → partial.target ≡ ask.target
-      → (moved_by (pool.number + 1) c flags partial >>= λ moved. Ok (with_applied flags moved work)) ≡ Ok after → OwnWork ask before after
-  moved_own c flags partial work after own e =
+  moved_own : (c : Covered) (flags : ℕ) (partial : Partial) (batch after : Batch) → partial.target ≡ ask.target
+      → (moved_by (pool.number + 1) c flags partial >>= λ moved. Ok (with_applied flags moved batch)) ≡ Ok after → OwnBatch ask before after
+  moved_own c flags partial batch after own e =
       let items = items_by flags c.payload c.head in
-      let found = bound (moved_by (pool.number + 1) c flags partial) (λ moved. Ok (with_applied flags moved work)) after e in
+      let found = bound (moved_by (pool.number + 1) c flags partial) (λ moved. Ok (with_applied flags moved batch)) after e in
       let made : DatedState → Result Partial Refusal = λ objects. Ok (record partial { objects = objects; point = point_of partial.point items }) in
       let from = bound (received_all (pool.number + 1) c.index items partial.objects) made found.0 found.1 in
       let target : found.0.target ≡ partial.target = sym (ap (λ (p : Partial). p.target) (ok_parts (record partial { objects = from.0; point = point_of partial.point items }) found.0 from.2)) in
-      is_after (with_applied flags found.0 work) after found.2 (record { own = target ∙ own; idle = λ i. absurd cc })
+      is_after (with_applied flags found.0 batch) after found.2 (record { own = target ∙ own; idle = λ i. absurd cc })
 
-  went_own : (c : Covered) (flags : ℕ) (partial : Partial) (work after : Work) → OwnWork ask before work → partial.target ≡ ask.target → (head : Head)
-      → went_on (pool.number + 1) c flags partial work head ≡ Ok after → OwnWork ask before after
-  went_own c flags partial work after works own (heads.Begin header len) e = is_after work after e works
-  went_own c flags partial work after works own (heads.Object object kind bonus_kind block_size bonus_len max_block to) e = moved_own c flags partial work after own e
-  went_own c flags partial work after works own (heads.FreeObjects first many to) e = moved_own c flags partial work after own e
-  went_own c flags partial work after works own (heads.Write object kind offset size to) e = moved_own c flags partial work after own e
-  went_own c flags partial work after works own (heads.Free object offset size to) e = moved_own c flags partial work after own e
-  went_own c flags partial work after works own (heads.End sums to) e =
-      is_after (record work { stage = Ends partial; taken = true }) after e (record { own = own; idle = λ i. absurd cc })
-  went_own c flags partial work after works own (heads.Spill object size to) e = moved_own c flags partial work after own e
-  went_own c flags partial work after works own (heads.Redact object offset size to) e = moved_own c flags partial work after own e
+  went_own : (c : Covered) (flags : ℕ) (partial : Partial) (batch after : Batch) → OwnBatch ask before batch → partial.target ≡ ask.target → (head : Head)
+      → went_on (pool.number + 1) c flags partial batch head ≡ Ok after → OwnBatch ask before after
+  went_own c flags partial batch after works own (heads.Begin header len) e = is_after batch after e works
+  went_own c flags partial batch after works own (heads.Object object kind bonus_kind block_size bonus_len max_block to) e = moved_own c flags partial batch after own e
+  went_own c flags partial batch after works own (heads.FreeObjects first many to) e = moved_own c flags partial batch after own e
+  went_own c flags partial batch after works own (heads.Write object kind offset size to) e = moved_own c flags partial batch after own e
+  went_own c flags partial batch after works own (heads.Free object offset size to) e = moved_own c flags partial batch after own e
+  went_own c flags partial batch after works own (heads.End sums to) e =
+      is_after (record batch { stage = Ends partial; taken = true }) after e (record { own = own; idle = λ i. absurd cc })
+  went_own c flags partial batch after works own (heads.Spill object size to) e = moved_own c flags partial batch after own e
+  went_own c flags partial batch after works own (heads.Redact object offset size to) e = moved_own c flags partial batch after own e
 
-  taken_own : (c : Covered) (work after : Work) (stage : Stage) → work.stage ≡ stage → OwnWork ask before work → taken_at ask pool c work stage ≡ Ok after → OwnWork ask before after
-  taken_own c work after Waits at works e = began_own work after works c.head e
-  taken_own c work after (Lives flags partial) at works e = went_own c flags partial work after works (subst (Own ask) at works.own) c.head e
-  taken_own c work after (Ends partial) at works e = is_after work after e works
+  taken_own : (c : Covered) (batch after : Batch) (stage : Stage) → batch.stage ≡ stage → OwnBatch ask before batch → taken_at ask pool c batch stage ≡ Ok after → OwnBatch ask before after
+  taken_own c batch after Waits at works e = began_own batch after works c.head e
+  taken_own c batch after (Lives flags partial) at works e = went_own c flags partial batch after works (subst (Own ask) at works.own) c.head e
+  taken_own c batch after (Ends partial) at works e = is_after batch after e works
 
-  batch_own : (records : List Covered) (work : Work) → OwnWork ask before work → OwnWork ask before (batch ask pool records work).work
-  unfolding batch
-  batch_own [] work works = works
-  batch_own (c ∷ rest) work works = go (taken ask pool c work) refl (λ after more. batch_own rest after more)
+  batch_own : (records : List Covered) (batch : Batch) → OwnBatch ask before batch → OwnBatch ask before (batch_of ask pool records batch).batch
+  unfolding batch_of
+  batch_own [] batch works = works
+  batch_own (c ∷ rest) batch works = go (taken ask pool c batch) refl (λ after more. batch_own rest after more)
     where
-      go : (r : Result Work Refusal) → taken ask pool c work ≡ r → ((after : Work) → OwnWork ask before after → OwnWork ask before (batch ask pool rest after).work)
-          → OwnWork ask before (batch_by r work (batch ask pool rest)).work
-      go (Ok after) e on = on after (taken_own c work after work.stage refl works e)
+      go : (r : Result Batch Refusal) → taken ask pool c batch ≡ r → ((after : Batch) → OwnBatch ask before after → OwnBatch ask before (batch_of ask pool rest after).batch)
+          → OwnBatch ask before (batch_by r batch (batch_of ask pool rest)).batch
+      go (Ok after) e on = on after (taken_own c batch after batch.stage refl works e)
       go (Err refusal) e on = works
 
 -- ---- commits
@@ -256,11 +256,11 @@ module _ (ask : RecvAsk) (other : List ℕ) (apart : other ≢ ask.target) where
       ap (find (λ (p : Partial). bytes_eq p.target other)) (next_partials (with_finished partial pool) next e)
       ∙ others_stay other partial.target (λ is. apart (is ∙ own)) pool
 
-  work_others : (work : Work) (pool next : Pool) → Own ask work.stage → put work pool ≡ Ok next → partial_of other next ≡ partial_of other pool
-  work_others work pool next own e = go work.taken e
+  batch_others : (batch : Batch) (pool next : Pool) → Own ask batch.stage → put batch pool ≡ Ok next → partial_of other next ≡ partial_of other pool
+  batch_others batch pool next own e = go batch.taken e
     where
-      go : (t : Bool) → cond t (put_at work.rolls work.stage pool) (Ok pool) ≡ Ok next → partial_of other next ≡ partial_of other pool
-      go true e = put_others work.rolls work.stage pool next own e
+      go : (t : Bool) → cond t (put_at batch.rolls batch.stage pool) (Ok pool) ≡ Ok next → partial_of other next ≡ partial_of other pool
+      go true e = put_others batch.rolls batch.stage pool next own e
       go false e = ap (partial_of other) (sym (ok_parts pool next e))
 
   left_others : (stage : Stage) (pool : Pool) → Own ask stage → partial_of other (left_by stage pool) ≡ partial_of other pool
@@ -268,20 +268,20 @@ module _ (ask : RecvAsk) (other : List ℕ) (apart : other ≢ ask.target) where
   left_others (Lives flags partial) pool own = unkept_stay other partial.target (λ is. apart (is ∙ own)) pool
   left_others (Ends partial) pool own = refl
 
-  committed_others : (before : Stage) (pool : Pool) (work : Work) (f : Pool → Fed) → Own ask before → Own ask work.stage → ((next : Pool) → pool_of (f next) ≡ next) → (r : Result Pool Refusal) → put work pool ≡ r
+  committed_others : (before : Stage) (pool : Pool) (batch : Batch) (f : Pool → Fed) → Own ask before → Own ask batch.stage → ((next : Pool) → pool_of (f next) ≡ next) → (r : Result Pool Refusal) → put batch pool ≡ r
       → partial_of other (pool_of (committed before pool r f)) ≡ partial_of other pool
-  committed_others before pool work f own works is (Ok next) e = ap (partial_of other) (is next) ∙ work_others work pool next works e
-  committed_others before pool work f own works is (Err refusal) e = left_others before pool own
+  committed_others before pool batch f own works is (Ok next) e = ap (partial_of other) (is next) ∙ batch_others batch pool next works e
+  committed_others before pool batch f own works is (Err refusal) e = left_others before pool own
 
-  settled_others : (before : Stage) (pool : Pool) (work : Work) (fault : Option Refusal) → Own ask before → Own ask work.stage → partial_of other (pool_of (settled before pool work fault)) ≡ partial_of other pool
-  settled_others before pool work None own works = committed_others before pool work (λ next. Goes next work.stage) own works (λ next. refl) (put work pool) refl
-  settled_others before pool work (Some refusal) own works = go (keeps_front refusal && is_kept work.stage)
+  settled_others : (before : Stage) (pool : Pool) (batch : Batch) (fault : Option Refusal) → Own ask before → Own ask batch.stage → partial_of other (pool_of (settled before pool batch fault)) ≡ partial_of other pool
+  settled_others before pool batch None own works = committed_others before pool batch (λ next. Goes next batch.stage) own works (λ next. refl) (put batch pool) refl
+  settled_others before pool batch (Some refusal) own works = go (keeps_front refusal && is_kept batch.stage)
     where
-      go : (t : Bool) → partial_of other (pool_of (cond t (committed before pool (put work pool) (λ next. Stops next refusal)) (Stops (left_by before pool) refusal))) ≡ partial_of other pool
-      go true = committed_others before pool work (λ next. Stops next refusal) own works (λ next. refl) (put work pool) refl
+      go : (t : Bool) → partial_of other (pool_of (cond t (committed before pool (put batch pool) (λ next. Stops next refusal)) (Stops (left_by before pool) refusal))) ≡ partial_of other pool
+      go true = committed_others before pool batch (λ next. Stops next refusal) own works (λ next. refl) (put batch pool) refl
       go false = left_others before pool own
 
-start_own : (ask : RecvAsk) (stage : Stage) (pool : Pool) → IsStanding ask stage pool → OwnWork ask stage (at_stage stage)
+start_own : (ask : RecvAsk) (stage : Stage) (pool : Pool) → IsStanding ask stage pool → OwnBatch ask stage (at_stage stage)
 start_own ask stage pool stands = record { own = stands_own ask stage pool stands; idle = λ i. refl }
 
 pub feeds_leave : FeedsLeaveOthers
@@ -294,8 +294,8 @@ feeds_leave ask text piece other stage pool stands apart = go (nat_lt stream_lim
     go : (t : Bool) → partial_of other (pool_of (cond t (Stops (left_by stage pool) (refusals.Limit quantities.Stream stream_limit)) (fed_piece ask text piece stage pool))) ≡ partial_of other pool
     go true = left_others ask other apart stage pool (stands_own ask stage pool stands)
     go false =
-        let done = batch ask pool records (at_stage stage) in
-        settled_others ask other apart stage pool done.work (first_fault done.fault (fault_of (reading (text ++ piece)).outcome)) (stands_own ask stage pool stands)
+        let done = batch_of ask pool records (at_stage stage) in
+        settled_others ask other apart stage pool done.batch (first_fault done.fault (fault_of (reading (text ++ piece)).outcome)) (stands_own ask stage pool stands)
         (batch_own ask pool stage records (at_stage stage) (start_own ask stage pool stands)).own
 
 pub ends_leave : EndsLeaveOthers
@@ -313,28 +313,28 @@ put_stands ask rolls (Lives flags partial) pool next own e =
     (none_left (λ p. bytes_eq p.target partial.target) pool.partials))
 put_stands ask rolls (Ends partial) pool next own e = inl tt
 
-work_stands : (ask : RecvAsk) (before : Stage) (work : Work) (pool next : Pool) → OwnWork ask before work → IsStanding ask before pool → put work pool ≡ Ok next → IsEnded work.stage ⊎ IsStanding ask work.stage next
-work_stands ask before work pool next own stands e = go work.taken refl e
+batch_stands : (ask : RecvAsk) (before : Stage) (batch : Batch) (pool next : Pool) → OwnBatch ask before batch → IsStanding ask before pool → put batch pool ≡ Ok next → IsEnded batch.stage ⊎ IsStanding ask batch.stage next
+batch_stands ask before batch pool next own stands e = go batch.taken refl e
   where
-    go : (t : Bool) → work.taken ≡ t → cond t (put_at work.rolls work.stage pool) (Ok pool) ≡ Ok next → IsEnded work.stage ⊎ IsStanding ask work.stage next
-    go true is e = put_stands ask work.rolls work.stage pool next own.own e
+    go : (t : Bool) → batch.taken ≡ t → cond t (put_at batch.rolls batch.stage pool) (Ok pool) ≡ Ok next → IsEnded batch.stage ⊎ IsStanding ask batch.stage next
+    go true is e = put_stands ask batch.rolls batch.stage pool next own.own e
     go false is e =
         inr (subst (λ (s : Stage). IsStanding ask s next) (sym (own.idle is)) (subst (λ (p : Pool). IsStanding ask before p) (ok_parts pool next e) stands))
 
-settled_stands : (ask : RecvAsk) (before after : Stage) (pool next : Pool) (work : Work) (fault : Option Refusal) → OwnWork ask before work → IsStanding ask before pool
-    → settled before pool work fault ≡ Goes next after → IsEnded after ⊎ IsStanding ask after next
-settled_stands ask before after pool next work None own stands e = go (put work pool) refl e
+settled_stands : (ask : RecvAsk) (before after : Stage) (pool next : Pool) (batch : Batch) (fault : Option Refusal) → OwnBatch ask before batch → IsStanding ask before pool
+    → settled before pool batch fault ≡ Goes next after → IsEnded after ⊎ IsStanding ask after next
+settled_stands ask before after pool next batch None own stands e = go (put batch pool) refl e
   where
     same : (a b : Pool) (s t : Stage) → Goes a s ≡ Goes b t → (a ≡ b) × (s ≡ t)
     same a b s t e = (cc, cc)
 
-    go : (r : Result Pool Refusal) → put work pool ≡ r → committed before pool r (λ now. Goes now work.stage) ≡ Goes next after → IsEnded after ⊎ IsStanding ask after next
+    go : (r : Result Pool Refusal) → put batch pool ≡ r → committed before pool r (λ now. Goes now batch.stage) ≡ Goes next after → IsEnded after ⊎ IsStanding ask after next
     go (Ok now) is e =
-        let both = same now next work.stage after e in
+        let both = same now next batch.stage after e in
         subst (λ (s : Stage). IsEnded s ⊎ IsStanding ask s next) both.1
-        (subst (λ (p : Pool). IsEnded work.stage ⊎ IsStanding ask work.stage p) both.0 (work_stands ask before work pool now own stands is))
+        (subst (λ (p : Pool). IsEnded batch.stage ⊎ IsStanding ask batch.stage p) both.0 (batch_stands ask before batch pool now own stands is))
     go (Err refusal) is e = absurd cc
-settled_stands ask before after pool next work (Some refusal) own stands e = go (keeps_front refusal && is_kept work.stage) (put work pool) e
+settled_stands ask before after pool next batch (Some refusal) own stands e = go (keeps_front refusal && is_kept batch.stage) (put batch pool) e
   where
     go : (t : Bool) (r : Result Pool Refusal) → cond t (committed before pool r (λ now. Stops now refusal)) (Stops (left_by before pool) refusal) ≡ Goes next after → IsEnded after ⊎ IsStanding ask after next
     go true (Ok now) e = absurd cc
@@ -351,8 +351,8 @@ feeds_stand ask text piece stage after pool next stands e = go (nat_lt stream_li
     go : (t : Bool) → cond t (Stops (left_by stage pool) (refusals.Limit quantities.Stream stream_limit)) (fed_piece ask text piece stage pool) ≡ Goes next after → IsEnded after ⊎ IsStanding ask after next
     go true e = absurd cc
     go false e =
-        let done = batch ask pool records (at_stage stage) in
-        settled_stands ask stage after pool next done.work (first_fault done.fault (fault_of (reading (text ++ piece)).outcome))
+        let done = batch_of ask pool records (at_stage stage) in
+        settled_stands ask stage after pool next done.batch (first_fault done.fault (fault_of (reading (text ++ piece)).outcome))
         (batch_own ask pool stage records (at_stage stage) (start_own ask stage pool stands)) stands e
 
 -- ---- commands

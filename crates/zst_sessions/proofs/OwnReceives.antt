@@ -19,7 +19,7 @@ use Rattle.zst_record.specs.declared.head.Head.TheVariants as heads
 use Rattle.zst_record.specs.Heads.{Covered}
 use Rattle.zst_recv.proofs.Results.{bound, ok_parts}
 use Rattle.zst_recv.specs.Feeds.{fault_of, fed_piece, new_records}
-use Rattle.zst_recv.specs.ReceiveSteps.{Stage, Waits, Lives, Ends, Work, Batch, Fed, Goes, Stops, at_stage, batch, batch_by, began, begun, committed, fed, first_fault, is_kept, keeps_front, left_by, moved_by, of_plan, opened, put, put_at, settled, taken, taken_at, went_on, with_applied}
+use Rattle.zst_recv.specs.ReceiveSteps.{Stage, Waits, Lives, Ends, Batch, EndedBatch, Fed, Goes, Stops, at_stage, batch_of, batch_by, began, begun, committed, fed, first_fault, is_kept, keeps_front, left_by, moved_by, of_plan, opened, put, put_at, settled, taken, taken_at, went_on, with_applied}
 use Rattle.zst_stream.specs.Reading.{reading}
 use Rattle.zst_sessions.proofs.SameContents.{alike_on, moved_alike}
 use Rattle.zst_sessions.specs.Isolation.{SamePartial, SameStage, SameBase, SamePlan, PlannedAlike, SameFed, IsPoolLimit, StopsAtLimit, FeedsAreOwn, GoesBy, Here, Then, IsPlanned, ReceivesAreOwn}
@@ -28,42 +28,42 @@ use Rattle.zst_sessions.specs.Isolation.{SamePartial, SameStage, SameBase, SameP
 
 -- what holds of each stage behind BEGIN, and of all where it holds of one that waits, goes on to hold
 module _ (ask : RecvAsk) (pool : Pool) (Is : Stage → Type 0) (lives : (flags : ℕ) (partial : Partial) → Is (Lives flags partial)) (ends : (partial : Partial) → Is (Ends partial)) (any : Is Waits → (stage : Stage) → Is stage) where
-  same_stage : (work after : Work) → ◌≡◌ {A = Result Work Refusal} (Ok work) (Ok after) → Is work.stage → Is after.stage
-  same_stage work after e is = subst (λ (w : Work). Is w.stage) (ok_parts work after e) is
+  same_stage : (batch after : Batch) → ◌≡◌ {A = Result Batch Refusal} (Ok batch) (Ok after) → Is batch.stage → Is after.stage
+  same_stage batch after e is = subst (λ (w : Batch). Is w.stage) (ok_parts batch after e) is
 
-  moved_stage : (c : Covered) (flags : ℕ) (partial : Partial) (work after : Work) → (moved_by (pool.number + 1) c flags partial >>= λ moved. Ok (with_applied flags moved work)) ≡ Ok after → Is after.stage
-  moved_stage c flags partial work after e =
-      let found = bound (moved_by (pool.number + 1) c flags partial) (λ moved. Ok (with_applied flags moved work)) after e in
-      subst (λ (w : Work). Is w.stage) (ok_parts (with_applied flags found.0 work) after found.2) (lives flags found.0)
+  moved_stage : (c : Covered) (flags : ℕ) (partial : Partial) (batch after : Batch) → (moved_by (pool.number + 1) c flags partial >>= λ moved. Ok (with_applied flags moved batch)) ≡ Ok after → Is after.stage
+  moved_stage c flags partial batch after e =
+      let found = bound (moved_by (pool.number + 1) c flags partial) (λ moved. Ok (with_applied flags moved batch)) after e in
+      subst (λ (w : Batch). Is w.stage) (ok_parts (with_applied flags found.0 batch) after found.2) (lives flags found.0)
 
-  went_stage : (c : Covered) (flags : ℕ) (partial : Partial) (work after : Work) → Is work.stage → (head : Head) → went_on (pool.number + 1) c flags partial work head ≡ Ok after → Is after.stage
-  went_stage c flags partial work after is (heads.Begin header len) e = same_stage work after e is
-  went_stage c flags partial work after is (heads.Object object kind bonus_kind block_size bonus_len max_block to) e = moved_stage c flags partial work after e
-  went_stage c flags partial work after is (heads.FreeObjects first many to) e = moved_stage c flags partial work after e
-  went_stage c flags partial work after is (heads.Write object kind offset size to) e = moved_stage c flags partial work after e
-  went_stage c flags partial work after is (heads.Free object offset size to) e = moved_stage c flags partial work after e
-  went_stage c flags partial work after is (heads.End sums to) e = subst (λ (w : Work). Is w.stage) (ok_parts _ after e) (ends partial)
-  went_stage c flags partial work after is (heads.Spill object size to) e = moved_stage c flags partial work after e
-  went_stage c flags partial work after is (heads.Redact object offset size to) e = moved_stage c flags partial work after e
+  went_stage : (c : Covered) (flags : ℕ) (partial : Partial) (batch after : Batch) → Is batch.stage → (head : Head) → went_on (pool.number + 1) c flags partial batch head ≡ Ok after → Is after.stage
+  went_stage c flags partial batch after is (heads.Begin header len) e = same_stage batch after e is
+  went_stage c flags partial batch after is (heads.Object object kind bonus_kind block_size bonus_len max_block to) e = moved_stage c flags partial batch after e
+  went_stage c flags partial batch after is (heads.FreeObjects first many to) e = moved_stage c flags partial batch after e
+  went_stage c flags partial batch after is (heads.Write object kind offset size to) e = moved_stage c flags partial batch after e
+  went_stage c flags partial batch after is (heads.Free object offset size to) e = moved_stage c flags partial batch after e
+  went_stage c flags partial batch after is (heads.End sums to) e = subst (λ (w : Batch). Is w.stage) (ok_parts _ after e) (ends partial)
+  went_stage c flags partial batch after is (heads.Spill object size to) e = moved_stage c flags partial batch after e
+  went_stage c flags partial batch after is (heads.Redact object offset size to) e = moved_stage c flags partial batch after e
 
-  taken_is : (c : Covered) (work after : Work) (stage : Stage) → work.stage ≡ stage → taken_at ask pool c work stage ≡ Ok after → Is stage → Is after.stage
-  taken_is c work after Waits at e is = any is after.stage
-  taken_is c work after (Lives flags partial) at e is = went_stage c flags partial work after (subst Is (sym at) is) c.head e
-  taken_is c work after (Ends partial) at e is = same_stage work after e (subst Is (sym at) is)
+  taken_is : (c : Covered) (batch after : Batch) (stage : Stage) → batch.stage ≡ stage → taken_at ask pool c batch stage ≡ Ok after → Is stage → Is after.stage
+  taken_is c batch after Waits at e is = any is after.stage
+  taken_is c batch after (Lives flags partial) at e is = went_stage c flags partial batch after (subst Is (sym at) is) c.head e
+  taken_is c batch after (Ends partial) at e is = same_stage batch after e (subst Is (sym at) is)
 
-  batch_is : (records : List Covered) (work : Work) → Is work.stage → Is (batch ask pool records work).work.stage
-  unfolding batch
-  batch_is [] work is = is
-  batch_is (c ∷ rest) work is = go (taken ask pool c work) refl (λ after more. batch_is rest after more)
+  batch_is : (records : List Covered) (batch : Batch) → Is batch.stage → Is (batch_of ask pool records batch).batch.stage
+  unfolding batch_of
+  batch_is [] batch is = is
+  batch_is (c ∷ rest) batch is = go (taken ask pool c batch) refl (λ after more. batch_is rest after more)
     where
-      go : (r : Result Work Refusal) → taken ask pool c work ≡ r → ((after : Work) → Is after.stage → Is (batch ask pool rest after).work.stage) → Is (batch_by r work (batch ask pool rest)).work.stage
-      go (Ok after) e on = on after (taken_is c work after work.stage refl e is)
+      go : (r : Result Batch Refusal) → taken ask pool c batch ≡ r → ((after : Batch) → Is after.stage → Is (batch_of ask pool rest after).batch.stage) → Is (batch_by r batch (batch_of ask pool rest)).batch.stage
+      go (Ok after) e on = on after (taken_is c batch after batch.stage refl e is)
       go (Err refusal) e on = is
 
--- ---- work
+-- ---- batches
 
 -- two feeds so far made the same
-pub record SameWork (one other : Work) : Type 0 where
+pub record SameBatch (one other : Batch) : Type 0 where
   pub stage : SameStage one.stage other.stage
   pub taken : one.taken ≡ other.taken
   pub applied : one.applied ≡ other.applied
@@ -92,7 +92,7 @@ module _ (ask : RecvAsk) (pool other : Pool) where
         rest = ap (λ (name : List ℕ). record (begun ask header component (record { snapshot = Some b; rolls = t })) { base = Some name; objects = a.objects }) same.0;
       }
 
-  opened_alike : (header : Header) (plan also : RecvPlan) → SamePlan plan also → SameWork (opened ask header plan) (opened ask header also)
+  opened_alike : (header : Header) (plan also : RecvPlan) → SamePlan plan also → SameBatch (opened ask header plan) (opened ask header also)
   opened_alike header (Resumes one) (Resumes two) same = record { stage = (refl, same); taken = refl; applied = refl }
   opened_alike header (Resumes one) (Begins component base) same = absurd same
   opened_alike header (Begins component base) (Resumes two) same = absurd same
@@ -102,54 +102,54 @@ module _ (ask : RecvAsk) (pool other : Pool) where
     applied = refl;
   }
 
-  began_alike : Alike → (work also : Work) → SameWork work also → (head : Head) → AnswerAlike SameWork (began ask pool work head) (began ask other also head)
-  began_alike alike work also same (heads.Begin header len) =
-      alike_on SamePlan SameWork (of_plan (recv_plan ask header pool)) (of_plan (recv_plan ask header other))
+  began_alike : Alike → (batch also : Batch) → SameBatch batch also → (head : Head) → AnswerAlike SameBatch (began ask pool batch head) (began ask other also head)
+  began_alike alike batch also same (heads.Begin header len) =
+      alike_on SamePlan SameBatch (of_plan (recv_plan ask header pool)) (of_plan (recv_plan ask header other))
       (λ plan. Ok (opened ask header plan)) (λ plan. Ok (opened ask header plan))
       (of_plans (recv_plan ask header pool) (recv_plan ask header other) (alike header)) (λ x y same. opened_alike header x y same)
-  began_alike alike work also same (heads.Object object kind bonus_kind block_size bonus_len max_block to) = same
-  began_alike alike work also same (heads.FreeObjects first many to) = same
-  began_alike alike work also same (heads.Write object kind offset size to) = same
-  began_alike alike work also same (heads.Free object offset size to) = same
-  began_alike alike work also same (heads.End sums to) = same
-  began_alike alike work also same (heads.Spill object size to) = same
-  began_alike alike work also same (heads.Redact object offset size to) = same
+  began_alike alike batch also same (heads.Object object kind bonus_kind block_size bonus_len max_block to) = same
+  began_alike alike batch also same (heads.FreeObjects first many to) = same
+  began_alike alike batch also same (heads.Write object kind offset size to) = same
+  began_alike alike batch also same (heads.Free object offset size to) = same
+  began_alike alike batch also same (heads.End sums to) = same
+  began_alike alike batch also same (heads.Spill object size to) = same
+  began_alike alike batch also same (heads.Redact object offset size to) = same
 
-  moving_alike : (c : Covered) (flags stated : ℕ) (one two : Partial) (work also : Work) → flags ≡ stated → SamePartial one two → SameWork work also
-      → AnswerAlike SameWork (moved_by (pool.number + 1) c flags one >>= λ moved. Ok (with_applied flags moved work)) (moved_by (other.number + 1) c stated two >>= λ moved. Ok (with_applied stated moved also))
-  moving_alike c flags stated one two work also is same works =
-      subst (λ (n : ℕ). AnswerAlike SameWork (moved_by (pool.number + 1) c flags one >>= λ moved. Ok (with_applied flags moved work)) (moved_by (other.number + 1) c n two >>= λ moved. Ok (with_applied n moved also))) is
-      (alike_on SamePartial SameWork (moved_by (pool.number + 1) c flags one) (moved_by (other.number + 1) c flags two)
-      (λ moved. Ok (with_applied flags moved work)) (λ moved. Ok (with_applied flags moved also))
+  moving_alike : (c : Covered) (flags stated : ℕ) (one two : Partial) (batch also : Batch) → flags ≡ stated → SamePartial one two → SameBatch batch also
+      → AnswerAlike SameBatch (moved_by (pool.number + 1) c flags one >>= λ moved. Ok (with_applied flags moved batch)) (moved_by (other.number + 1) c stated two >>= λ moved. Ok (with_applied stated moved also))
+  moving_alike c flags stated one two batch also is same works =
+      subst (λ (n : ℕ). AnswerAlike SameBatch (moved_by (pool.number + 1) c flags one >>= λ moved. Ok (with_applied flags moved batch)) (moved_by (other.number + 1) c n two >>= λ moved. Ok (with_applied n moved also))) is
+      (alike_on SamePartial SameBatch (moved_by (pool.number + 1) c flags one) (moved_by (other.number + 1) c flags two)
+      (λ moved. Ok (with_applied flags moved batch)) (λ moved. Ok (with_applied flags moved also))
       (moved_alike (pool.number + 1) (other.number + 1) c flags one two same)
       (λ x y alike. record { stage = (refl, alike); taken = refl; applied = ap (λ (n : ℕ). n + 1) works.applied }))
 
-  went_alike : (c : Covered) (flags stated : ℕ) (one two : Partial) (work also : Work) → flags ≡ stated → SamePartial one two → SameWork work also → (head : Head)
-      → AnswerAlike SameWork (went_on (pool.number + 1) c flags one work head) (went_on (other.number + 1) c stated two also head)
-  went_alike c flags stated one two work also is same works (heads.Begin header len) = works
-  went_alike c flags stated one two work also is same works (heads.Object object kind bonus_kind block_size bonus_len max_block to) = moving_alike c flags stated one two work also is same works
-  went_alike c flags stated one two work also is same works (heads.FreeObjects first many to) = moving_alike c flags stated one two work also is same works
-  went_alike c flags stated one two work also is same works (heads.Write object kind offset size to) = moving_alike c flags stated one two work also is same works
-  went_alike c flags stated one two work also is same works (heads.Free object offset size to) = moving_alike c flags stated one two work also is same works
-  went_alike c flags stated one two work also is same works (heads.End sums to) = record { stage = same; taken = refl; applied = works.applied }
-  went_alike c flags stated one two work also is same works (heads.Spill object size to) = moving_alike c flags stated one two work also is same works
-  went_alike c flags stated one two work also is same works (heads.Redact object offset size to) = moving_alike c flags stated one two work also is same works
+  went_alike : (c : Covered) (flags stated : ℕ) (one two : Partial) (batch also : Batch) → flags ≡ stated → SamePartial one two → SameBatch batch also → (head : Head)
+      → AnswerAlike SameBatch (went_on (pool.number + 1) c flags one batch head) (went_on (other.number + 1) c stated two also head)
+  went_alike c flags stated one two batch also is same works (heads.Begin header len) = works
+  went_alike c flags stated one two batch also is same works (heads.Object object kind bonus_kind block_size bonus_len max_block to) = moving_alike c flags stated one two batch also is same works
+  went_alike c flags stated one two batch also is same works (heads.FreeObjects first many to) = moving_alike c flags stated one two batch also is same works
+  went_alike c flags stated one two batch also is same works (heads.Write object kind offset size to) = moving_alike c flags stated one two batch also is same works
+  went_alike c flags stated one two batch also is same works (heads.Free object offset size to) = moving_alike c flags stated one two batch also is same works
+  went_alike c flags stated one two batch also is same works (heads.End sums to) = record { stage = same; taken = refl; applied = works.applied }
+  went_alike c flags stated one two batch also is same works (heads.Spill object size to) = moving_alike c flags stated one two batch also is same works
+  went_alike c flags stated one two batch also is same works (heads.Redact object offset size to) = moving_alike c flags stated one two batch also is same works
 
   -- the plans are asked only of a receive that waits
   abbrev AlikeAt : Stage → Type 0
   AlikeAt stage = PlannedAlike ask stage pool other
 
-  taken_alike : (c : Covered) (work also : Work) (stage too : Stage) → SameStage stage too → SameWork work also → AlikeAt stage
-      → AnswerAlike SameWork (taken_at ask pool c work stage) (taken_at ask other c also too)
-  taken_alike c work also Waits Waits same works plans = began_alike plans work also works c.head
-  taken_alike c work also Waits (Lives stated two) same works plans = absurd same
-  taken_alike c work also Waits (Ends two) same works plans = absurd same
-  taken_alike c work also (Lives flags one) Waits same works plans = absurd same
-  taken_alike c work also (Lives flags one) (Lives stated two) same works plans = went_alike c flags stated one two work also same.0 same.1 works c.head
-  taken_alike c work also (Lives flags one) (Ends two) same works plans = absurd same
-  taken_alike c work also (Ends one) Waits same works plans = absurd same
-  taken_alike c work also (Ends one) (Lives stated two) same works plans = absurd same
-  taken_alike c work also (Ends one) (Ends two) same works plans = works
+  taken_alike : (c : Covered) (batch also : Batch) (stage too : Stage) → SameStage stage too → SameBatch batch also → AlikeAt stage
+      → AnswerAlike SameBatch (taken_at ask pool c batch stage) (taken_at ask other c also too)
+  taken_alike c batch also Waits Waits same works plans = began_alike plans batch also works c.head
+  taken_alike c batch also Waits (Lives stated two) same works plans = absurd same
+  taken_alike c batch also Waits (Ends two) same works plans = absurd same
+  taken_alike c batch also (Lives flags one) Waits same works plans = absurd same
+  taken_alike c batch also (Lives flags one) (Lives stated two) same works plans = went_alike c flags stated one two batch also same.0 same.1 works c.head
+  taken_alike c batch also (Lives flags one) (Ends two) same works plans = absurd same
+  taken_alike c batch also (Ends one) Waits same works plans = absurd same
+  taken_alike c batch also (Ends one) (Lives stated two) same works plans = absurd same
+  taken_alike c batch also (Ends one) (Ends two) same works plans = works
 
   -- where all plans are alike, they are at each stage
   any_stage : Alike → (stage : Stage) → AlikeAt stage
@@ -157,28 +157,28 @@ module _ (ask : RecvAsk) (pool other : Pool) where
   any_stage plans (Lives flags partial) = tt
   any_stage plans (Ends partial) = tt
 
-  later : (c : Covered) (work after : Work) (stage : Stage) → work.stage ≡ stage → taken_at ask pool c work stage ≡ Ok after → AlikeAt stage → AlikeAt after.stage
-  later c work after stage is e plans = taken_is ask pool AlikeAt (λ flags partial. tt) (λ partial. tt) any_stage c work after stage is e plans
+  later : (c : Covered) (batch after : Batch) (stage : Stage) → batch.stage ≡ stage → taken_at ask pool c batch stage ≡ Ok after → AlikeAt stage → AlikeAt after.stage
+  later c batch after stage is e plans = taken_is ask pool AlikeAt (λ flags partial. tt) (λ partial. tt) any_stage c batch after stage is e plans
 
   -- what is taken of the records is the same, and so is the first refusal
-  pub record SameBatch (one two : Batch) : Type 0 where
-    pub work : SameWork one.work two.work
+  pub record SameEndedBatch (one two : EndedBatch) : Type 0 where
+    pub batch : SameBatch one.batch two.batch
     pub fault : one.fault ≡ two.fault
 
-  pub batch_alike : (records : List Covered) (work also : Work) → SameWork work also → AlikeAt work.stage → SameBatch (batch ask pool records work) (batch ask other records also)
-  unfolding batch
-  batch_alike [] work also works plans = record { work = works; fault = refl }
-  batch_alike (c ∷ rest) work also works plans =
-      go (taken ask pool c work) (taken ask other c also) refl (taken_alike c work also work.stage also.stage works.stage works plans)
+  pub batch_alike : (records : List Covered) (batch also : Batch) → SameBatch batch also → AlikeAt batch.stage → SameEndedBatch (batch_of ask pool records batch) (batch_of ask other records also)
+  unfolding batch_of
+  batch_alike [] batch also works plans = record { batch = works; fault = refl }
+  batch_alike (c ∷ rest) batch also works plans =
+      go (taken ask pool c batch) (taken ask other c also) refl (taken_alike c batch also batch.stage also.stage works.stage works plans)
       (λ after too more plans. batch_alike rest after too more plans)
     where
-      go : (r s : Result Work Refusal) → taken ask pool c work ≡ r → AnswerAlike SameWork r s
-          → ((after too : Work) → SameWork after too → AlikeAt after.stage → SameBatch (batch ask pool rest after) (batch ask other rest too))
-          → SameBatch (batch_by r work (batch ask pool rest)) (batch_by s also (batch ask other rest))
-      go (Ok after) (Ok too) e alike on = on after too alike (later c work after work.stage refl e plans)
+      go : (r s : Result Batch Refusal) → taken ask pool c batch ≡ r → AnswerAlike SameBatch r s
+          → ((after too : Batch) → SameBatch after too → AlikeAt after.stage → SameEndedBatch (batch_of ask pool rest after) (batch_of ask other rest too))
+          → SameEndedBatch (batch_by r batch (batch_of ask pool rest)) (batch_by s also (batch_of ask other rest))
+      go (Ok after) (Ok too) e alike on = on after too alike (later c batch after batch.stage refl e plans)
       go (Ok after) (Err refusal) e alike on = absurd alike
       go (Err refusal) (Ok too) e alike on = absurd alike
-      go (Err refusal) (Err fault) e alike on = record { work = works; fault = ap (λ (f : Refusal). Some f) alike }
+      go (Err refusal) (Err fault) e alike on = record { batch = works; fault = ap (λ (f : Refusal). Some f) alike }
 
 -- ---- commits
 
@@ -200,12 +200,12 @@ next_limited pool =
     all_limits (nat_lt most_partials (length pool.partials)) (nat_lt most_datasets (count_datasets pool)) (nat_lt most_snapshots (length pool.snapshots + length pool.partials)) (nat_lt last_number (pool.number + 1))
     most_partials most_datasets most_snapshots last_number (record pool { number = pool.number + 1 })
 
-put_limited : (work : Work) (pool : Pool) → RefusedAtLimit (put work pool)
-put_limited work pool = go work.taken work.stage
+put_limited : (batch : Batch) (pool : Pool) → RefusedAtLimit (put batch pool)
+put_limited batch pool = go batch.taken batch.stage
   where
-    go : (t : Bool) (stage : Stage) → RefusedAtLimit (cond t (put_at work.rolls stage pool) (Ok pool))
+    go : (t : Bool) (stage : Stage) → RefusedAtLimit (cond t (put_at batch.rolls stage pool) (Ok pool))
     go true Waits = tt
-    go true (Lives flags partial) = next_limited (with_partial work.rolls partial pool)
+    go true (Lives flags partial) = next_limited (with_partial batch.rolls partial pool)
     go true (Ends partial) = next_limited (with_finished partial pool)
     go false stage = tt
 
@@ -232,31 +232,31 @@ committed_alike before also pool other (Ok x) (Ok y) f g one two on = inr (inr (
 committed_alike before also pool other (Ok x) (Err refusal) f g one two on = inr (inl two)
 committed_alike before also pool other (Err refusal) s f g one two on = inl one
 
-settled_alike : (before also : Stage) (pool other : Pool) (work too : Work) → SameWork work too → (fault : Option Refusal) → Either (settled before pool work fault) (settled also other too fault)
-settled_alike before also pool other work too works None =
-    committed_alike before also pool other (put work pool) (put too other) (λ next. Goes next work.stage) (λ next. Goes next too.stage) (put_limited work pool) (put_limited too other) (λ x y. works.stage)
-settled_alike before also pool other work too works (Some refusal) = go (keeps_front refusal) (is_kept work.stage) (is_kept too.stage) (kept_alike work.stage too.stage works.stage)
+settled_alike : (before also : Stage) (pool other : Pool) (batch too : Batch) → SameBatch batch too → (fault : Option Refusal) → Either (settled before pool batch fault) (settled also other too fault)
+settled_alike before also pool other batch too works None =
+    committed_alike before also pool other (put batch pool) (put too other) (λ next. Goes next batch.stage) (λ next. Goes next too.stage) (put_limited batch pool) (put_limited too other) (λ x y. works.stage)
+settled_alike before also pool other batch too works (Some refusal) = go (keeps_front refusal) (is_kept batch.stage) (is_kept too.stage) (kept_alike batch.stage too.stage works.stage)
   where
     go : (front one two : Bool) → one ≡ two
-        → Either (cond (front && one) (committed before pool (put work pool) (λ next. Stops next refusal)) (Stops (left_by before pool) refusal))
+        → Either (cond (front && one) (committed before pool (put batch pool) (λ next. Stops next refusal)) (Stops (left_by before pool) refusal))
         (cond (front && two) (committed also other (put too other) (λ next. Stops next refusal)) (Stops (left_by also other) refusal))
-    go true true true is = committed_alike before also pool other (put work pool) (put too other) (λ next. Stops next refusal) (λ next. Stops next refusal) (put_limited work pool) (put_limited too other) (λ x y. refl)
+    go true true true is = committed_alike before also pool other (put batch pool) (put too other) (λ next. Stops next refusal) (λ next. Stops next refusal) (put_limited batch pool) (put_limited too other) (λ x y. refl)
     go true true false is = absurd cc
     go true false true is = absurd cc
     go true false false is = inr (inr refl)
     go false one two is = inr (inr refl)
 
 fed_alike : (ask : RecvAsk) (records : List Covered) (fault : Option Refusal) (stage also : Stage) (pool other : Pool) → SameStage stage also → PlannedAlike ask stage pool other
-    → ((batch ask pool records (at_stage stage)).work.applied ≡ (batch ask other records (at_stage also)).work.applied) × Either (fed ask records fault stage pool) (fed ask records fault also other)
+    → ((batch_of ask pool records (at_stage stage)).batch.applied ≡ (batch_of ask other records (at_stage also)).batch.applied) × Either (fed ask records fault stage pool) (fed ask records fault also other)
 unfolding fed
 fed_alike ask records fault stage also pool other same plans =
-    let start : SameWork (at_stage stage) (at_stage also) = record { stage = same; taken = refl; applied = refl } in
+    let start : SameBatch (at_stage stage) (at_stage also) = record { stage = same; taken = refl; applied = refl } in
     let done = batch_alike ask pool other records (at_stage stage) (at_stage also) start plans in
-    let one = batch ask pool records (at_stage stage) in
-    let two = batch ask other records (at_stage also) in (
-      done.work.applied,
-      subst (λ (f : Option Refusal). Either (settled stage pool one.work (first_fault one.fault fault)) (settled also other two.work (first_fault f fault))) done.fault
-          (settled_alike stage also pool other one.work two.work done.work (first_fault one.fault fault)),
+    let one = batch_of ask pool records (at_stage stage) in
+    let two = batch_of ask other records (at_stage also) in (
+      done.batch.applied,
+      subst (λ (f : Option Refusal). Either (settled stage pool one.batch (first_fault one.fault fault)) (settled also other two.batch (first_fault f fault))) done.fault
+          (settled_alike stage also pool other one.batch two.batch done.batch (first_fault one.fault fault)),
     )
 
 pub feeds_own : FeedsAreOwn
@@ -270,15 +270,15 @@ planned (Lives flags partial) is ask pool other = tt
 planned (Ends partial) is ask pool other = tt
 
 -- a feed that goes on stands where its records led
-led : (before : Stage) (pool next : Pool) (work : Work) (fault : Option Refusal) (after : Stage) → settled before pool work fault ≡ Goes next after → work.stage ≡ after
-led before pool next work None after e = go (put work pool) e
+led : (before : Stage) (pool next : Pool) (batch : Batch) (fault : Option Refusal) (after : Stage) → settled before pool batch fault ≡ Goes next after → batch.stage ≡ after
+led before pool next batch None after e = go (put batch pool) e
   where
-    go : (r : Result Pool Refusal) → committed before pool r (λ now. Goes now work.stage) ≡ Goes next after → work.stage ≡ after
+    go : (r : Result Pool Refusal) → committed before pool r (λ now. Goes now batch.stage) ≡ Goes next after → batch.stage ≡ after
     go (Ok now) e = cc
     go (Err refusal) e = absurd cc
-led before pool next work (Some refusal) after e = go (keeps_front refusal && is_kept work.stage) (put work pool) e
+led before pool next batch (Some refusal) after e = go (keeps_front refusal && is_kept batch.stage) (put batch pool) e
   where
-    go : (t : Bool) (r : Result Pool Refusal) → cond t (committed before pool r (λ now. Stops now refusal)) (Stops (left_by before pool) refusal) ≡ Goes next after → work.stage ≡ after
+    go : (t : Bool) (r : Result Pool Refusal) → cond t (committed before pool r (λ now. Stops now refusal)) (Stops (left_by before pool) refusal) ≡ Goes next after → batch.stage ≡ after
     go true (Ok now) e = absurd cc
     go true (Err other) e = absurd cc
     go false r e = absurd cc
@@ -286,8 +286,8 @@ led before pool next work (Some refusal) after e = go (keeps_front refusal && is
 still_planned : (ask : RecvAsk) (records : List Covered) (fault : Option Refusal) (stage after : Stage) (pool next : Pool) → IsPlanned stage → fed ask records fault stage pool ≡ Goes next after → IsPlanned after
 unfolding fed
 still_planned ask records fault stage after pool next is e =
-    let done = batch ask pool records (at_stage stage) in
-    subst IsPlanned (led stage pool next done.work (first_fault done.fault fault) after e)
+    let done = batch_of ask pool records (at_stage stage) in
+    subst IsPlanned (led stage pool next done.batch (first_fault done.fault fault) after e)
     (batch_is ask pool IsPlanned (λ flags partial. tt) (λ partial. tt) (λ none. absurd none) records (at_stage stage) is)
 
 record Next (ask : RecvAsk) (text piece : List ℕ) (pieces : List (List ℕ)) (stage last : Stage) : Type 0 where

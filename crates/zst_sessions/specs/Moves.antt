@@ -19,7 +19,7 @@ use Rattle.zst_model.specs.refusals.Texts.{guid_text}
 use Rattle.zst_model.specs.sends.Headers.{Sent}
 use Rattle.zst_plan.specs.declared.receive.RecvAsk.{RecvAsk}
 use Rattle.zst_recv.specs.Answers.{applied_of, point_at}
-use Rattle.zst_recv.specs.Faults.{stream_limit}
+use Rattle.zst_reader.specs.InputReads.{stream_limit}
 use Rattle.zst_recv.specs.Feeds.{fed_piece}
 use Rattle.zst_recv.specs.ReceiveSteps.{Stage, Waits, Ends, Fed, Goes, Stops, left_by}
 use Rattle.zst_recv.specs.Tokens.{token_told}

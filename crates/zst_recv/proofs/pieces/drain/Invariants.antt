@@ -11,8 +11,8 @@ use Rattle.zst_stream.specs.Reading.{complete, reading}
 use Rattle.zst_recv.specs.Costs.{Spends}
 use Rattle.zst_recv.specs.Faults.{Fills}
 use Rattle.zst_recv.specs.Plans.{RefusesOne}
-use Rattle.zst_recv.specs.ReceiveSteps.{Work}
-use Rattle.zst_recv.specs.Stages.{IsWork, StageFits, StandsBehind, TellsBefore, is_live, waits_at}
+use Rattle.zst_recv.specs.ReceiveSteps.{Batch}
+use Rattle.zst_recv.specs.Stages.{IsBatch, StageFits, StandsBehind, TellsBefore, is_live, waits_at}
 use Rattle.zst_recv.proofs.DrainLemmas.{Draining}
 use Rattle.zst_recv.proofs.pieces.drain.Given as goal
 
@@ -20,10 +20,10 @@ use Rattle.zst_recv.proofs.pieces.drain.Given as goal
 abbrev pub invariant-records : goal.invariant-records
 invariant-records g l =
     record {
-      drained : (tight : Bool) (start : g.row.D.Denot) (running : Pool) (work : Work) (text : List ℕ) (handed : List Covered) → IsHonest l.io
-          → IsUnderWay tight (g.D.Disk.state start) (disk_of l.fn.io) l.fn.io.space l.kept running → TellsBefore l.ask work.stage l.kept.dir running
-          → StandsFor l.fn.reader text handed → IsWork (bound_of tight (running.number + 1)) (blocks_of l.fn.io) l.fn.batch work
-          → Draining l.ask running l.reader text handed (IsWork (bound_of tight (running.number + 1)) (blocks_of l.io) l.batch) work;
+      drained : (tight : Bool) (start : g.row.D.Denot) (running : Pool) (plain : Batch) (text : List ℕ) (handed : List Covered) → IsHonest l.io
+          → IsUnderWay tight (g.D.Disk.state start) (disk_of l.fn.io) l.fn.io.space l.kept running → TellsBefore l.ask plain.stage l.kept.dir running
+          → StandsFor l.fn.reader text handed → IsBatch (bound_of tight (running.number + 1)) (blocks_of l.fn.io) l.fn.batch plain
+          → Draining l.ask running l.reader text handed (IsBatch (bound_of tight (running.number + 1)) (blocks_of l.io) l.batch) plain;
       stage : StageFits l.kept.dir l.ask.target l.batch.stage;
       idle : l.batch.taken ≡ false → l.batch ≡ l.fn.batch;
       waits : waits_at l.batch.stage ≡ true → l.batch ≡ l.fn.batch;

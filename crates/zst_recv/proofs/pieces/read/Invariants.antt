@@ -12,8 +12,8 @@ use Rattle.zst_stream.specs.Reading.{complete, reading, waiting}
 use Rattle.zst_recv.specs.Costs.{Spends}
 use Rattle.zst_recv.specs.Faults.{Fills}
 use Rattle.zst_recv.specs.Plans.{RefusesOne}
-use Rattle.zst_recv.specs.ReceiveSteps.{Work}
-use Rattle.zst_recv.specs.Stages.{HasRead, IsWork, StageFits, TellsBefore, is_live, waits_at}
+use Rattle.zst_recv.specs.ReceiveSteps.{Batch}
+use Rattle.zst_recv.specs.Stages.{HasRead, IsBatch, StageFits, TellsBefore, is_live, waits_at}
 use Rattle.zst_recv.proofs.PieceFronts.{FrontIsTaken}
 use Rattle.zst_recv.proofs.pieces.read.Given as goal
 
@@ -22,10 +22,10 @@ abbrev pub invariant-pushes : goal.invariant-pushes
 invariant-pushes g l =
     record {
       piece : (front : List ℕ) × (l.piece ≡ front ++ l.rest)
-          × ((tight : Bool) (start : g.row.D.Denot) (running : Pool) (work : Work) (text : List ℕ) (handed : List Covered) → IsHonest l.io
-          → IsUnderWay tight (g.D.Disk.state start) (disk_of l.fn.io) l.fn.io.space l.kept running → TellsBefore l.ask work.stage l.kept.dir running
-          → HandsOut l.fn.reader text handed waiting → IsWork (bound_of tight (running.number + 1)) (blocks_of l.fn.io) l.fn.batch work
-          → FrontIsTaken l.ask running l.reader text front handed (IsWork (bound_of tight (running.number + 1)) (blocks_of l.io) l.batch) work);
+          × ((tight : Bool) (start : g.row.D.Denot) (running : Pool) (plain : Batch) (text : List ℕ) (handed : List Covered) → IsHonest l.io
+          → IsUnderWay tight (g.D.Disk.state start) (disk_of l.fn.io) l.fn.io.space l.kept running → TellsBefore l.ask plain.stage l.kept.dir running
+          → HandsOut l.fn.reader text handed waiting → IsBatch (bound_of tight (running.number + 1)) (blocks_of l.fn.io) l.fn.batch plain
+          → FrontIsTaken l.ask running l.reader text front handed (IsBatch (bound_of tight (running.number + 1)) (blocks_of l.io) l.batch) plain);
       stage : StageFits l.kept.dir l.ask.target l.batch.stage;
       idle : l.batch.taken ≡ false → l.batch ≡ l.fn.batch;
       waits : waits_at l.batch.stage ≡ true → l.batch ≡ l.fn.batch;

@@ -1,61 +1,61 @@
-use Rattle.std.proofs.Common.{◌≡◌, ◌+◌, ℕ, Option, Ok, Result, ap, sym, ◌∙◌, subst, [], ◌∷◌}
+use Rattle.std.proofs.Common.{◌≡◌, ◌+◌, ℕ, Option, Ok, Err, Result, true, false, ap, sym, ◌∙◌, subst, refl, rules, [], ◌∷◌}
 use Rattle.zst_image.specs.Reads.{PartialIs, bound_of}
 use Rattle.zst_block.specs.Blocks.{Has}
 use Rattle.zst_record.specs.Heads.{covered_of}
 use Rattle.zst_model.specs.states.AppliedItems.{◌>>=◌}
-use Rattle.zst_model.specs.pools.Pool as plain
+use Rattle.zst_model.specs.pools.Pool as models
 use Rattle.zst_model.specs.declared.refusals.refusal.Refusal.{Refusal}
 use Rattle.zst_recv.proofs.AlikeAnswers.{err_is}
 use Rattle.zst_recv.specs.ReceiveSteps.{moved_by, taken, with_applied}
-use Rattle.zst_recv.specs.Stages.{IsWork, StageFits}
+use Rattle.zst_recv.specs.Stages.{IsBatch, StageFits}
 use Rattle.zst_recv.specs.TakenRecords.{Takes}
-use Rattle.zst_recv.specs.declared.batch.Batch.{Batch}
+use Rattle.zst_recv.specs.declared.batch.Batch as batches
+use Rattle.zst_recv.specs.declared.stage.Stage as coded
 use Rattle.zst_recv.specs.declared.stage.Stage.TheVariants as stages
-use Rattle.zst_recv.proofs.RecordEffects.{one_more, refuses_on, taken_is, under_way, work_stays}
+use Rattle.zst_dir.specs.declared.rows.Partial.{Partial as Row}
+use Rattle.zst_recv.specs.Batches.{Moves}
+use Rattle.zst_recv.proofs.BatchMoves.{moves_gone, moves_kept, moves_refused, neither_is}
+use Rattle.zst_recv.proofs.RecordEffects.{one_more, refuses_on, taken_is, under_way, batch_stays}
 use Rattle.zst_recv.specs.Costs.{Spends}
 use Rattle.zst_recv.specs.Faults.{stop_of}
 use Rattle.zst_recv.specs.declared.fault.RecvFault.{RecvFault}
 use Rattle.zst_recv.proofs.batch.Batch.go_on.Goals as goal
 
 pub returns-in_err-move_by-in-Lives-clause-took : goal.returns-in_err-move_by-in-Lives-clause-took
-returns-in_err-move_by-in-Lives-clause-took g c = λ tight running ask work honest number is.
+returns-in_err-move_by-in-Lives-clause-took g c = λ tight running ask plain honest number is.
     let bound = bound_of tight (running.number + 1) in
     let same : bound_of tight c.args.number ≡ bound = ap (bound_of tight) number in
     let covered = covered_of c.args.covered.now in
     let old = c.args.io.now in
     let new = c.move_by.new.io in
     let flags = c.in-Lives.flags in
-    let under = under_way bound (Has (g.D.Disk.state old.disk.now).seen old.space) c.args.self.now work flags c.in-Lives.partial c.in-Lives.is is in
+    let under = under_way bound (Has (g.D.Disk.state old.disk.now).seen old.space) c.args.self.now plain flags c.in-Lives.partial c.in-Lives.is is in
     let fault = c.in_err-move_by-in-Lives.field-0.0 in
     let row = c.move_by.new.partial in
-    let batch : Batch = record { stage = stages.Lives flags row; rolls = c.args.self.now.rolls; taken = c.args.self.now.taken; applied = c.args.self.now.applied } in
-    subst (Takes (IsWork bound (Has (g.D.Disk.state new.disk.now).seen new.space) batch) work (taken ask running covered work)) (sym (err_is c.from_residual.result fault c.from_residual.ensures.1)) (
-      refuses_on (moved_by c.args.number covered flags under.0) (λ next. Ok (with_applied flags next work)) (taken ask running covered work) fault
-          (taken_is ask running covered work c.args.number flags under.0 under.1 number c.requires.later c.requires.not_last) (c.in_err-move_by-in-Lives.ensures.moved tight under.0 honest (subst (λ (b : Option ℕ). PartialIs b (Has (g.D.Disk.state old.disk.now).seen old.space) c.in-Lives.partial under.0) (sym same) under.2)),
-      work_stays bound (g.D.Disk.state old.disk.now) (g.D.Disk.state new.disk.now) old.space new.space c.args.self.now work flags c.in-Lives.partial row under.0 c.in_err-move_by-in-Lives.ensures.fills.fills under.2 under.1
+    let batch : batches.Batch = record { stage = stages.Lives flags row; rolls = c.args.self.now.rolls; taken = c.args.self.now.taken; applied = c.args.self.now.applied } in
+    subst (Takes (IsBatch bound (Has (g.D.Disk.state new.disk.now).seen new.space) batch) plain (taken ask running covered plain)) (sym (err_is c.from_residual.result fault c.from_residual.ensures.1)) (
+      refuses_on (moved_by c.args.number covered flags under.0) (λ next. Ok (with_applied flags next plain)) (taken ask running covered plain) fault
+          (taken_is ask running covered plain c.args.number flags under.0 under.1 number c.requires.later c.requires.not_last) (c.in_err-move_by-in-Lives.ensures.moved tight under.0 honest (subst (λ (b : Option ℕ). PartialIs b (Has (g.D.Disk.state old.disk.now).seen old.space) c.in-Lives.partial under.0) (sym same) under.2)),
+      batch_stays bound (g.D.Disk.state old.disk.now) (g.D.Disk.state new.disk.now) old.space new.space c.args.self.now plain flags c.in-Lives.partial row under.0 c.in_err-move_by-in-Lives.ensures.fills.fills under.2 under.1
           c.in_err-move_by-in-Lives.ensures.stays is,
     )
 
 pub returns-clause-took : goal.returns-clause-took
-returns-clause-took g c = λ tight running ask work honest number is.
+returns-clause-took g c = λ tight running ask plain honest number is.
     let bound = bound_of tight (running.number + 1) in
     let same : bound_of tight c.args.number ≡ bound = ap (bound_of tight) number in
     let covered = covered_of c.args.covered.now in
     let old = c.args.io.now in
     let new = c.move_by.new.io in
     let flags = c.in-Lives.flags in
-    let under = under_way bound (Has (g.D.Disk.state old.disk.now).seen old.space) c.args.self.now work flags c.in-Lives.partial c.in-Lives.is is in
+    let under = under_way bound (Has (g.D.Disk.state old.disk.now).seen old.space) c.args.self.now plain flags c.in-Lives.partial c.in-Lives.is is in
     let moved =
     c.in_ok-move_by-in-Lives.ensures.moved tight under.0 honest (subst (λ (b : Option ℕ). PartialIs b (Has (g.D.Disk.state old.disk.now).seen old.space) c.in-Lives.partial under.0) (sym same) under.2) in (
-      with_applied flags moved.0 work,
-      taken_is ask running covered work c.args.number flags under.0 under.1 number c.requires.later c.requires.not_last
-          ∙ ap (λ (r : Result plain.Partial Refusal). r >>= λ next. Ok (with_applied flags next work)) moved.1,
-      one_more bound (Has (g.D.Disk.state new.disk.now).seen new.space) c.args.self.now work flags c.saturating_add-self.result c.move_by.new.partial moved.0 (subst (λ (b : Option ℕ). PartialIs b (Has (g.D.Disk.state new.disk.now).seen new.space) c.move_by.new.partial moved.0) same moved.2) is.rolls is.applied c.saturating_add-self.ensures,
+      with_applied flags moved.0 plain,
+      taken_is ask running covered plain c.args.number flags under.0 under.1 number c.requires.later c.requires.not_last
+          ∙ ap (λ (r : Result models.Partial Refusal). r >>= λ next. Ok (with_applied flags next plain)) moved.1,
+      one_more bound (Has (g.D.Disk.state new.disk.now).seen new.space) c.args.self.now plain flags c.saturating_add-self.result c.move_by.new.partial moved.0 (subst (λ (b : Option ℕ). PartialIs b (Has (g.D.Disk.state new.disk.now).seen new.space) c.move_by.new.partial moved.0) same moved.2) is.rolls is.applied c.saturating_add-self.ensures,
     )
-
-pub returns-clause-stage : goal.returns-clause-stage
-returns-clause-stage g c = λ rows target fits.
-    c.in_ok-move_by-in-Lives.ensures.puts rows target (subst (StageFits rows target) c.in-Lives.is fits)
 
 pub returns-in_err-move_by-in-Lives-clause-damaged : goal.returns-in_err-move_by-in-Lives-clause-damaged
 returns-in_err-move_by-in-Lives-clause-damaged g c = λ rows target sector stated found honest fits is.
@@ -74,3 +74,26 @@ returns-in_err-move_by-in-Lives-clause-spends g c =
 pub returns-in_err-move_by-in-Lives-clause-unplanned : goal.returns-in_err-move_by-in-Lives-clause-unplanned
 returns-in_err-move_by-in-Lives-clause-unplanned g c = λ fault is.
     c.in_err-move_by-in-Lives.ensures.unplanned fault (sym (err_is c.from_residual.result c.in_err-move_by-in-Lives.field-0.0 c.from_residual.ensures.1) ∙ is)
+
+pub returns-in-Waits-clause-moves : goal.returns-in-Waits-clause-moves
+returns-in-Waits-clause-moves g c = λ rows target.
+    let head = c.args.covered.now.head.now in
+    let kind = neither_is head c.requires.later c.requires.not_last in
+    moves_kept rows target head c.args.self.now _ tt (first_of (cc, search rules)) (λ begin. absurd (let both : true ≡ false = sym begin ∙ kind.0 in cc both)) (λ end. absurd (let both : true ≡ false = sym end ∙ kind.1 in cc both))
+
+pub returns-in_err-move_by-in-Lives-clause-moves : goal.returns-in_err-move_by-in-Lives-clause-moves
+returns-in_err-move_by-in-Lives-clause-moves g c = λ rows target.
+    let head = c.args.covered.now.head.now in
+    let old = c.args.self.now in
+    let fault = c.in_err-move_by-in-Lives.field-0.0 in
+    let batch : batches.Batch = record old { stage = stages.Lives c.in-Lives.flags c.move_by.new.partial } in
+    let kind = neither_is head c.requires.later c.requires.not_last in
+    let same : old ≡ batch = ap (λ (s : coded.Stage). record old { stage = s }) (c.in-Lives.is ∙ ap (λ (r : Row). stages.Lives c.in-Lives.flags r) (sym c.in_err-move_by-in-Lives.ensures.stays)) in
+    subst (λ (r : Result (Unit {0}) RecvFault). Moves rows target head old batch r) (sym (err_is c.from_residual.result fault c.from_residual.ensures.1))
+    (subst (λ (b : batches.Batch). Moves {A = Unit {0}} rows target head old b (Err fault)) same (moves_refused rows target head old fault kind.1))
+
+pub returns-clause-moves : goal.returns-clause-moves
+returns-clause-moves g c = λ rows target.
+    let head = c.args.covered.now.head.now in
+    let kind = neither_is head c.requires.later c.requires.not_last in
+    moves_gone rows target head c.args.self.now _ tt c.in-Lives.flags c.in-Lives.partial c.move_by.new.partial c.in-Lives.is refl refl kind.1 (λ can. c.in_ok-move_by-in-Lives.ensures.puts rows target can)

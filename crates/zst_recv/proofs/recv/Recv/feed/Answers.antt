@@ -1,11 +1,14 @@
-use Rattle.std.proofs.Common.{◌≡◌, ◌&&◌, ◌++◌, Bool, true, false, cond, Some, None, Ok, Err, refl, sym, ap, ◌∙◌, subst, arith, ◌⊎◌}
-use Rattle.std.specs.Prelude.{◌+◌, ◌-◌, ℕ, IsSome, List, [], Result, not, sum_by}
+use Rattle.std.proofs.Common.{◌≡◌, ◌&&◌, ◌++◌, ◌||◌, Bool, true, false, cond, Some, None, Ok, Err, refl, sym, ap, ◌∙◌, subst, arith, ◌⊎◌}
+use Rattle.std.specs.Prelude.{◌+◌, ◌-◌, ◌≤◌, ℕ, IsSome, List, [], Result, length, not, sum_by}
+use Rattle.std.proofs.lemmas.List.{length-append}
 use Rattle.zst_space.specs.FreeSectors.{FreeSectors}
+use Rattle.zst_reader.specs.InputReads.{stream_limit}
 use Rattle.zst_reader.specs.StandsFor.{StandsFor, pushed_of, HandsOut}
 use Rattle.zst_reader.specs.declared.reader.Reader.{Reader}
 use Rattle.zst_record.specs.Heads.{Covered, size_of}
 use Rattle.zst_outside.specs.Images.{DiskState}
 use Rattle.zst_block.specs.Blocks.{FillsFree, Has}
+use Rattle.zst_block.specs.IoCalls.{HasCause, fails}
 use Rattle.zst_image.specs.Commits.{Ready}
 use Rattle.zst_image.specs.Reads.{bound_of, free_by}
 use Rattle.zst_image.specs.declared.pool_state.PoolState.{PoolState}
@@ -19,28 +22,32 @@ use Rattle.zst_pool.proofs.PoolsAtRest.{commit_still, rests_on, rests_still}
 use Rattle.zst_model.specs.declared.refusals.faults.Quantity.TheVariants as quantities
 use Rattle.zst_model.specs.declared.refusals.plan_fault.PlanFault.{PlanFault}
 use Rattle.zst_model.specs.declared.refusals.plan_fault.PlanFault.TheVariants as plans
-use Rattle.zst_recv.specs.Faults.{IsFeedFault, keeps_before, recv_refusal, stop_at, stop_of, stream_limit}
-use Rattle.zst_recv.specs.ReceiveSteps.{Stage, Work, at_stage, is_kept, left_by, put}
+use Rattle.zst_recv.specs.Faults.{keeps_before, recv_refusal, stop_at, stop_of}
+use Rattle.zst_recv.specs.FedPools.{LeavesPool}
+use Rattle.zst_recv.specs.ReceiveSteps.{Batch, Stage, at_stage, is_kept, left_by, put}
 use Rattle.zst_recv.specs.Answers.{is_done}
 use Rattle.zst_recv.specs.Feeds.{new_records}
 use Rattle.zst_recv.specs.Commits.{Puts}
-use Rattle.zst_recv.specs.Stages.{HasRead, IsStage, IsWork, Receives, StageFits, TellsBefore, has_partial, is_live, received_at, waits_at}
+use Rattle.zst_recv.specs.Stages.{HasRead, IsBatch, IsStage, Receives, StageFits, TellsBefore, has_partial, is_live, received_at, waits_at}
 use Rattle.zst_recv.specs.TakenRecords.{Reads, TakesAll, fault_in, taken_of}
 use Rattle.zst_recv.specs.declared.batch.Batch as batches
 use Rattle.zst_recv.specs.declared.recv.FeedReport as coded_recv
+use Rattle.zst_recv.specs.declared.recv.Recv.{Recv}
 use Rattle.zst_recv.specs.declared.stage.Stage as coded
+use Rattle.zst_recv.specs.declared.stage.Stage.TheVariants as stages
 use Rattle.zst_recv.proofs.BatchStages.{untaken}
 use Rattle.zst_recv.proofs.FeedAnswers.{due_some}
+use Rattle.zst_recv.proofs.FedPools.{behind_live, cause_none, cause_put, failed_put, kept_none, leaves_failed, leaves_fed, leaves_refused, receive_over}
 use Rattle.zst_recv.proofs.PieceStages.{done_is}
 use Rattle.zst_recv.proofs.CommitLemmas.{put_none, put_stands, same_ok}
 use Rattle.zst_recv.specs.declared.fault.RecvFault.{RecvFault}
 use Rattle.zst_recv.specs.declared.fault.RecvFault.TheVariants as faults
 use Rattle.zst_recv.proofs.DamageLemmas.{damaged_renewed, err_told, told_call}
 use Rattle.zst_recv.proofs.HandedRecords.{over_reads}
-use Rattle.zst_recv.proofs.FeedEnds.{behind_fits, both_false, by_test, fed_so, first_stage, first_way, fits_within, kept_is, left_rests, live_fits, loose, lost, not_false, not_not, over_fits, received_then, stopped, too_long, unmade, untaken_stands, waits_behind, known_call, still_open}
+use Rattle.zst_recv.proofs.FeedEnds.{behind_fits, both_false, by_test, fed_so, first_stage, first_way, fits_within, kept_is, known_call, left_rests, live_behind, live_fits, loose, lost, not_false, not_not, over_fits, received_then, stopped, too_long, unmade, untaken_stands, waits_behind}
 use Rattle.zst_stream.specs.Reading.{reading, waiting}
 use Rattle.zst_recv.specs.Costs.{PieceIsShort, Spends, records_behind}
-use Rattle.zst_recv.proofs.CostLemmas.{full_keeps_none, same_pool, short_put, short_read, piece_grows}
+use Rattle.zst_recv.proofs.CostLemmas.{full_keeps_none, piece_grows, same_pool, short_put, short_read}
 use Rattle.zst_recv.specs.Plans.{RefusesEach, RefusesOne, is_planned}
 use Rattle.zst_recv.proofs.KeptBlocks.{keeps_behind, live_partial}
 use Rattle.zst_recv.proofs.PlanRefusals.{both_planned, call_unplanned, over_waits, waits_ahead, waits_kept}
@@ -48,16 +55,50 @@ use Rattle.zst_recv.proofs.recv.Recv.feed.Given.{Over}
 use Rattle.zst_recv.proofs.recv.Recv.feed.Goals as goal
 use Rattle.zst_recv.proofs.recv.Recv.feed.Goals.{After-has_partial-held, After-read, Then-is_kept, then-keeps_before+else-is_kept, else-keeps_before}
 
+-- answers of a feed, of reading and of a commit
+abbrev feed_answer : RecvFault → Result coded_recv.FeedReport RecvFault
+feed_answer fault = Err fault
+
+abbrev read_answer : RecvFault → Result (Unit {0}) RecvFault
+read_answer fault = Err fault
+
+abbrev put_answer : PoolFault → Result (Unit {0}) PoolFault
+put_answer fault = Err fault
+
 -- what was read can be committed
 can_commit : (g : Over) (c : After-read g) → CanCommit (g.D.Disk.state c.read.new.io.disk.now) c.read.new.io.space c.renew.new.self.kept.body
 can_commit g c =
     commit_still (g.D.Disk.state c.renew.new.self.io.disk.now) (g.D.Disk.state c.read.new.io.disk.now) c.renew.new.self.io.space c.read.new.io.space c.renew.new.self.kept (c.renew.ensures.works (c.requires.ready c.if-pool.false))
-    c.read.ensures.fills.fills c.read.new.io.fits c.read.ensures.fills.sectors
+    c.read.ensures.writes.fills.fills c.read.new.io.fits c.read.ensures.writes.fills.sectors
+
+-- what was read can be committed for the target
+read_fits : (g : Over) (c : After-read g) → StageFits c.renew.new.self.kept.dir c.args.self.now.ask.target c.read.new.batch.stage
+read_fits g c =
+    let recv = c.args.self.now in
+    let fits = live_fits c.args.pool.now.kept.dir recv.ask.target recv.stage c.requires.live c.requires.recv.stage in
+    c.read.ensures.gathers.fits
+    (subst (λ (k : PoolState). StageFits k.dir recv.ask.target c.new-batch.result.stage) (sym c.renew.ensures.kept)
+    (subst (StageFits c.args.pool.now.kept.dir recv.ask.target) (sym (c.new-batch.ensures.stage ∙ c.replace.ensures.value)) fits))
+
+-- the disk failed only where the reading says so
+read_failed : (g : Over) (c : After-read g) → c.read.new.io.failed ≡ fails (stop_of c.read.result)
+read_failed g c = c.read.ensures.writes.fills.failed ∙ ap (λ (b : Bool). b || fails (stop_of c.read.result)) (c.renew.ensures.disk.failed ∙ c.if-pool.false)
+
+-- and then its count of faults rose
+read_cause : (g : Over) (c : After-read g) → HasCause (g.D.Disk.state c.args.pool.now.io.disk.now).faults (g.D.Disk.state c.read.new.io.disk.now).faults (stop_of c.read.result)
+read_cause g c =
+    subst (λ (n : ℕ). HasCause n (g.D.Disk.state c.read.new.io.disk.now).faults (stop_of c.read.result)) (ap (λ (d : g.row.D.Denot). (g.D.Disk.state d).faults) c.renew.ensures.disk.now) c.read.ensures.writes.fills.cause
+
+read_honest : (g : Over) (c : After-read g) → (g.D.Disk.state c.read.new.io.disk.now).honest → (g.D.Disk.state c.args.pool.now.io.disk.now).honest
+read_honest g c told = subst (λ (d : g.row.D.Denot). (g.D.Disk.state d).honest) c.renew.ensures.disk.now (c.read.ensures.writes.fills.fills.honest told)
+
+read_same : (g : Over) (c : After-read g) → c.read.new.io.disk.ghost_name ≡ c.args.pool.now.io.disk.ghost_name
+read_same g c = c.read.ensures.writes.fills.same ∙ c.renew.ensures.disk.same
 
 -- how a piece was read: the pool is under way since it was at rest, and of the piece was taken what the definition takes before its first fault
 record ReadsPiece (g : Over) (c : After-read g) (tight : Bool) (running : Pool) (text : List ℕ) (stage : Stage) (result : Result (Unit {0}) RecvFault) : Type 0 where
   way : IsUnderWay tight (g.D.Disk.state c.args.pool.now.io.disk.now) (g.D.Disk.state c.read.new.io.disk.now) c.read.new.io.space c.renew.new.self.kept running
-  taken : Reads c.args.self.now.ask running c.read.new.reader text c.args.piece.now (IsWork (bound_of tight (running.number + 1)) (Has (g.D.Disk.state c.read.new.io.disk.now).seen c.read.new.io.space) c.read.new.batch) (at_stage stage) result
+  taken : Reads c.args.self.now.ask running c.read.new.reader text c.args.piece.now (IsBatch (bound_of tight (running.number + 1)) (Has (g.D.Disk.state c.read.new.io.disk.now).seen c.read.new.io.space) c.read.new.batch) (at_stage stage) result
 
 -- so it was, where the disk told the truth until then
 reads_piece : (g : Over) (c : After-read g) (tight : Bool) (running : Pool) (text : List ℕ) (stage : Stage) (result : Result (Unit {0}) RecvFault) → c.read.result ≡ result → (g.D.Disk.state c.read.new.io.disk.now).honest
@@ -72,25 +113,25 @@ reads_piece g c tight running text stage result was honest rested tells is =
     let space = c.renew.new.self.io.space in
     let recv = c.args.self.now in
     let bound = bound_of tight (running.number + 1) in
-    let disk = ap (λ (d : g.row.D.Denot). g.D.Disk.state d) c.renew.ensures.disk in
+    let disk = ap (λ (d : g.row.D.Denot). g.D.Disk.state d) c.renew.ensures.disk.now in
     let way = first_way old one kept same space disk c.renew.ensures.kept c.renew.ensures.space running rested in
     let stands = first_stage old one kept same space disk c.renew.ensures.kept c.renew.ensures.space tight running.number recv.stage stage is.stands in
-    let work = c.new-batch.ensures.work bound one.seen space stage (subst (λ (s : coded.Stage). IsStage bound (Has one.seen space) s stage) (sym c.replace.ensures.value) stands) in
-    let read = c.read.ensures.read tight c.args.pool.now.io.disk.now running (at_stage stage) text is.handed honest way (subst (λ (k : PoolState). TellsBefore recv.ask stage k.dir running) (sym c.renew.ensures.kept) tells) is.reads work in
+    let plain = c.new-batch.ensures.batch bound one.seen space stage (subst (λ (s : coded.Stage). IsStage bound (Has one.seen space) s stage) (sym c.replace.ensures.value) stands) in
+    let read = c.read.ensures.read tight c.args.pool.now.io.disk.now running (at_stage stage) text is.handed honest way (subst (λ (k : PoolState). TellsBefore recv.ask stage k.dir running) (sym c.renew.ensures.kept) tells) is.reads plain in
     record {
-      way = rests_still old one space same running way two c.read.new.io.space c.read.ensures.fills.fills;
-      taken = subst (Reads recv.ask running c.read.new.reader text c.args.piece.now (IsWork bound (Has two.seen c.read.new.io.space) c.read.new.batch) (at_stage stage)) was read;
+      way = rests_still old one space same running way two c.read.new.io.space c.read.ensures.writes.fills.fills;
+      taken = subst (Reads recv.ask running c.read.new.reader text c.args.piece.now (IsBatch bound (Has two.seen c.read.new.io.space) c.read.new.batch) (at_stage stage)) was read;
     }
 
 -- what was read before this fault is kept
 keeps_read : (g : Over) (c : Then-is_kept g) (tight : Bool) (running : Pool) (text : List ℕ) (stage : Stage) → ReadsPiece g (goal.at.Then-is_kept g c).After-read tight running text stage (Err c.in-Err.fault)
     → (keeps_before c.in-Err.fault ≡ true)
-    × (fault_in c.args.self.now.ask running text c.args.piece.now (at_stage stage) ≡ Some (recv_refusal c.in-Err.fault) → is_kept (taken_of c.args.self.now.ask running text c.args.piece.now (at_stage stage)).work.stage ≡ true)
+    × (fault_in c.args.self.now.ask running text c.args.piece.now (at_stage stage) ≡ Some (recv_refusal c.in-Err.fault) → is_kept (taken_of c.args.self.now.ask running text c.args.piece.now (at_stage stage)).batch.stage ≡ true)
 keeps_read g c tight running text stage read =
     let has = Has (g.D.Disk.state c.read.new.io.disk.now).seen c.read.new.io.space in
-    let taken = (taken_of c.args.self.now.ask running text c.args.piece.now (at_stage stage)).work in (
+    let taken = (taken_of c.args.self.now.ask running text c.args.piece.now (at_stage stage)).batch in (
       sym c.keeps_before.ensures ∙ c.if-keeps_before.true,
-      λ first. sym (kept_is (bound_of tight (running.number + 1)) has c.read.new.batch.stage taken.stage (let work = read.taken.1 first in work.stage)) ∙ sym c.is_kept.ensures ∙ c.if-is_kept.true,
+      λ first. sym (kept_is (bound_of tight (running.number + 1)) has c.read.new.batch.stage taken.stage (let plain = read.taken.1 first in plain.stage)) ∙ sym c.is_kept.ensures ∙ c.if-is_kept.true,
     )
 
 -- where it is given up, the receive leaves the pool at rest
@@ -123,15 +164,15 @@ returns-in-Err-2-clause-feeds g c = λ tight running text stage told alive reste
     let same = c.renew.new.self.kept in
     let recv = c.args.self.now in
     let piece = c.args.piece.now in
-    let stays = (taken_of recv.ask running text piece (at_stage stage)).work.stage in
+    let stays = (taken_of recv.ask running text piece (at_stage stage)).batch.stage in
     lost tight old (g.D.Disk.state gave.new.pool.io.disk.now) gave.new.pool.kept gave.new.self text piece stage running recv.ask two same c.read.new.io.space gave.result fault gave.ensures.ask read.way last gave.ensures.fault read.taken.0
     (λ first. elim c.if-keeps_before.branch [
       | then-keeps_before+else-is_kept w ↦
           both_false (keeps_before fault) (is_kept stays)
-          (sym (kept_is (bound_of tight (running.number + 1)) (Has two.seen c.read.new.io.space) c.read.new.batch.stage stays (let work = read.taken.1 first in work.stage)) ∙ sym w.is_kept.ensures ∙ w.if-is_kept.false)
+          (sym (kept_is (bound_of tight (running.number + 1)) (Has two.seen c.read.new.io.space) c.read.new.batch.stage stays (let plain = read.taken.1 first in plain.stage)) ∙ sym w.is_kept.ensures ∙ w.if-is_kept.false)
       | else-keeps_before w ↦ ap (λ (b : Bool). b && is_kept stays) (sym c.keeps_before.ensures ∙ w.if-keeps_before.false)
     ])
-    (λ need largest full. let f = c.in-Err.ensures.fills.full need largest (ap stop_at full) in f.0)
+    (λ need largest full. let f = c.in-Err.ensures.writes.fills.full need largest (ap stop_at full) in f.0)
     (left g at.After-has_partial-held running text stage is two gave.new.pool.kept (gave.ensures.rests tight c.read.new.io.disk.now running (rests_on old two c.read.new.io.space same running read.way)))
 
 pub returns-in-Err-put-clause-feeds : goal.returns-in-Err-put-clause-feeds
@@ -141,9 +182,9 @@ returns-in-Err-put-clause-feeds g c = λ tight running text stage told alive res
     let three = g.D.Disk.state c.put.new.pool.io.disk.now in
     let last = ap (λ (io : _). g.D.Disk.state io.disk.now) gave.ensures.io in
     let honest = subst (λ (d : DiskState). d.honest) last told in
-    let read = reads_piece g at.After-read tight running text stage (Ok c.in-Ok.field-0) c.in-Ok.is (c.put.ensures.honest honest) rested tells is in
+    let read = reads_piece g at.After-read tight running text stage (Ok c.in-Ok.field-0) c.in-Ok.is (c.put.ensures.commits.honest honest) rested tells is in
     let recv = c.args.self.now in
-    let taken = (taken_of recv.ask running text c.args.piece.now (at_stage stage)).work in
+    let taken = (taken_of recv.ask running text c.args.piece.now (at_stage stage)).batch in
     unmade tight (g.D.Disk.state c.args.pool.now.io.disk.now) (g.D.Disk.state gave.new.pool.io.disk.now) gave.new.pool.kept gave.new.self text c.args.piece.now stage running recv.ask three c.put.new.pool.kept None gave.result c.in-Err-put.fault
     gave.ensures.ask read.taken.whole (c.in-Err-put.ensures.puts tight c.args.pool.now.io.disk.now running taken honest read.way read.taken.is) last gave.ensures.fault
     (λ rests. left g at.After-has_partial-held running text stage is three gave.new.pool.kept (gave.ensures.rests tight c.put.new.pool.io.disk.now running rests))
@@ -156,11 +197,11 @@ returns-in-Err-put-2-clause-feeds g c = λ tight running text stage told alive r
     let last = ap (λ (io : _). g.D.Disk.state io.disk.now) gave.ensures.io in
     let honest = subst (λ (d : DiskState). d.honest) last told in
     let fault = c.in-Err.fault in
-    let read = reads_piece g at.After-read tight running text stage (Err fault) c.in-Err.is (c.put-in-Err.ensures.honest honest) rested tells is in
+    let read = reads_piece g at.After-read tight running text stage (Err fault) c.in-Err.is (c.put-in-Err.ensures.commits.honest honest) rested tells is in
     let keeps = keeps_read g at.Then-is_kept tight running text stage read in
     let recv = c.args.self.now in
     let due = due_some recv.ask text c.args.piece.now stage running fault read.taken.0 keeps.0 keeps.1 in
-    let taken = (taken_of recv.ask running text c.args.piece.now (at_stage stage)).work in
+    let taken = (taken_of recv.ask running text c.args.piece.now (at_stage stage)).batch in
     unmade tight (g.D.Disk.state c.args.pool.now.io.disk.now) (g.D.Disk.state gave.new.pool.io.disk.now) gave.new.pool.kept gave.new.self text c.args.piece.now stage running recv.ask three c.put-in-Err.new.pool.kept (Some (recv_refusal fault)) gave.result c.in-Err-put-2.other
     gave.ensures.ask due (c.in-Err-put-2.ensures.puts tight c.args.pool.now.io.disk.now running taken honest read.way (read.taken.1 due.0)) last gave.ensures.fault
     (λ rests. left g at.After-has_partial-held running text stage is three gave.new.pool.kept (gave.ensures.rests tight c.put-in-Err.new.pool.io.disk.now running rests))
@@ -169,19 +210,19 @@ pub returns-in-Ok-put-2-clause-feeds : goal.returns-in-Ok-put-2-clause-feeds
 returns-in-Ok-put-2-clause-feeds g c = λ tight running text stage told alive rested tells is.
     let at = goal.at.returns-in-Ok-put-2-clause-feeds g c in
     let fault = c.in-Err.fault in
-    let read = reads_piece g at.After-read tight running text stage (Err fault) c.in-Err.is (c.put-in-Err.ensures.honest told) rested tells is in
+    let read = reads_piece g at.After-read tight running text stage (Err fault) c.in-Err.is (c.put-in-Err.ensures.commits.honest told) rested tells is in
     let keeps = keeps_read g at.Then-is_kept tight running text stage read in
     let recv = c.args.self.now in
     let piece = c.args.piece.now in
     let due = due_some recv.ask text piece stage running fault read.taken.0 keeps.0 keeps.1 in
-    let taken = (taken_of recv.ask running text piece (at_stage stage)).work in
+    let taken = (taken_of recv.ask running text piece (at_stage stage)).batch in
     let puts = c.in-Ok-put-2.ensures.puts tight c.args.pool.now.io.disk.now running taken told read.way (read.taken.1 due.0) in
     stopped tight (g.D.Disk.state c.args.pool.now.io.disk.now) (g.D.Disk.state c.put-in-Err.new.pool.io.disk.now) c.put-in-Err.new.pool.kept (record recv { reader = c.read.new.reader; stage = c.replace.new.dest }) text piece stage running fault read.taken.0 keeps.0 keeps.1 puts
 
 pub returns-in-Ok-put-clause-feeds : goal.returns-in-Ok-put-clause-feeds
 returns-in-Ok-put-clause-feeds g c = λ tight running text stage told alive rested tells is.
     let at = goal.at.returns-in-Ok-put-clause-feeds g c in
-    let reads = reads_piece g at.After-read tight running text stage (Ok c.in-Ok.field-0) c.in-Ok.is (c.put.ensures.honest told) rested tells is in
+    let reads = reads_piece g at.After-read tight running text stage (Ok c.in-Ok.field-0) c.in-Ok.is (c.put.ensures.commits.honest told) rested tells is in
     let read = reads.taken in
     let old = g.D.Disk.state c.args.pool.now.io.disk.now in
     let two = g.D.Disk.state c.read.new.io.disk.now in
@@ -195,7 +236,7 @@ returns-in-Ok-put-clause-feeds g c = λ tight running text stage told alive rest
     let piece = c.args.piece.now in
     let after = c.put.new.pool.kept in
     let goes = c.go_on.new.self in
-    let taken = (taken_of recv.ask running text piece (at_stage stage)).work in
+    let taken = (taken_of recv.ask running text piece (at_stage stage)).batch in
     let puts = c.in-Ok-put.ensures.puts tight c.args.pool.now.io.disk.now running taken told reads.way read.is in
     let live = sym (done_is (bound_of tight running.number) has recv.stage stage is.stands) ∙ ap not c.requires.live in
     let ends = λ (next : Pool) (made : put taken running ≡ Ok next) (going : is_done taken.stage ≡ false).
@@ -203,105 +244,42 @@ returns-in-Ok-put-clause-feeds g c = λ tight running text stage told alive rest
     (λ was. let now3 = c.in-Ok-put.ensures.goes_on bound taken read.is in
     by_test (has_partial batch.stage) (IsStage (bound_of tight next.number) (Has three.seen (free_by after.body)) batch.stage taken.stage)
     (λ lives.
-    let same = subst (λ (s : FreeSectors). IsStage bound (Has three.seen s) batch.stage taken.stage) (c.in-Ok-put.ensures.space was lives) now3.stage in
+    let same = subst (λ (s : FreeSectors). IsStage bound (Has three.seen s) batch.stage taken.stage) ((c.in-Ok-put.ensures.free was lives).0) now3.stage in
     put_stands tight (Has three.seen (free_by after.body)) taken running next batch.stage lives (sym read.is.taken ∙ was) made same)
     (λ none. loose bound (bound_of tight next.number) (Has three.seen c.put.new.pool.io.space) (Has three.seen (free_by after.body)) batch.stage taken.stage none going now3.stage))
     (λ none.
     let unmade = untaken recv.ask running (new_records text piece) (at_stage stage) (sym read.is.taken ∙ none) in
-    let code : batch.stage ≡ recv.stage = ap (λ (b : batches.Batch). b.stage) (c.read.ensures.idle none) ∙ c.new-batch.ensures.stage ∙ c.replace.ensures.value in
+    let code : batch.stage ≡ recv.stage = ap (λ (b : batches.Batch). b.stage) (c.read.ensures.gathers.idle none) ∙ c.new-batch.ensures.stage ∙ c.replace.ensures.value in
     let number = bound_of tight running.number in
     let first = subst (λ (k : PoolState). IsStage number (Has old.seen (free_by k.body)) recv.stage stage) (sym c.renew.ensures.kept) is.stands in
     let second = untaken_stands number old two c.read.new.io.space same running reads.way recv.stage stage first in
-    let third = subst (λ (d : DiskState). IsStage number (Has d.seen (free_by same.body)) recv.stage stage) (sym (ap (λ (d : g.row.D.Denot). g.D.Disk.state d) (c.put.ensures.idle_disk none))) second in
-    let fourth = subst (λ (k : PoolState). IsStage number (Has three.seen (free_by k.body)) recv.stage stage) (sym (c.put.ensures.idle_kept none)) third in
+    let third = subst (λ (d : DiskState). IsStage number (Has d.seen (free_by same.body)) recv.stage stage) (sym (ap (λ (d : g.row.D.Denot). g.D.Disk.state d) (c.put.ensures.idle none).0)) second in
+    let fourth = subst (λ (k : PoolState). IsStage number (Has three.seen (free_by k.body)) recv.stage stage) (sym (c.put.ensures.idle none).1) third in
     let still : running ≡ next = same_ok running next (sym (put_none taken running (sym read.is.taken ∙ none)) ∙ made) in
     let fifth = subst (λ (s : coded.Stage). IsStage number (Has three.seen (free_by after.body)) s taken.stage) (sym code)
-    (subst (λ (w : Work). IsStage number (Has three.seen (free_by after.body)) recv.stage w.stage) (sym unmade) fourth) in
+    (subst (λ (w : Batch). IsStage number (Has three.seen (free_by after.body)) recv.stage w.stage) (sym unmade) fourth) in
     subst (λ (p : Pool). IsStage (bound_of tight p.number) (Has three.seen (free_by after.body)) batch.stage taken.stage) still fifth) in
-    let all = subst (λ (a : RecvAsk). TakesAll a running c.read.new.reader text piece (IsWork bound now batch) (at_stage stage) × Puts tight old three after running (put (taken_of a running text piece (at_stage stage)).work running) (Ok tt)
-    × ((next : Pool) → put (taken_of a running text piece (at_stage stage)).work running ≡ Ok next → is_done (taken_of a running text piece (at_stage stage)).work.stage ≡ false
-    → IsStage (bound_of tight next.number) (Has three.seen (free_by after.body)) batch.stage (taken_of a running text piece (at_stage stage)).work.stage)) (sym c.go_on.ensures.ask) (read, puts, ends) in
+    let all = subst (λ (a : RecvAsk). TakesAll a running c.read.new.reader text piece (IsBatch bound now batch) (at_stage stage) × Puts tight old three after running (put (taken_of a running text piece (at_stage stage)).batch running) (Ok tt)
+    × ((next : Pool) → put (taken_of a running text piece (at_stage stage)).batch running ≡ Ok next → is_done (taken_of a running text piece (at_stage stage)).batch.stage ≡ false
+    → IsStage (bound_of tight next.number) (Has three.seen (free_by after.body)) batch.stage (taken_of a running text piece (at_stage stage)).batch.stage)) (sym c.go_on.ensures.ask) (read, puts, ends) in
     fed_so tight old three after goes text piece stage running is.handed is.reads.whole (is.reads.stands.front piece) live is.waits now batch c.read.new.reader bound all.0 c.go_on.result all.1 c.go_on.ensures.reader c.go_on.ensures.stage all.2 c.go_on.ensures.all
     (λ read all stands over. c.go_on.ensures.front read all stands over ∙ ap (λ (n : ℕ). sum_by (λ c. size_of c.head) all - n) (c.pushed-started.ensures ∙ is.reads.stands.pushed))
     c.go_on.ensures.applied c.go_on.ensures.point c.go_on.ensures.done
 
 pub put-requires-clause-stage : goal.put-requires-clause-stage
-put-requires-clause-stage g c = (c.args.self.now.ask.target, c.read.ensures.stage)
+put-requires-clause-stage g c = (c.args.self.now.ask.target, read_fits g (goal.at.put-requires-clause-stage g c).After-read)
 
 pub put-requires-clause-works : goal.put-requires-clause-works
 put-requires-clause-works g c = can_commit g (goal.at.put-requires-clause-works g c).After-read
 
 pub put-requires-in-Err-clause-stage : goal.put-requires-in-Err-clause-stage
-put-requires-in-Err-clause-stage g c = (c.args.self.now.ask.target, c.read.ensures.stage)
+put-requires-in-Err-clause-stage g c = (c.args.self.now.ask.target, read_fits g (goal.at.put-requires-in-Err-clause-stage g c).After-read)
 
 pub put-requires-in-Err-clause-works : goal.put-requires-in-Err-clause-works
 put-requires-in-Err-clause-works g c = can_commit g (goal.at.put-requires-in-Err-clause-works g c).After-read
 
-pub returns-in-Ok-put-clause-recv : goal.returns-in-Ok-put-clause-recv
-returns-in-Ok-put-clause-recv g c =
-    let target = c.args.self.now.ask.target in
-    behind_fits c.put.new.pool.kept.dir c.go_on.new.self c.read.new.reader target c.read.new.batch.stage (ap (λ (a : RecvAsk). a.target) c.go_on.ensures.ask) c.go_on.ensures.stage c.go_on.ensures.reader
-    (c.in-Ok-put.ensures.fits target c.read.ensures.stage) c.in-Ok.ensures.behind
-
-pub returns-in-Err-2-clause-ready : goal.returns-in-Err-2-clause-ready
-returns-in-Err-2-clause-ready g c = λ alive.
-    let gave = c.give_up-in-Err-2 in
-    let can = can_commit g (goal.at.returns-in-Err-2-clause-ready g c).After-read in
-    let last = ap (λ (io : _). g.D.Disk.state io.disk.now) gave.ensures.io in
-    subst (λ (b : _). Ready (g.D.Disk.state gave.new.pool.io.disk.now) b) (sym gave.ensures.body) (subst (λ (d : DiskState). Ready d c.renew.new.self.kept.body) (sym last) can.ready)
-
 pub read-requires-clause-reads : goal.read-requires-clause-reads
 read-requires-clause-reads g c = subst (HasRead c.args.self.now.reader) (sym (c.new-batch.ensures.stage ∙ c.replace.ensures.value)) c.requires.recv.reads
-
-pub returns-in-Ok-put-clause-fed : goal.returns-in-Ok-put-clause-fed
-returns-in-Ok-put-clause-fed g c = λ goes.
-    let live : is_live c.read.new.batch.stage ≡ true = not_not (is_live c.read.new.batch.stage) (sym c.go_on.ensures.done ∙ goes) in
-    ap pushed_of c.go_on.ensures.reader ∙ c.in-Ok.ensures.all live
-
-pub returns-in-Ok-put-clause-within : goal.returns-in-Ok-put-clause-within
-returns-in-Ok-put-clause-within g c = fits_within _ _ (returns-in-Ok-put-clause-recv g c)
-
-pub returns-in-Ok-put-clause-waits : goal.returns-in-Ok-put-clause-waits
-returns-in-Ok-put-clause-waits g c = λ waits.
-    let still = waits_behind c.read.new.batch.stage (ap waits_at (sym c.go_on.ensures.stage) ∙ waits) in
-    let none = ap (λ (b : batches.Batch). b.taken) (c.in-Ok.ensures.waits still) ∙ c.new-batch.ensures.taken in
-    c.put.ensures.idle_kept none ∙ c.renew.ensures.kept
-
-pub returns-then-pool-clause-recv : goal.returns-then-pool-clause-recv
-returns-then-pool-clause-recv g c = over_fits _ _ c.args.self.now.reader refl refl (over_reads _ c.args.self.now.stage c.requires.recv.reads)
-
-pub returns-then-pool-clause-within : goal.returns-then-pool-clause-within
-returns-then-pool-clause-within g c = fits_within _ _ (returns-then-pool-clause-recv g c)
-
-pub returns-then-piece-started-clause-recv : goal.returns-then-piece-started-clause-recv
-returns-then-piece-started-clause-recv g c = over_fits _ _ c.args.self.now.reader c.give_up.ensures.over c.give_up.ensures.reader (over_reads _ c.args.self.now.stage c.requires.recv.reads)
-
-pub returns-then-piece-started-clause-within : goal.returns-then-piece-started-clause-within
-returns-then-piece-started-clause-within g c = fits_within _ _ (returns-then-piece-started-clause-recv g c)
-
-pub returns-in-Err-2-clause-recv : goal.returns-in-Err-2-clause-recv
-returns-in-Err-2-clause-recv g c = over_fits _ _ c.read.new.reader c.give_up-in-Err-2.ensures.over c.give_up-in-Err-2.ensures.reader c.read.ensures.reads
-
-pub returns-in-Err-2-clause-within : goal.returns-in-Err-2-clause-within
-returns-in-Err-2-clause-within g c = fits_within _ _ (returns-in-Err-2-clause-recv g c)
-
-pub returns-in-Err-put-clause-recv : goal.returns-in-Err-put-clause-recv
-returns-in-Err-put-clause-recv g c = over_fits _ _ c.read.new.reader c.give_up-in-Err-put.ensures.over c.give_up-in-Err-put.ensures.reader c.read.ensures.reads
-
-pub returns-in-Err-put-clause-within : goal.returns-in-Err-put-clause-within
-returns-in-Err-put-clause-within g c = fits_within _ _ (returns-in-Err-put-clause-recv g c)
-
-pub returns-in-Err-put-2-clause-recv : goal.returns-in-Err-put-2-clause-recv
-returns-in-Err-put-2-clause-recv g c = over_fits _ _ c.read.new.reader c.give_up-in-Err-put-2.ensures.over c.give_up-in-Err-put-2.ensures.reader c.read.ensures.reads
-
-pub returns-in-Err-put-2-clause-within : goal.returns-in-Err-put-2-clause-within
-returns-in-Err-put-2-clause-within g c = fits_within _ _ (returns-in-Err-put-2-clause-recv g c)
-
-pub returns-in-Ok-put-2-clause-recv : goal.returns-in-Ok-put-2-clause-recv
-returns-in-Ok-put-2-clause-recv g c = over_fits _ _ c.read.new.reader c.replace.ensures.after refl c.read.ensures.reads
-
-pub returns-in-Ok-put-2-clause-within : goal.returns-in-Ok-put-2-clause-within
-returns-in-Ok-put-2-clause-within g c = fits_within _ _ (returns-in-Ok-put-2-clause-recv g c)
 
 pub read-requires-clause-stage : goal.read-requires-clause-stage
 read-requires-clause-stage g c =
@@ -309,43 +287,6 @@ read-requires-clause-stage g c =
     let fits = live_fits c.args.pool.now.kept.dir recv.ask.target recv.stage c.requires.live c.requires.recv.stage in
     subst (λ (k : PoolState). StageFits k.dir recv.ask.target c.new-batch.result.stage) (sym c.renew.ensures.kept)
     (subst (StageFits c.args.pool.now.kept.dir recv.ask.target) (sym (c.new-batch.ensures.stage ∙ c.replace.ensures.value)) fits)
-
-pub returns-in-Ok-put-clause-received : goal.returns-in-Ok-put-clause-received
-returns-in-Ok-put-clause-received g c = λ done.
-    let target = c.args.self.now.ask.target in
-    let batch = c.read.new.batch in
-    let over : is_live batch.stage ≡ false = not_false (is_live batch.stage) (sym c.go_on.ensures.done ∙ done) in
-    subst (λ (s : coded.Stage). IsSome (received_at s)) (sym c.go_on.ensures.stage) (received_then c.renew.new.self.kept.dir target batch.stage c.read.ensures.stage over)
-
-pub returns-then-pool-clause-known : goal.returns-then-pool-clause-known
-returns-then-pool-clause-known g c = λ alive. absurd (let failed = c.if-pool.true in cc)
-
-pub returns-then-piece-started-clause-known : goal.returns-then-piece-started-clause-known
-returns-then-piece-started-clause-known g c = λ alive. subst IsFeedFault (sym (c.give_up.ensures.fault ∙ c.too_long.ensures)) tt
-
-pub returns-in-Err-2-clause-known : goal.returns-in-Err-2-clause-known
-returns-in-Err-2-clause-known g c = λ alive. subst IsFeedFault (sym c.give_up-in-Err-2.ensures.fault) c.in-Err.ensures.known
-
-pub returns-in-Err-put-clause-known : goal.returns-in-Err-put-clause-known
-returns-in-Err-put-clause-known g c = λ alive. subst IsFeedFault (sym c.give_up-in-Err-put.ensures.fault) (known_call c.in-Err-put.fault c.in-Err-put.ensures.known)
-
-pub returns-in-Err-put-2-clause-known : goal.returns-in-Err-put-2-clause-known
-returns-in-Err-put-2-clause-known g c = λ alive. subst IsFeedFault (sym c.give_up-in-Err-put-2.ensures.fault) (known_call c.in-Err-put-2.other c.in-Err-put-2.ensures.known)
-
-pub returns-in-Ok-put-2-clause-known : goal.returns-in-Ok-put-2-clause-known
-returns-in-Ok-put-2-clause-known g c = λ alive. c.in-Err.ensures.known
-
-pub returns-in-Err-2-clause-open_still : goal.returns-in-Err-2-clause-open_still
-returns-in-Err-2-clause-open_still g c = λ alive is. still_open _ (returns-in-Err-2-clause-known g c alive) is
-
-pub returns-in-Err-put-clause-open_still : goal.returns-in-Err-put-clause-open_still
-returns-in-Err-put-clause-open_still g c = λ alive is. still_open _ (returns-in-Err-put-clause-known g c alive) is
-
-pub returns-in-Err-put-2-clause-open_still : goal.returns-in-Err-put-2-clause-open_still
-returns-in-Err-put-2-clause-open_still g c = λ alive is. still_open _ (returns-in-Err-put-2-clause-known g c alive) is
-
-pub returns-in-Ok-put-2-clause-open_still : goal.returns-in-Ok-put-2-clause-open_still
-returns-in-Ok-put-2-clause-open_still g c = λ alive is. still_open _ (returns-in-Ok-put-2-clause-known g c alive) is
 
 pub returns-then-pool-clause-damaged : goal.returns-then-pool-clause-damaged
 returns-then-pool-clause-damaged g c = λ sector stated found honest alive is. absurd (let failed = c.if-pool.true in cc)
@@ -359,74 +300,22 @@ returns-in-Err-2-clause-damaged g c = λ sector stated found honest alive is.
     let gave = c.give_up-in-Err-2 in
     let last = ap (λ (io : _). g.D.Disk.state io.disk.now) gave.ensures.io in
     let now = subst (λ (d : DiskState). d.honest) last honest in
-    let told = c.in-Err.ensures.damaged sector stated found now (ap (λ (f : RecvFault). Err f) (sym gave.ensures.fault ∙ err_told coded_recv.FeedReport _ _ is)) in
+    let told = c.in-Err.ensures.writes.damaged sector stated found now (ap (λ (f : RecvFault). Err f) (sym gave.ensures.fault ∙ err_told coded_recv.FeedReport _ _ is)) in
     damaged_renewed (g.D.Disk.state c.args.pool.now.io.disk.now) (g.D.Disk.state c.renew.new.self.io.disk.now) c.renew.new.self.io.space c.args.pool.now.kept c.renew.new.self.kept c.args.self.now.ask.target sector stated found
-    (ap (λ (d : g.row.D.Denot). g.D.Disk.state d) c.renew.ensures.disk) c.renew.ensures.space c.renew.ensures.kept told
+    (ap (λ (d : g.row.D.Denot). g.D.Disk.state d) c.renew.ensures.disk.now) c.renew.ensures.space c.renew.ensures.kept told
 
 pub returns-in-Err-put-clause-damaged : goal.returns-in-Err-put-clause-damaged
 returns-in-Err-put-clause-damaged g c = λ sector stated found honest alive is.
-    absurd (told_call c.in-Err-put.fault sector stated found c.in-Err-put.ensures.known (sym c.give_up-in-Err-put.ensures.fault ∙ err_told coded_recv.FeedReport _ _ is))
+    absurd (told_call c.in-Err-put.fault sector stated found c.in-Err-put.ensures.commits.known (sym c.give_up-in-Err-put.ensures.fault ∙ err_told coded_recv.FeedReport _ _ is))
 
 pub returns-in-Err-put-2-clause-damaged : goal.returns-in-Err-put-2-clause-damaged
 returns-in-Err-put-2-clause-damaged g c = λ sector stated found honest alive is.
-    absurd (told_call c.in-Err-put-2.other sector stated found c.in-Err-put-2.ensures.known (sym c.give_up-in-Err-put-2.ensures.fault ∙ err_told coded_recv.FeedReport _ _ is))
+    absurd (told_call c.in-Err-put-2.other sector stated found c.in-Err-put-2.ensures.commits.known (sym c.give_up-in-Err-put-2.ensures.fault ∙ err_told coded_recv.FeedReport _ _ is))
 
 pub returns-in-Ok-put-2-clause-damaged : goal.returns-in-Ok-put-2-clause-damaged
 returns-in-Ok-put-2-clause-damaged g c = λ sector stated found honest alive is.
     absurd (let keeps : keeps_before c.in-Err.fault ≡ true = sym c.keeps_before.ensures ∙ c.if-keeps_before.true in
     let none : keeps_before c.in-Err.fault ≡ false = ap keeps_before (err_told coded_recv.FeedReport c.in-Err.fault _ is) in cc)
-
-pub returns-then-pool-clause-stream : goal.returns-then-pool-clause-stream
-returns-then-pool-clause-stream g c = λ text handed fault stands is. absurd (cc is)
-
-pub returns-then-piece-started-clause-stream : goal.returns-then-piece-started-clause-stream
-returns-then-piece-started-clause-stream g c = λ text handed fault stands is.
-    absurd (cc (c.give_up.ensures.fault, c.too_long.ensures, is))
-
-pub returns-in-Err-2-clause-stream : goal.returns-in-Err-2-clause-stream
-returns-in-Err-2-clause-stream g c = λ text handed fault stands is.
-    c.in-Err.ensures.stream text handed fault stands (ap (λ (f : RecvFault). Err f) (sym c.give_up-in-Err-2.ensures.fault ∙ err_told coded_recv.FeedReport _ _ is))
-
-pub returns-in-Err-put-clause-stream : goal.returns-in-Err-put-clause-stream
-returns-in-Err-put-clause-stream g c = λ text handed fault stands is.
-    absurd (cc (c.give_up-in-Err-put.ensures.fault, is))
-
-pub returns-in-Err-put-2-clause-stream : goal.returns-in-Err-put-2-clause-stream
-returns-in-Err-put-2-clause-stream g c = λ text handed fault stands is.
-    absurd (cc (c.give_up-in-Err-put-2.ensures.fault, is))
-
-pub returns-in-Ok-put-2-clause-stream : goal.returns-in-Ok-put-2-clause-stream
-returns-in-Ok-put-2-clause-stream g c = λ text handed fault stands is. c.in-Err.ensures.stream text handed fault stands (ap (λ (f : RecvFault). Err f) (err_told coded_recv.FeedReport _ _ is))
-
-pub returns-in-Ok-put-clause-stands : goal.returns-in-Ok-put-clause-stands
-returns-in-Ok-put-clause-stands g c = λ text handed stands goes.
-    let live : is_live c.read.new.batch.stage ≡ true = not_not (is_live c.read.new.batch.stage) (sym c.go_on.ensures.done ∙ goes) in
-    let later = c.in-Ok.ensures.stands live text handed stands in
-    (later.0, subst (λ (r : Reader). StandsFor r (text ++ c.args.piece.now) later.0) (sym c.go_on.ensures.reader) later.1)
-
-pub returns-in-Ok-put-clause-whole : goal.returns-in-Ok-put-clause-whole
-returns-in-Ok-put-clause-whole g c = λ text handed stands done.
-    let batch = c.read.new.batch in
-    let over : is_live batch.stage ≡ false = not_false (is_live batch.stage) (sym c.go_on.ensures.done ∙ done) in
-    c.in-Ok.ensures.over text handed stands (ap is_live (c.new-batch.ensures.stage ∙ c.replace.ensures.value) ∙ c.requires.live) over
-
-pub returns-then-pool-clause-short : goal.returns-then-pool-clause-short
-returns-then-pool-clause-short g c = λ text handed need largest stands is. absurd (cc is)
-
-pub returns-then-piece-started-clause-short : goal.returns-then-piece-started-clause-short
-returns-then-piece-started-clause-short g c = λ text handed need largest stands is.
-    absurd (cc (c.give_up.ensures.fault, c.too_long.ensures, is))
-
-pub returns-in-Err-2-clause-short : goal.returns-in-Err-2-clause-short
-returns-in-Err-2-clause-short g c = λ text handed need largest stands is.
-    let gave = c.give_up-in-Err-2 in
-    let records = records_behind handed (text ++ c.args.piece.now) in
-    let kept = c.args.pool.now.kept in
-    let full = ap stop_at (sym gave.ensures.fault ∙ err_told coded_recv.FeedReport _ _ is) in
-    let told = c.in-Err.ensures.fills.full need largest full in
-    let spends = subst (λ (s : FreeSectors). Spends records s c.read.new.io.space (stop_at c.in-Err.fault)) c.renew.ensures.space (c.in-Err.ensures.spends text handed stands) in
-    subst (λ (s : FreeSectors). PieceIsShort records kept s need largest) (sym (ap (λ (io : _). io.space) gave.ensures.io))
-    (short_read records kept c.read.new.io.space (stop_at c.in-Err.fault) need largest full told.0 told.1 spends)
 
 -- a piece whose commit found no room is short of it
 short_by : (g : Over) (c : After-read g) (text : List ℕ) (handed : List Covered) (need largest : ℕ) (after last : FreeSectors) → StandsFor c.args.self.now.reader text handed → IsCallFull c.read.new.io.space after c.renew.new.self.kept.dir need largest → last ≡ after
@@ -438,159 +327,371 @@ short_by g c text handed need largest after last stands full same =
     subst (λ (s : FreeSectors). PieceIsShort records kept s need largest) (sym same)
     (short_put records kept c.read.new.io.space after (stop_of c.read.result) need largest spends (subst (λ (k : PoolState). IsCallFull c.read.new.io.space after k.dir need largest) c.renew.ensures.kept full))
 
-pub returns-in-Err-put-clause-short : goal.returns-in-Err-put-clause-short
-returns-in-Err-put-clause-short g c = λ text handed need largest stands is.
-    let gave = c.give_up-in-Err-put in
-    let full = ap (λ (f : PoolFault). Err f) (same_pool _ _ (sym gave.ensures.fault ∙ err_told coded_recv.FeedReport _ _ is)) in
-    short_by g (goal.at.returns-in-Err-put-clause-short g c).After-read text handed need largest c.put.new.pool.io.space gave.new.pool.io.space stands (c.in-Err-put.ensures.short need largest full) (ap (λ (io : _). io.space) gave.ensures.io)
-
-pub returns-in-Err-put-2-clause-short : goal.returns-in-Err-put-2-clause-short
-returns-in-Err-put-2-clause-short g c = λ text handed need largest stands is.
-    let gave = c.give_up-in-Err-put-2 in
-    let full = ap (λ (f : PoolFault). Err f) (same_pool _ _ (sym gave.ensures.fault ∙ err_told coded_recv.FeedReport _ _ is)) in
-    short_by g (goal.at.returns-in-Err-put-2-clause-short g c).After-read text handed need largest c.put-in-Err.new.pool.io.space gave.new.pool.io.space stands (c.in-Err-put-2.ensures.short need largest full) (ap (λ (io : _). io.space) gave.ensures.io)
-
-pub returns-in-Ok-put-2-clause-short : goal.returns-in-Ok-put-2-clause-short
-returns-in-Ok-put-2-clause-short g c = λ text handed need largest stands is.
-    absurd (full_keeps_none c.in-Err.fault need largest (sym c.keeps_before.ensures ∙ c.if-keeps_before.true) (err_told coded_recv.FeedReport c.in-Err.fault _ is))
-
-pub returns-in-Ok-put-clause-hands_out : goal.returns-in-Ok-put-clause-hands_out
-returns-in-Ok-put-clause-hands_out g c = λ text handed hands goes.
-    let live : is_live c.read.new.batch.stage ≡ true = not_not (is_live c.read.new.batch.stage) (sym c.go_on.ensures.done ∙ goes) in
-    let later = c.in-Ok.ensures.hands_out live text handed hands in
-    (later.0, subst (λ (r : Reader). HandsOut r (text ++ c.args.piece.now) later.0 waiting) (sym c.go_on.ensures.reader) later.1)
-
-pub returns-then-pool-clause-stays : goal.returns-then-pool-clause-stays
-returns-then-pool-clause-stays g c = λ need largest is. refl
-
-pub returns-then-piece-started-clause-stays : goal.returns-then-piece-started-clause-stays
-returns-then-piece-started-clause-stays g c = λ need largest is. c.give_up.ensures.body
-
-pub returns-in-Err-2-clause-stays : goal.returns-in-Err-2-clause-stays
-returns-in-Err-2-clause-stays g c = λ need largest is. c.give_up-in-Err-2.ensures.body ∙ ap (λ (k : PoolState). k.body) c.renew.ensures.kept
-
-pub returns-in-Err-put-clause-stays : goal.returns-in-Err-put-clause-stays
-returns-in-Err-put-clause-stays g c = λ need largest is. c.give_up-in-Err-put.ensures.body ∙ ap (λ (k : PoolState). k.body) (c.in-Err-put.ensures.stays ∙ c.renew.ensures.kept)
-
-pub returns-in-Err-put-2-clause-stays : goal.returns-in-Err-put-2-clause-stays
-returns-in-Err-put-2-clause-stays g c = λ need largest is. c.give_up-in-Err-put-2.ensures.body ∙ ap (λ (k : PoolState). k.body) (c.in-Err-put-2.ensures.stays ∙ c.renew.ensures.kept)
-
-pub returns-in-Ok-put-2-clause-stays : goal.returns-in-Ok-put-2-clause-stays
-returns-in-Ok-put-2-clause-stays g c = λ need largest is.
-    absurd (full_keeps_none c.in-Err.fault need largest (sym c.keeps_before.ensures ∙ c.if-keeps_before.true) (err_told coded_recv.FeedReport c.in-Err.fault _ is))
-
-pub returns-then-pool-clause-planned : goal.returns-then-pool-clause-planned
-returns-then-pool-clause-planned g c = λ text handed fault alive waits stands none within refuses. absurd (let failed = c.if-pool.true in cc)
-
-pub returns-then-pool-clause-because : goal.returns-then-pool-clause-because
-returns-then-pool-clause-because g c = λ text handed fault alive stands kind is. absurd (let failed = c.if-pool.true in cc)
-
-pub returns-then-piece-started-clause-planned : goal.returns-then-piece-started-clause-planned
-returns-then-piece-started-clause-planned g c = λ text handed fault alive waits stands none within refuses.
-    absurd (omega (arith, c.if-piece-started.true, c.pushed-started.ensures, stands.pushed, within))
-
-pub returns-then-piece-started-clause-because : goal.returns-then-piece-started-clause-because
-returns-then-piece-started-clause-because g c = λ text handed fault alive stands kind is.
-    absurd (both_planned fault kind (let same : plans.Limit quantities.Stream stream_limit ≡ fault = cc (c.give_up.ensures.fault, c.too_long.ensures, is) in ap is_planned (sym same)))
-
-pub returns-then-piece-started-clause-uncovered : goal.returns-then-piece-started-clause-uncovered
-returns-then-piece-started-clause-uncovered g c = λ text handed stands none waits. absurd (over_waits c.give_up.new.self.stage c.give_up.ensures.over waits)
-
--- where BEGIN is covered, and its plan refuses the pool, that is what the reading answers
+-- where BEGIN is covered, and its plan refuses the pool, that is what the reading answers, and the batch still waits
 planned_so : (g : Over) (c : After-read g) (text : List ℕ) (handed : List Covered) (fault : PlanFault) → StandsFor c.args.self.now.reader text handed → waits_at c.args.self.now.stage ≡ true → (reading text).covered ≡ []
-    → RefusesOne c.args.pool.now.kept.dir c.args.self.now.ask (text ++ c.args.piece.now) fault → (c.read.result ≡ Err (faults.Pool (pools.Plan fault))) × (waits_at c.read.new.batch.stage ≡ true)
-planned_so g c text handed fault stands waits none refuses =
-    c.read.ensures.planned text handed fault stands (ap waits_at (c.new-batch.ensures.stage ∙ c.replace.ensures.value) ∙ waits) none
-    (subst (λ (k : PoolState). RefusesOne k.dir c.args.self.now.ask (text ++ c.args.piece.now) fault) (sym c.renew.ensures.kept) refuses)
+    → length (text ++ c.args.piece.now) ≤ stream_limit → RefusesOne c.args.pool.now.kept.dir c.args.self.now.ask (text ++ c.args.piece.now) fault
+    → (c.read.result ≡ Err (faults.Pool (pools.Plan fault))) × (waits_at c.read.new.batch.stage ≡ true)
+planned_so g c text handed fault stands waits none within refuses =
+    let at : waits_at c.new-batch.result.stage ≡ true = ap waits_at (c.new-batch.ensures.stage ∙ c.replace.ensures.value) ∙ waits in
+    let here = subst (λ (k : PoolState). RefusesOne k.dir c.args.self.now.ask (text ++ c.args.piece.now) fault) (sym c.renew.ensures.kept) refuses in
+    ((c.read.ensures.texts text handed stands).planned fault at none within here, (c.read.ensures.leaves text handed stands).refused fault at none here)
 
-pub returns-in-Err-2-clause-planned : goal.returns-in-Err-2-clause-planned
-returns-in-Err-2-clause-planned g c = λ text handed fault alive waits stands none within refuses.
-    let told = planned_so g (goal.at.returns-in-Err-2-clause-planned g c).After-read text handed fault stands waits none refuses in
-    ap (λ (f : RecvFault). Err f) (c.give_up-in-Err-2.ensures.fault ∙ err_told (Unit {0}) _ _ (sym c.in-Err.is ∙ told.0))
+-- ---- the pool had failed
 
-pub returns-in-Err-2-clause-because : goal.returns-in-Err-2-clause-because
-returns-in-Err-2-clause-because g c = λ text handed fault alive stands kind is.
-    let told = c.in-Err.ensures.because text handed fault stands kind (ap (λ (f : RecvFault). Err f) (sym c.give_up-in-Err-2.ensures.fault ∙ err_told coded_recv.FeedReport _ _ is)) in
-    (ap waits_at (sym (c.new-batch.ensures.stage ∙ c.replace.ensures.value)) ∙ told.0, subst (λ (k : PoolState). RefusesEach k.dir c.args.self.now.ask (text ++ c.args.piece.now) fault) c.renew.ensures.kept told.1)
+pub returns-then-pool-clause-texts : goal.returns-then-pool-clause-texts
+returns-then-pool-clause-texts g c = λ alive. absurd (let both : true ≡ false = sym c.if-pool.true ∙ alive in cc both)
 
-pub returns-in-Err-2-clause-uncovered : goal.returns-in-Err-2-clause-uncovered
-returns-in-Err-2-clause-uncovered g c = λ text handed stands none waits. absurd (over_waits c.give_up-in-Err-2.new.self.stage c.give_up-in-Err-2.ensures.over waits)
+pub returns-then-pool-clause-costs : goal.returns-then-pool-clause-costs
+returns-then-pool-clause-costs g c = λ text handed stands. record { short = λ need largest is. absurd (cc is); grows = tt }
 
-pub returns-in-Err-put-clause-planned : goal.returns-in-Err-put-clause-planned
-returns-in-Err-put-clause-planned g c = λ text handed fault alive waits stands none within refuses.
-    let told = planned_so g (goal.at.returns-in-Err-put-clause-planned g c).After-read text handed fault stands waits none refuses in
-    absurd (cc (told.0, c.in-Ok.is))
+pub returns-then-pool-clause-waits : goal.returns-then-pool-clause-waits
+returns-then-pool-clause-waits g c = λ waits. refl
 
-pub returns-in-Err-put-clause-because : goal.returns-in-Err-put-clause-because
-returns-in-Err-put-clause-because g c = λ text handed fault alive stands kind is.
-    absurd (both_planned fault kind (call_unplanned c.in-Err-put.fault fault c.in-Err-put.ensures.known (sym c.give_up-in-Err-put.ensures.fault ∙ err_told coded_recv.FeedReport _ _ is)))
+pub returns-then-pool-clause-pool : goal.returns-then-pool-clause-pool
+returns-then-pool-clause-pool g c = leaves_failed c.args.pool.now c.if-pool.true
 
-pub returns-in-Err-put-clause-uncovered : goal.returns-in-Err-put-clause-uncovered
-returns-in-Err-put-clause-uncovered g c = λ text handed stands none waits. absurd (over_waits c.give_up-in-Err-put.new.self.stage c.give_up-in-Err-put.ensures.over waits)
+pub returns-then-pool-clause-receive : goal.returns-then-pool-clause-receive
+returns-then-pool-clause-receive g c =
+    let recv = c.args.self.now in
+    let after : Recv = record recv { stage = stages.Over } in
+    receive_over c.args.pool.now.kept.dir c.args.piece.now recv after (faults.Pool pools.Failed) refl refl (over_fits _ after recv.reader refl refl (over_reads _ recv.stage c.requires.recv.reads))
 
-pub returns-in-Err-put-2-clause-planned : goal.returns-in-Err-put-2-clause-planned
-returns-in-Err-put-2-clause-planned g c = λ text handed fault alive waits stands none within refuses.
-    let told = planned_so g (goal.at.returns-in-Err-put-2-clause-planned g c).After-read text handed fault stands waits none refuses in
-    absurd (waits_kept c.read.new.batch.stage told.1 (sym c.is_kept.ensures ∙ c.if-is_kept.true))
+-- ---- the stream would be too long
 
-pub returns-in-Err-put-2-clause-because : goal.returns-in-Err-put-2-clause-because
-returns-in-Err-put-2-clause-because g c = λ text handed fault alive stands kind is.
-    absurd (both_planned fault kind (call_unplanned c.in-Err-put-2.other fault c.in-Err-put-2.ensures.known (sym c.give_up-in-Err-put-2.ensures.fault ∙ err_told coded_recv.FeedReport _ _ is)))
+pub returns-then-piece-started-clause-texts : goal.returns-then-piece-started-clause-texts
+returns-then-piece-started-clause-texts g c = λ alive text handed stands.
+    let told = c.give_up.ensures.fault ∙ c.too_long.ensures in
+    record {
+      stream = λ fault is. absurd (cc (told, is));
+      stands = tt;
+      hands_out = tt;
+      whole = λ was. tt;
+      planned = λ fault waits none within refuses. absurd (let all = length-append text c.args.piece.now in omega (arith, c.if-piece-started.true, c.pushed-started.ensures, stands.pushed, all, within));
+      because = λ fault kind is. absurd (both_planned fault kind (let same : plans.Limit quantities.Stream stream_limit ≡ fault = cc (told, is) in ap is_planned (sym same)));
+      still = λ waits none. tt;
+      uncovered = λ none waits. tt;
+    }
 
-pub returns-in-Err-put-2-clause-uncovered : goal.returns-in-Err-put-2-clause-uncovered
-returns-in-Err-put-2-clause-uncovered g c = λ text handed stands none waits. absurd (over_waits c.give_up-in-Err-put-2.new.self.stage c.give_up-in-Err-put-2.ensures.over waits)
+pub returns-then-piece-started-clause-costs : goal.returns-then-piece-started-clause-costs
+returns-then-piece-started-clause-costs g c = λ text handed stands.
+    let told = c.give_up.ensures.fault ∙ c.too_long.ensures in
+    record { short = λ need largest is. absurd (cc (told, is)); grows = tt }
 
-pub returns-in-Ok-put-2-clause-planned : goal.returns-in-Ok-put-2-clause-planned
-returns-in-Ok-put-2-clause-planned g c = λ text handed fault alive waits stands none within refuses.
-    let told = planned_so g (goal.at.returns-in-Ok-put-2-clause-planned g c).After-read text handed fault stands waits none refuses in
-    absurd (waits_kept c.read.new.batch.stage told.1 (sym c.is_kept.ensures ∙ c.if-is_kept.true))
+pub returns-then-piece-started-clause-waits : goal.returns-then-piece-started-clause-waits
+returns-then-piece-started-clause-waits g c = λ waits. absurd (over_waits c.give_up.new.self.stage c.give_up.ensures.over waits)
 
-pub returns-in-Ok-put-2-clause-because : goal.returns-in-Ok-put-2-clause-because
-returns-in-Ok-put-2-clause-because g c = λ text handed fault alive stands kind is.
-    let told = c.in-Err.ensures.because text handed fault stands kind (ap (λ (f : RecvFault). Err f) (err_told coded_recv.FeedReport _ _ is)) in
-    (ap waits_at (sym (c.new-batch.ensures.stage ∙ c.replace.ensures.value)) ∙ told.0, subst (λ (k : PoolState). RefusesEach k.dir c.args.self.now.ask (text ++ c.args.piece.now) fault) c.renew.ensures.kept told.1)
+pub returns-then-piece-started-clause-pool : goal.returns-then-piece-started-clause-pool
+returns-then-piece-started-clause-pool g c =
+    let gave = c.give_up in
+    let pool = c.args.pool.now in
+    let fault = faults.Pool (pools.Plan (plans.Limit quantities.Stream stream_limit)) in
+    let last = c.give_up.ensures.io in
+    subst (λ (f : RecvFault). LeavesPool pool gave.new.pool (Err f)) (sym (gave.ensures.fault ∙ c.too_long.ensures))
+    (leaves_refused pool gave.new.pool c.if-pool.false fault pool.io last tt (λ need largest is. gave.ensures.body)
+    (λ alive. subst (Ready (g.D.Disk.state pool.io.disk.now)) (sym gave.ensures.body) (c.requires.ready c.if-pool.false)) c.if-pool.false (record { later = omega arith; fault = λ is. absurd (cc is) }) (λ told. told) refl)
 
-pub returns-in-Ok-put-2-clause-uncovered : goal.returns-in-Ok-put-2-clause-uncovered
-returns-in-Ok-put-2-clause-uncovered g c = λ text handed stands none waits. absurd (over_waits _ c.replace.ensures.after waits)
+pub returns-then-piece-started-clause-receive : goal.returns-then-piece-started-clause-receive
+returns-then-piece-started-clause-receive g c =
+    let gave = c.give_up in
+    let recv = c.args.self.now in
+    receive_over gave.new.pool.kept.dir c.args.piece.now recv gave.new.self gave.result gave.ensures.ask gave.ensures.over (over_fits _ gave.new.self recv.reader gave.ensures.over gave.ensures.reader (over_reads _ recv.stage c.requires.recv.reads))
 
-pub returns-in-Ok-put-clause-planned : goal.returns-in-Ok-put-clause-planned
-returns-in-Ok-put-clause-planned g c = λ text handed fault alive waits stands none within refuses.
-    let told = planned_so g (goal.at.returns-in-Ok-put-clause-planned g c).After-read text handed fault stands waits none refuses in
-    absurd (cc (told.0, c.in-Ok.is))
+-- ---- the piece wasn't read, and no record of it stays
 
-pub returns-in-Ok-put-clause-uncovered : goal.returns-in-Ok-put-clause-uncovered
-returns-in-Ok-put-clause-uncovered g c = λ text handed stands none waits.
-    let still = waits_behind c.read.new.batch.stage (ap waits_at (sym c.go_on.ensures.stage) ∙ waits) in
-    c.in-Ok.ensures.uncovered still text handed stands none
+pub returns-in-Err-2-clause-texts : goal.returns-in-Err-2-clause-texts
+returns-in-Err-2-clause-texts g c = λ alive text handed stands.
+    let gave = c.give_up-in-Err-2 in
+    let t = c.in-Err.ensures.texts text handed stands in
+    let was = λ (fault : RecvFault) (is : feed_answer gave.result ≡ feed_answer fault). ap read_answer (sym gave.ensures.fault ∙ err_told coded_recv.FeedReport _ _ is) in
+    record {
+      stream = λ fault is. t.stream fault (was _ is);
+      stands = tt;
+      hands_out = tt;
+      whole = λ lived. tt;
+      planned = λ fault waits none within refuses.
+          let told = planned_so g (goal.at.returns-in-Err-2-clause-texts g c).After-read text handed fault stands waits none within refuses in
+          ap feed_answer (gave.ensures.fault ∙ err_told (Unit {0}) _ _ (sym c.in-Err.is ∙ told.0));
+      because = λ fault kind is.
+          let told = t.because fault kind (was _ is) in
+          (ap waits_at (sym (c.new-batch.ensures.stage ∙ c.replace.ensures.value)) ∙ told.0, subst (λ (k : PoolState). RefusesEach k.dir c.args.self.now.ask (text ++ c.args.piece.now) fault) c.renew.ensures.kept told.1);
+      still = λ waits none. tt;
+      uncovered = λ none waits. tt;
+    }
 
-pub returns-in-Ok-put-clause-still : goal.returns-in-Ok-put-clause-still
-returns-in-Ok-put-clause-still g c = λ text handed waits stands none.
-    let at = ap waits_at (c.new-batch.ensures.stage ∙ c.replace.ensures.value) ∙ waits in
-    ap waits_at c.go_on.ensures.stage ∙ waits_ahead c.read.new.batch.stage (c.in-Ok.ensures.still text handed stands at none)
+pub returns-in-Err-2-clause-costs : goal.returns-in-Err-2-clause-costs
+returns-in-Err-2-clause-costs g c = λ text handed stands.
+    let gave = c.give_up-in-Err-2 in
+    let records = records_behind handed (text ++ c.args.piece.now) in
+    let kept = c.args.pool.now.kept in
+    record {
+      short = λ need largest is.
+          let full = ap stop_at (sym gave.ensures.fault ∙ err_told coded_recv.FeedReport _ _ is) in
+          let told = c.in-Err.ensures.writes.fills.full need largest full in
+          let spends = subst (λ (s : FreeSectors). Spends records s c.read.new.io.space (stop_at c.in-Err.fault)) c.renew.ensures.space (c.in-Err.ensures.spends text handed stands) in
+          subst (λ (s : FreeSectors). PieceIsShort records kept s need largest) (sym (ap (λ (io : _). io.space) gave.ensures.io))
+          (short_read records kept c.read.new.io.space (stop_at c.in-Err.fault) need largest full told.0 told.1 spends);
+      grows = tt;
+    }
 
-pub returns-in-Ok-put-clause-waited : goal.returns-in-Ok-put-clause-waited
-returns-in-Ok-put-clause-waited g c = λ waits.
-    let still = waits_behind c.read.new.batch.stage (ap waits_at (sym c.go_on.ensures.stage) ∙ waits) in
-    ap waits_at (sym (ap (λ (b : batches.Batch). b.stage) (c.in-Ok.ensures.waits still) ∙ c.new-batch.ensures.stage ∙ c.replace.ensures.value)) ∙ still
+pub returns-in-Err-2-clause-waits : goal.returns-in-Err-2-clause-waits
+returns-in-Err-2-clause-waits g c = λ waits. absurd (over_waits c.give_up-in-Err-2.new.self.stage c.give_up-in-Err-2.ensures.over waits)
 
-pub returns-in-Ok-put-clause-blocks : goal.returns-in-Ok-put-clause-blocks
-returns-in-Ok-put-clause-blocks g c = λ goes.
-    let old = g.D.Disk.state c.args.pool.now.io.disk.now in
-    let two = g.D.Disk.state c.read.new.io.disk.now in
-    let three = g.D.Disk.state c.put.new.pool.io.disk.now in
-    let free = free_by c.args.pool.now.kept.body in
+pub returns-in-Err-2-clause-pool : goal.returns-in-Err-2-clause-pool
+returns-in-Err-2-clause-pool g c =
+    let at = (goal.at.returns-in-Err-2-clause-pool g c).After-read in
+    let gave = c.give_up-in-Err-2 in
+    let pool = c.args.pool.now in
+    let fault = c.in-Err.fault in
+    let stop = ap (λ (r : Result (Unit {0}) RecvFault). stop_of r) c.in-Err.is in
+    let can = can_commit g at in
+    subst (λ (f : RecvFault). LeavesPool pool gave.new.pool (Err f)) (sym gave.ensures.fault)
+    (leaves_refused pool gave.new.pool c.if-pool.false fault c.read.new.io gave.ensures.io c.in-Err.ensures.writes.known (λ need largest is. gave.ensures.body ∙ ap (λ (k : PoolState). k.body) c.renew.ensures.kept)
+    (λ alive. subst (Ready (g.D.Disk.state c.read.new.io.disk.now)) (sym gave.ensures.body) can.ready) (read_failed g at ∙ ap fails stop)
+    (subst (HasCause (g.D.Disk.state pool.io.disk.now).faults (g.D.Disk.state c.read.new.io.disk.now).faults) stop (read_cause g at)) (read_honest g at) (read_same g at))
+
+pub returns-in-Err-2-clause-receive : goal.returns-in-Err-2-clause-receive
+returns-in-Err-2-clause-receive g c =
+    let gave = c.give_up-in-Err-2 in
+    receive_over gave.new.pool.kept.dir c.args.piece.now c.args.self.now gave.new.self gave.result gave.ensures.ask gave.ensures.over (over_fits _ gave.new.self c.read.new.reader gave.ensures.over gave.ensures.reader c.read.ensures.takes.reads)
+
+-- ---- its commit was refused
+
+pub returns-in-Err-put-clause-texts : goal.returns-in-Err-put-clause-texts
+returns-in-Err-put-clause-texts g c = λ alive text handed stands.
+    let gave = c.give_up-in-Err-put in
+    record {
+      stream = λ fault is. absurd (cc (gave.ensures.fault, is));
+      stands = tt;
+      hands_out = tt;
+      whole = λ lived. tt;
+      planned = λ fault waits none within refuses.
+          let told = planned_so g (goal.at.returns-in-Err-put-clause-texts g c).After-read text handed fault stands waits none within refuses in
+          absurd (cc (told.0, c.in-Ok.is));
+      because = λ fault kind is. absurd (both_planned fault kind (call_unplanned c.in-Err-put.fault fault c.in-Err-put.ensures.commits.known (sym gave.ensures.fault ∙ err_told coded_recv.FeedReport _ _ is)));
+      still = λ waits none. tt;
+      uncovered = λ none waits. tt;
+    }
+
+pub returns-in-Err-put-clause-costs : goal.returns-in-Err-put-clause-costs
+returns-in-Err-put-clause-costs g c = λ text handed stands.
+    let gave = c.give_up-in-Err-put in
+    record {
+      short = λ need largest is.
+          let full = ap put_answer (same_pool _ _ (sym gave.ensures.fault ∙ err_told coded_recv.FeedReport _ _ is)) in
+          short_by g (goal.at.returns-in-Err-put-clause-costs g c).After-read text handed need largest c.put.new.pool.io.space gave.new.pool.io.space stands (c.in-Err-put.ensures.commits.short need largest full) (ap (λ (io : _). io.space) gave.ensures.io);
+      grows = tt;
+    }
+
+pub returns-in-Err-put-clause-waits : goal.returns-in-Err-put-clause-waits
+returns-in-Err-put-clause-waits g c = λ waits. absurd (over_waits c.give_up-in-Err-put.new.self.stage c.give_up-in-Err-put.ensures.over waits)
+
+pub returns-in-Err-put-clause-pool : goal.returns-in-Err-put-clause-pool
+returns-in-Err-put-clause-pool g c =
+    let at = (goal.at.returns-in-Err-put-clause-pool g c).After-read in
+    let gave = c.give_up-in-Err-put in
+    let pool = c.args.pool.now in
+    let put = c.put.new.pool in
+    let fault = c.in-Err-put.fault in
+    let e = c.in-Err-put.ensures.commits in
+    let read = read_cause g at in
+    subst (λ (f : RecvFault). LeavesPool pool gave.new.pool (Err f)) (sym gave.ensures.fault)
+    (leaves_refused pool gave.new.pool c.if-pool.false (faults.Pool fault) put.io gave.ensures.io (known_call fault e.known) (λ need largest is. gave.ensures.body ∙ ap (λ (k : PoolState). k.body) (e.stays ∙ c.renew.ensures.kept))
+    (λ alive. subst (Ready (g.D.Disk.state put.io.disk.now)) (sym gave.ensures.body) (e.ready alive)) (e.failed ∙ failed_put fault)
+    (cause_put fault (g.D.Disk.state pool.io.disk.now).faults (g.D.Disk.state c.read.new.io.disk.now).faults (g.D.Disk.state put.io.disk.now).faults read.later e.cause) (λ told. read_honest g at (e.honest told)) (e.same ∙ read_same g at))
+
+pub returns-in-Err-put-clause-receive : goal.returns-in-Err-put-clause-receive
+returns-in-Err-put-clause-receive g c =
+    let gave = c.give_up-in-Err-put in
+    receive_over gave.new.pool.kept.dir c.args.piece.now c.args.self.now gave.new.self gave.result gave.ensures.ask gave.ensures.over (over_fits _ gave.new.self c.read.new.reader gave.ensures.over gave.ensures.reader c.read.ensures.takes.reads)
+
+-- ---- the commit of the records before a fault was refused
+
+pub returns-in-Err-put-2-clause-texts : goal.returns-in-Err-put-2-clause-texts
+returns-in-Err-put-2-clause-texts g c = λ alive text handed stands.
+    let gave = c.give_up-in-Err-put-2 in
+    record {
+      stream = λ fault is. absurd (cc (gave.ensures.fault, is));
+      stands = tt;
+      hands_out = tt;
+      whole = λ lived. tt;
+      planned = λ fault waits none within refuses.
+          let told = planned_so g (goal.at.returns-in-Err-put-2-clause-texts g c).After-read text handed fault stands waits none within refuses in
+          absurd (waits_kept c.read.new.batch.stage told.1 (sym c.is_kept.ensures ∙ c.if-is_kept.true));
+      because = λ fault kind is. absurd (both_planned fault kind (call_unplanned c.in-Err-put-2.other fault c.in-Err-put-2.ensures.commits.known (sym gave.ensures.fault ∙ err_told coded_recv.FeedReport _ _ is)));
+      still = λ waits none. tt;
+      uncovered = λ none waits. tt;
+    }
+
+pub returns-in-Err-put-2-clause-costs : goal.returns-in-Err-put-2-clause-costs
+returns-in-Err-put-2-clause-costs g c = λ text handed stands.
+    let gave = c.give_up-in-Err-put-2 in
+    record {
+      short = λ need largest is.
+          let full = ap put_answer (same_pool _ _ (sym gave.ensures.fault ∙ err_told coded_recv.FeedReport _ _ is)) in
+          short_by g (goal.at.returns-in-Err-put-2-clause-costs g c).After-read text handed need largest c.put-in-Err.new.pool.io.space gave.new.pool.io.space stands (c.in-Err-put-2.ensures.commits.short need largest full) (ap (λ (io : _). io.space) gave.ensures.io);
+      grows = tt;
+    }
+
+pub returns-in-Err-put-2-clause-waits : goal.returns-in-Err-put-2-clause-waits
+returns-in-Err-put-2-clause-waits g c = λ waits. absurd (over_waits c.give_up-in-Err-put-2.new.self.stage c.give_up-in-Err-put-2.ensures.over waits)
+
+pub returns-in-Err-put-2-clause-pool : goal.returns-in-Err-put-2-clause-pool
+returns-in-Err-put-2-clause-pool g c =
+    let at = (goal.at.returns-in-Err-put-2-clause-pool g c).After-read in
+    let gave = c.give_up-in-Err-put-2 in
+    let pool = c.args.pool.now in
+    let put = c.put-in-Err.new.pool in
+    let fault = c.in-Err-put-2.other in
+    let e = c.in-Err-put-2.ensures.commits in
+    let read = read_cause g at in
+    subst (λ (f : RecvFault). LeavesPool pool gave.new.pool (Err f)) (sym gave.ensures.fault)
+    (leaves_refused pool gave.new.pool c.if-pool.false (faults.Pool fault) put.io gave.ensures.io (known_call fault e.known) (λ need largest is. gave.ensures.body ∙ ap (λ (k : PoolState). k.body) (e.stays ∙ c.renew.ensures.kept))
+    (λ alive. subst (Ready (g.D.Disk.state put.io.disk.now)) (sym gave.ensures.body) (e.ready alive)) (e.failed ∙ failed_put fault)
+    (cause_put fault (g.D.Disk.state pool.io.disk.now).faults (g.D.Disk.state c.read.new.io.disk.now).faults (g.D.Disk.state put.io.disk.now).faults read.later e.cause) (λ told. read_honest g at (e.honest told)) (e.same ∙ read_same g at))
+
+pub returns-in-Err-put-2-clause-receive : goal.returns-in-Err-put-2-clause-receive
+returns-in-Err-put-2-clause-receive g c =
+    let gave = c.give_up-in-Err-put-2 in
+    receive_over gave.new.pool.kept.dir c.args.piece.now c.args.self.now gave.new.self gave.result gave.ensures.ask gave.ensures.over (over_fits _ gave.new.self c.read.new.reader gave.ensures.over gave.ensures.reader c.read.ensures.takes.reads)
+
+-- ---- the records before a fault were committed
+
+pub returns-in-Ok-put-2-clause-texts : goal.returns-in-Ok-put-2-clause-texts
+returns-in-Ok-put-2-clause-texts g c = λ alive text handed stands.
+    let t = c.in-Err.ensures.texts text handed stands in
+    let was = λ (fault : RecvFault) (is : feed_answer c.in-Err.fault ≡ feed_answer fault). ap read_answer (err_told coded_recv.FeedReport _ _ is) in
+    record {
+      stream = λ fault is. t.stream fault (was _ is);
+      stands = tt;
+      hands_out = tt;
+      whole = λ lived. tt;
+      planned = λ fault waits none within refuses.
+          let told = planned_so g (goal.at.returns-in-Ok-put-2-clause-texts g c).After-read text handed fault stands waits none within refuses in
+          absurd (waits_kept c.read.new.batch.stage told.1 (sym c.is_kept.ensures ∙ c.if-is_kept.true));
+      because = λ fault kind is.
+          let told = t.because fault kind (was _ is) in
+          (ap waits_at (sym (c.new-batch.ensures.stage ∙ c.replace.ensures.value)) ∙ told.0, subst (λ (k : PoolState). RefusesEach k.dir c.args.self.now.ask (text ++ c.args.piece.now) fault) c.renew.ensures.kept told.1);
+      still = λ waits none. tt;
+      uncovered = λ none waits. tt;
+    }
+
+pub returns-in-Ok-put-2-clause-costs : goal.returns-in-Ok-put-2-clause-costs
+returns-in-Ok-put-2-clause-costs g c = λ text handed stands.
+    record {
+      short = λ need largest is. absurd (full_keeps_none c.in-Err.fault need largest (sym c.keeps_before.ensures ∙ c.if-keeps_before.true) (err_told coded_recv.FeedReport c.in-Err.fault _ is));
+      grows = tt;
+    }
+
+pub returns-in-Ok-put-2-clause-waits : goal.returns-in-Ok-put-2-clause-waits
+returns-in-Ok-put-2-clause-waits g c = λ waits. absurd (over_waits _ c.replace.ensures.after waits)
+
+pub returns-in-Ok-put-2-clause-pool : goal.returns-in-Ok-put-2-clause-pool
+returns-in-Ok-put-2-clause-pool g c =
+    let at = (goal.at.returns-in-Ok-put-2-clause-pool g c).After-read in
+    let pool = c.args.pool.now in
+    let put = c.put-in-Err.new.pool in
+    let fault = c.in-Err.fault in
+    let e = c.in-Ok-put-2.ensures.commits in
+    let keeps = sym c.keeps_before.ensures ∙ c.if-keeps_before.true in
+    let none = kept_none fault keeps in
+    let read = read_cause g at in
+    leaves_refused pool put c.if-pool.false fault put.io refl c.in-Err.ensures.writes.known (λ need largest is. absurd (full_keeps_none fault need largest keeps is))
+    e.ready (e.failed ∙ ap fails (sym none))
+    (subst (HasCause (g.D.Disk.state pool.io.disk.now).faults (g.D.Disk.state put.io.disk.now).faults) (sym none)
+    (cause_none (g.D.Disk.state pool.io.disk.now).faults (g.D.Disk.state c.read.new.io.disk.now).faults (g.D.Disk.state put.io.disk.now).faults _ read.later e.cause)) (λ told. read_honest g at (e.honest told)) (e.same ∙ read_same g at)
+
+pub returns-in-Ok-put-2-clause-receive : goal.returns-in-Ok-put-2-clause-receive
+returns-in-Ok-put-2-clause-receive g c =
+    let recv = c.args.self.now in
+    let after : Recv = record recv { reader = c.read.new.reader; stage = c.replace.new.dest } in
+    receive_over c.put-in-Err.new.pool.kept.dir c.args.piece.now recv after c.in-Err.fault refl c.replace.ensures.after (over_fits _ after c.read.new.reader c.replace.ensures.after refl c.read.ensures.takes.reads)
+
+-- ---- all of it was taken and committed
+
+pub returns-in-Ok-put-clause-texts : goal.returns-in-Ok-put-clause-texts
+returns-in-Ok-put-clause-texts g c = λ alive text handed stands.
     let batch = c.read.new.batch in
-    let live : is_live batch.stage ≡ true = not_not (is_live batch.stage) (sym c.go_on.ensures.done ∙ goes) in
-    let none = λ (waits : waits_at batch.stage ≡ true). ap (λ (b : batches.Batch). b.taken) (c.in-Ok.ensures.waits waits) ∙ c.new-batch.ensures.taken in
-    let fills = subst (λ (d : DiskState). FillsFree d free two c.read.new.io.space) (ap (λ (d : g.row.D.Denot). g.D.Disk.state d) c.renew.ensures.disk)
-    (subst (λ (s : FreeSectors). FillsFree (g.D.Disk.state c.renew.new.self.io.disk.now) s two c.read.new.io.space) c.renew.ensures.space c.read.ensures.fills.fills) in
-    keeps_behind old two three free c.read.new.io.space (free_by c.put.new.pool.kept.body) batch.taken fills
-    (λ idle. (ap (λ (d : g.row.D.Denot). g.D.Disk.state d) (c.put.ensures.idle_disk idle), ap (λ (k : PoolState). free_by k.body) (c.put.ensures.idle_kept idle ∙ c.renew.ensures.kept)))
-    (λ taken. c.in-Ok-put.ensures.blocks taken (live_partial batch.stage live (λ waits. let both = sym taken ∙ none waits in cc (both))))
+    let recv = c.args.self.now in
+    let t = c.in-Ok.ensures.texts text handed stands in
+    let was : c.new-batch.result.stage ≡ recv.stage = c.new-batch.ensures.stage ∙ c.replace.ensures.value in
+    let lives = λ (live : is_live c.go_on.new.self.stage ≡ true). sym (behind_live batch.stage) ∙ ap is_live (sym c.go_on.ensures.stage) ∙ live in
+    record {
+      stream = λ fault is. absurd (cc is);
+      stands = λ live. let later = t.stands (lives live) in (later.0, subst (λ (r : Reader). StandsFor r (text ++ c.args.piece.now) later.0) (sym c.go_on.ensures.reader) later.1);
+      hands_out = λ live all. let later = t.hands_out (lives live) all in (later.0, subst (λ (r : Reader). HandsOut r (text ++ c.args.piece.now) later.0 waiting) (sym c.go_on.ensures.reader) later.1);
+      whole = λ lived over. t.whole (ap is_live was ∙ lived) (sym (behind_live batch.stage) ∙ ap is_live (sym c.go_on.ensures.stage) ∙ over);
+      planned = λ fault waits none within refuses.
+          let told = planned_so g (goal.at.returns-in-Ok-put-clause-texts g c).After-read text handed fault stands waits none within refuses in
+          absurd (cc (told.0, c.in-Ok.is));
+      because = λ fault kind is. absurd (cc is);
+      still = λ waits none. ap waits_at c.go_on.ensures.stage ∙ waits_ahead batch.stage (t.still (ap waits_at was ∙ waits) none);
+      uncovered = λ none waits. t.uncovered none (waits_behind batch.stage (ap waits_at (sym c.go_on.ensures.stage) ∙ waits));
+    }
 
-pub returns-in-Ok-put-clause-grows : goal.returns-in-Ok-put-clause-grows
-returns-in-Ok-put-clause-grows g c = λ text handed stands.
+pub returns-in-Ok-put-clause-costs : goal.returns-in-Ok-put-clause-costs
+returns-in-Ok-put-clause-costs g c = λ text handed stands.
     let records = records_behind handed (text ++ c.args.piece.now) in
     let spends = subst (λ (s : FreeSectors). Spends records s c.read.new.io.space None) c.renew.ensures.space (c.in-Ok.ensures.spends text handed stands) in
-    piece_grows records c.args.pool.now.kept c.put.new.pool.kept c.read.new.io.space spends.takes c.read.new.io.fits.extents.end
-    (subst (λ (k : PoolState). (c.put.new.pool.kept ≡ k) ⊎ CallGrows c.read.new.io.space k c.put.new.pool.kept) c.renew.ensures.kept c.in-Ok-put.ensures.grows)
+    record {
+      short = λ need largest is. absurd (cc is);
+      grows =
+          piece_grows records c.args.pool.now.kept c.put.new.pool.kept c.read.new.io.space spends.takes c.read.new.io.fits.extents.end
+          (subst (λ (k : PoolState). (c.put.new.pool.kept ≡ k) ⊎ CallGrows c.read.new.io.space k c.put.new.pool.kept) c.renew.ensures.kept c.in-Ok-put.ensures.commits.grows);
+    }
+
+-- nothing was taken where it still waits
+still_idle : (batch before : batches.Batch) → (waits_at batch.stage ≡ true → batch ≡ before) → before.taken ≡ false → waits_at batch.stage ≡ true → batch.taken ≡ false
+still_idle batch before same none waits = ap (λ (b : batches.Batch). b.taken) (same waits) ∙ none
+
+pub returns-in-Ok-put-clause-waits : goal.returns-in-Ok-put-clause-waits
+returns-in-Ok-put-clause-waits g c = λ waits.
+    let still = waits_behind c.read.new.batch.stage (ap waits_at (sym c.go_on.ensures.stage) ∙ waits) in
+    let none = still_idle c.read.new.batch c.new-batch.result c.read.ensures.gathers.waits c.new-batch.ensures.taken still in
+    (c.put.ensures.idle none).1 ∙ c.renew.ensures.kept
+
+pub returns-in-Ok-put-clause-pool : goal.returns-in-Ok-put-clause-pool
+returns-in-Ok-put-clause-pool g c =
+    let at = (goal.at.returns-in-Ok-put-clause-pool g c).After-read in
+    let pool = c.args.pool.now in
+    let put = c.put.new.pool in
+    let e = c.in-Ok-put.ensures.commits in
+    let read = read_cause g at in
+    let old = g.D.Disk.state pool.io.disk.now in
+    let two = g.D.Disk.state c.read.new.io.disk.now in
+    let three = g.D.Disk.state put.io.disk.now in
+    let free = free_by pool.kept.body in
+    let batch = c.read.new.batch in
+    leaves_fed pool put c.if-pool.false c.go_on.result
+    (λ goes.
+    let live : is_live batch.stage ≡ true = not_not (is_live batch.stage) (sym c.go_on.ensures.done ∙ goes) in
+    let none = λ (waits : waits_at batch.stage ≡ true). still_idle batch c.new-batch.result c.read.ensures.gathers.waits c.new-batch.ensures.taken waits in
+    let fills = subst (λ (d : DiskState). FillsFree d free two c.read.new.io.space) (ap (λ (d : g.row.D.Denot). g.D.Disk.state d) c.renew.ensures.disk.now)
+    (subst (λ (s : FreeSectors). FillsFree (g.D.Disk.state c.renew.new.self.io.disk.now) s two c.read.new.io.space) c.renew.ensures.space c.read.ensures.writes.fills.fills) in
+    keeps_behind old two three free c.read.new.io.space (free_by put.kept.body) batch.taken fills
+    (λ idle. let same = c.put.ensures.idle idle in (ap (λ (d : g.row.D.Denot). g.D.Disk.state d) same.0, ap (λ (k : PoolState). free_by k.body) (same.1 ∙ c.renew.ensures.kept)))
+    (λ taken. (c.in-Ok-put.ensures.free taken (live_partial batch.stage live (λ waits. let both = sym taken ∙ none waits in cc (both)))).1))
+    e.ready e.failed (cause_none old.faults two.faults three.faults _ read.later e.cause) (λ told. read_honest g at (e.honest told)) (e.same ∙ read_same g at)
+
+pub returns-in-Ok-put-clause-receive : goal.returns-in-Ok-put-clause-receive
+returns-in-Ok-put-clause-receive g c =
+    let target = c.args.self.now.ask.target in
+    let batch = c.read.new.batch in
+    let after = c.go_on.new.self in
+    let fits =
+    behind_fits c.put.new.pool.kept.dir after c.read.new.reader target batch.stage (ap (λ (a : RecvAsk). a.target) c.go_on.ensures.ask) c.go_on.ensures.stage c.go_on.ensures.reader
+    (c.in-Ok-put.ensures.fits target (read_fits g (goal.at.returns-in-Ok-put-clause-receive g c).After-read)) c.in-Ok.ensures.takes.behind in
+    record {
+      ask = c.go_on.ensures.ask;
+      live = ap is_live c.go_on.ensures.stage ∙ live_behind batch.stage c.go_on.result.done c.go_on.ensures.done;
+      fits = fits;
+      fed = λ goes.
+          let live : is_live batch.stage ≡ true = not_not (is_live batch.stage) (sym c.go_on.ensures.done ∙ not_false c.go_on.result.done goes) in
+          ap pushed_of c.go_on.ensures.reader ∙ c.in-Ok.ensures.takes.all live;
+      within = fits_within _ after fits;
+      received = λ done.
+          let over : is_live batch.stage ≡ false = not_false (is_live batch.stage) (sym c.go_on.ensures.done ∙ done) in
+          subst (λ (s : coded.Stage). IsSome (received_at s)) (sym c.go_on.ensures.stage) (received_then c.renew.new.self.kept.dir target batch.stage (read_fits g (goal.at.returns-in-Ok-put-clause-receive g c).After-read) over);
+      waited = λ waits.
+          let still = waits_behind batch.stage (ap waits_at (sym c.go_on.ensures.stage) ∙ waits) in
+          ap waits_at (sym (ap (λ (b : batches.Batch). b.stage) (c.read.ensures.gathers.waits still) ∙ c.new-batch.ensures.stage ∙ c.replace.ensures.value)) ∙ still;
+    }

@@ -1,6 +1,16 @@
-use Rattle.std.proofs.Common.{[], refl}
+use Rattle.std.proofs.Common.{[], arith, refl}
 use Rattle.zst_recv.proofs.RecordOrder.{nothing_read}
 use Rattle.zst_recv.proofs.recv.Recv.open.Goals as goal
 
-pub returns-clause-opens : goal.returns-clause-opens
-returns-clause-opens g c = λ bound image space. record { handed = []; reads = record { stands = c.in_ok-open.ensures.stands; whole = nothing_read }; waits = refl; stands = tt }
+pub returns-clause-fresh : goal.returns-clause-fresh
+returns-clause-fresh g c =
+    let stands = c.in_ok-open.ensures.stands in
+    record {
+      opens = λ bound image space. record { handed = []; reads = record { stands = stands; whole = nothing_read }; waits = refl; stands = tt };
+      stands = stands;
+      ask = refl;
+      fits = record { stage = tt; reads = record { text = []; bytes = λ k other within. absurd (omega (arith, within)); handed = []; stands = stands; behind = refl } };
+      live = refl;
+      waiting = refl;
+      fed = stands.pushed;
+    }
