@@ -21,23 +21,23 @@ use Rattle.zst_stream.specs.Records.{piece_for, pieces_for, view_text}
 use Rattle.zst_tree.specs.Indices.{Blocks}
 use Rattle.zst_writer.specs.Writes.{HasWritten, bytes_after}
 use Rattle.zst_send.specs.DueItems.{AreHeld}
-use Rattle.zst_send.specs.Places.{IsWalk, items_left}
-use Rattle.zst_send.specs.Records.{AreLeft, HasPut, IsInWork, end_size}
+use Rattle.zst_send.specs.WalkPositions.{IsWalk, items_left}
+use Rattle.zst_send.specs.Records.{AreLeft, HasPut, IsOfLast, end_size}
 use Rattle.zst_send.specs.SendState.{Fills, IsRest, StandFits, StandsAt}
-use Rattle.zst_send.specs.Work.{IsLoaded, IsPayload, IsPut, IsWork, WorkFits, payload_size}
-use Rattle.zst_send.specs.declared.work.Payload.{Payload}
-use Rattle.zst_send.specs.declared.work.Payload.TheVariants.{Nothing, Bonus, Block}
-use Rattle.zst_send.specs.declared.work.Work.{Work}
+use Rattle.zst_send.specs.PendingRecords.{IsLoaded, IsPayload, IsPut, IsPending, PendingFits, payload_size}
+use Rattle.zst_send.specs.declared.pending_record.Payload.{Payload}
+use Rattle.zst_send.specs.declared.pending_record.Payload.TheVariants.{Nothing, Bonus, Block}
+use Rattle.zst_send.specs.declared.pending_record.PendingRecord.{PendingRecord}
 use Rattle.zst_send.specs.declared.due_items.DueItems.{DueItems}
-use Rattle.zst_send.specs.declared.room.Room.{Room}
+use Rattle.zst_send.specs.declared.block_buffer.BlockBuffer.{BlockBuffer}
 use Rattle.zst_send.specs.declared.send_state.SendState.{SendState}
 
 -- so many of the bytes that were left were given, and the send stands behind them
-pub record HasGiven (has : Blocks) (snap : DatedState) (view : View) (to : ℕ) (left into : List ℕ) (count : ℕ) (stand : SendState) (room : Room) : Type 0 where
+pub record HasGiven (has : Blocks) (snap : DatedState) (view : View) (to : ℕ) (left into : List ℕ) (count : ℕ) (stand : SendState) (buffer : BlockBuffer) : Type 0 where
   pub less : count ≤ length left
   pub same : take count into ≡ take count left
   pub stands : StandsAt has snap view to stand (drop count left)
-  pub loaded : IsLoaded has room
+  pub loaded : IsLoaded has buffer
 
 module _ (has : Blocks) where
   -- what follows a record is no longer than is stated
@@ -47,16 +47,16 @@ module _ (has : Blocks) where
   payload_less (Block ptr) bytes is = let long : length bytes ≡ ptr.length = is.1 in omega (arith, long)
 
   -- nothing is left of a record that was given
-  none_pending : (work : Work) (left : List ℕ) → IsWork has work left → WorkFits work → record_len + payload_size work.payload ≡ work.given → left ≡ []
-  none_pending work left is fits given =
-      let less : length is.payload ≤ payload_size work.payload = payload_less work.payload is.payload is.payload_is in
-      let whole : length (work.head ++ is.payload) ≡ length work.head + length is.payload = length-append work.head is.payload in
-      let head : length work.head ≡ 312 = fits.head in
-      let all : 312 + payload_size work.payload ≡ work.given = given in
-      is.left_are ∙ drop_of_length-le (work.head ++ is.payload) {i = work.given} (omega (arith, less, whole, head, all))
+  none_pending : (pending : PendingRecord) (left : List ℕ) → IsPending has pending left → PendingFits pending → record_len + payload_size pending.payload ≡ pending.given → left ≡ []
+  none_pending pending left is fits given =
+      let less : length is.payload ≤ payload_size pending.payload = payload_less pending.payload is.payload is.payload_is in
+      let whole : length (pending.head ++ is.payload) ≡ length pending.head + length is.payload = length-append pending.head is.payload in
+      let head : length pending.head ≡ 312 = fits.head in
+      let all : 312 + payload_size pending.payload ≡ pending.given = given in
+      is.left_are ∙ drop_of_length-le (pending.head ++ is.payload) {i = pending.given} (omega (arith, less, whole, head, all))
 
   module _ (snap : DatedState) (view : View) (to : ℕ) where
-    -- what is left where the record in work was given and END wasn't put
+    -- what is left where the pending record was given and END wasn't put
     pub record Continues (stand : SendState) (left : List ℕ) : Type 0 where
       pub text : List ℕ
       pub written : HasWritten stand.writer text
@@ -64,7 +64,7 @@ module _ (has : Blocks) where
       pub walk : IsWalk has snap stand.walk held
       pub left_is : left ≡ image_after text (pieces_for to (items_left view stand.walk held)) to
 
-    pub continues : (stand : SendState) (left : List ℕ) → StandsAt has snap view to stand left → StandFits stand → record_len + payload_size stand.work.payload ≡ stand.work.given → stand.ended ≡ false
+    pub continues : (stand : SendState) (left : List ℕ) → StandsAt has snap view to stand left → StandFits stand → record_len + payload_size stand.pending.payload ≡ stand.pending.given → stand.ended ≡ false
         → Continues stand left
     continues stand left at fits given open_still =
         let rest = subst (λ (e : Bool). IsRest has snap view to at.text stand.walk e at.rest) open_still at.is_rest in
@@ -73,27 +73,27 @@ module _ (has : Blocks) where
           written = at.written;
           held = rest.0;
           walk = rest.1;
-          left_is = at.are ∙ ap (λ (l : List ℕ). l ++ at.rest) (none_pending stand.work at.pending at.work fits.work given) ∙ rest.2;
+          left_is = at.are ∙ ap (λ (l : List ℕ). l ++ at.rest) (none_pending stand.pending at.first at.pending fits.pending given) ∙ rest.2;
         }
 
     -- nothing is left behind END
-    pub ended_leaves : (stand : SendState) (left : List ℕ) → StandsAt has snap view to stand left → StandFits stand → record_len + payload_size stand.work.payload ≡ stand.work.given → stand.ended ≡ true
+    pub ended_leaves : (stand : SendState) (left : List ℕ) → StandsAt has snap view to stand left → StandFits stand → record_len + payload_size stand.pending.payload ≡ stand.pending.given → stand.ended ≡ true
         → left ≡ []
     ended_leaves stand left at fits given ended =
         let rest = subst (λ (e : Bool). IsRest has snap view to at.text stand.walk e at.rest) ended at.is_rest in
-        at.are ∙ ap (λ (l : List ℕ). l ++ at.rest) (none_pending stand.work at.pending at.work fits.work given) ∙ rest
+        at.are ∙ ap (λ (l : List ℕ). l ++ at.rest) (none_pending stand.pending at.first at.pending fits.pending given) ∙ rest
 
     -- the record of the item that comes first is put
     pub item_put : (left text : List ℕ) (items : List Item) (first : Item) (held : List Item) (new : SendState) → left ≡ image_after text (pieces_for to items) to → items ≡ first ∷ items_left view new.walk held
-        → IsWalk has snap new.walk held → IsPut has to text first new.writer new.work → new.ended ≡ false → StandsAt has snap view to new left
+        → IsWalk has snap new.walk held → IsPut has to text first new.writer new.pending → new.ended ≡ false → StandsAt has snap view to new left
     unfolding image_after
     item_put left text items first held new left_is items_are walk put open_still =
         let piece : List ℕ = piece_after text (piece_for to first) in
         record {
           text = text ++ piece;
           written = put.written;
-          pending = piece;
-          work = put.work_is;
+          first = piece;
+          pending = put.pending_is;
           rest = image_after (text ++ piece) (pieces_for to (items_left view new.walk held)) to;
           is_rest = subst (λ (e : Bool). IsRest has snap view to (text ++ piece) new.walk e (image_after (text ++ piece) (pieces_for to (items_left view new.walk held)) to)) (sym open_still) (held, walk, refl);
           are = left_is ∙ ap (λ (l : List Item). image_after text (pieces_for to l) to) items_are;
@@ -101,29 +101,29 @@ module _ (has : Blocks) where
 
     -- END is put where no item is left
     pub end_put : (left text sums : List ℕ) (items : List Item) (new : SendState) → left ≡ image_after text (pieces_for to items) to → items ≡ []
-        → HasWritten new.writer (text ++ bytes_after text (heads.End sums to)) → new.work.head ≡ bytes_after text (heads.End sums to)
-        → new.work.payload ≡ Nothing → new.work.given ≡ 0 → new.ended ≡ true → StandsAt has snap view to new left
+        → HasWritten new.writer (text ++ bytes_after text (heads.End sums to)) → new.pending.head ≡ bytes_after text (heads.End sums to)
+        → new.pending.payload ≡ Nothing → new.pending.given ≡ 0 → new.ended ≡ true → StandsAt has snap view to new left
     unfolding image_after bytes_after
     end_put left text sums items new left_is items_are written head payload given ended =
         let last : List ℕ = record_after text (end_after text to) in
         record {
           text = text ++ last;
           written = written;
-          pending = last;
-          work = record {
+          first = last;
+          pending = record {
             payload = [];
             payload_is = subst (λ (p : Payload). IsPayload has p []) (sym payload) refl;
-            left_are = sym head ∙ sym (append-nil new.work.head) ∙ ap (λ (n : ℕ). drop n (new.work.head ++ [])) (sym given);
+            left_are = sym head ∙ sym (append-nil new.pending.head) ∙ ap (λ (n : ℕ). drop n (new.pending.head ++ [])) (sym given);
           };
           rest = [];
           is_rest = subst (λ (e : Bool). IsRest has snap view to (text ++ last) new.walk e []) (sym ended) refl;
           are = left_is ∙ ap (λ (l : List Item). image_after text (pieces_for to l) to) items_are ∙ sym (append-nil last);
         }
 
-    -- the room is filled
-    pub filled_room : (left into : List ℕ) (count : ℕ) (stand : SendState) (room : Room) → HasGiven has snap view to left into count stand room → count ≡ length into
+    -- the buffer is filled
+    pub filled_whole : (left into : List ℕ) (count : ℕ) (stand : SendState) (buffer : BlockBuffer) → HasGiven has snap view to left into count stand buffer → count ≡ length into
         → Fills has snap view to left into stand count
-    filled_room left into count stand room given full = record {
+    filled_whole left into count stand buffer given full = record {
       count_is = let less : count ≤ length left = given.less in omega (arith, less, full);
       given = given.same;
       stands = given.stands;
@@ -158,24 +158,24 @@ module _ (has : Blocks) where
         ∙ sym (take_two (take count left) (drop count left) count more (length-take-le count left less))
         ∙ ap (take (count + more)) (take-append-drop count left)
 
-    -- a piece of the record in work is given behind what was given
-    pub given_on : (left into given : List ℕ) (count more : ℕ) (stand : SendState) (work : Work) (room : Room) → count ≤ length left → take count into ≡ take count left → count ≤ length into
-        → (at : StandsAt has snap view to stand (drop count left)) → take more given ≡ take more at.pending → more ≤ length at.pending → more ≤ length given → IsWork has work (drop more at.pending) → IsLoaded has room
-        → HasGiven has snap view to left (put_mid count (length into - count) into given) (count + more) (record stand { work = work }) room
-    given_on left into given count more stand work room less same inside at next some most goes loaded =
+    -- a piece of the pending record is given behind what was given
+    pub given_on : (left into given : List ℕ) (count more : ℕ) (stand : SendState) (pending : PendingRecord) (buffer : BlockBuffer) → count ≤ length left → take count into ≡ take count left → count ≤ length into
+        → (at : StandsAt has snap view to stand (drop count left)) → take more given ≡ take more at.first → more ≤ length at.first → more ≤ length given → IsPending has pending (drop more at.first) → IsLoaded has buffer
+        → HasGiven has snap view to left (put_mid count (length into - count) into given) (count + more) (record stand { pending = pending }) buffer
+    given_on left into given count more stand pending buffer less same inside at next some most goes loaded =
         let long : length (drop count left) ≡ length left - count = length-drop count left in
-        let parts : length (drop count left) ≡ length at.pending + length at.rest = ap length at.are ∙ length-append at.pending at.rest in
+        let parts : length (drop count left) ≡ length at.first + length at.rest = ap length at.are ∙ length-append at.first at.rest in
         record {
           less = omega (arith, less, some, long, parts);
-          same = filled_behind into given left count more inside less most same (next ∙ sym (ap (take more) at.are ∙ take-append-le more at.pending at.rest some));
+          same = filled_behind into given left count more inside less most same (next ∙ sym (ap (take more) at.are ∙ take-append-le more at.first at.rest some));
           stands = record {
             text = at.text;
             written = at.written;
-            pending = drop more at.pending;
-            work = goes;
+            first = drop more at.first;
+            pending = goes;
             rest = at.rest;
             is_rest = at.is_rest;
-            are = sym (drop-drop more count left) ∙ ap (drop more) at.are ∙ drop-append-le more at.pending at.rest some;
+            are = sym (drop-drop more count left) ∙ ap (drop more) at.are ∙ drop-append-le more at.first at.rest some;
           };
           loaded = loaded;
         }
@@ -183,29 +183,29 @@ module _ (has : Blocks) where
 -- where BEGIN has no payload, it is its 312 bytes
 -- a send begins with BEGIN and its payload, and then has all items of its view from the point on
 pub begins : (header : Header) (start : Point) → WalkBegins → (has : Blocks) (snap : DatedState) (view : View) (stand : SendState)
-    → HasWritten stand.writer (front_of header) → stand.work.head ++ begin_payload header ≡ front_of header
-    → (payload : (field : List ℕ) × (stand.work.payload ≡ Bonus field (length (begin_payload header))) × (take (length (begin_payload header)) field ≡ begin_payload header)) → stand.work.given ≡ 0
-    → stand.walk.held ≡ None → stand.walk.place.point ≡ start → stand.walk.place.slot ≡ true → stand.ended ≡ false
+    → HasWritten stand.writer (front_of header) → stand.pending.head ++ begin_payload header ≡ front_of header
+    → (payload : (field : List ℕ) × (stand.pending.payload ≡ Bonus field (length (begin_payload header))) × (take (length (begin_payload header)) field ≡ begin_payload header)) → stand.pending.given ≡ 0
+    → stand.walk.held ≡ None → stand.walk.position.point ≡ start → stand.walk.position.slot ≡ true → stand.ended ≡ false
     → StandsAt has snap view header.to stand (view_text header view start)
 unfolding view_text image
 begins header start all has snap view stand written head payload given held point slot open_still =
     let front : List ℕ = front_of header in
-    let left : walk_left view stand.walk.place.point stand.walk.place.slot ≡ single_items view start =
-    ap (λ (p : Point). walk_left view p stand.walk.place.slot) point ∙ ap (walk_left view start) slot ∙ all view start in
+    let left : walk_left view stand.walk.position.point stand.walk.position.slot ≡ single_items view start =
+    ap (λ (p : Point). walk_left view p stand.walk.position.slot) point ∙ ap (walk_left view start) slot ∙ all view start in
     let rest : List ℕ = image_after front (pieces_for header.to (items view start)) header.to in
     record {
       text = front;
       written = written;
-      pending = front;
-      work = record {
+      first = front;
+      pending = record {
         payload = begin_payload header;
         payload_is = subst (λ (p : Payload). IsPayload has p (begin_payload header)) (sym payload.1) (sym payload.2);
-        left_are = sym head ∙ ap (λ (n : ℕ). drop n (stand.work.head ++ begin_payload header)) (sym given);
+        left_are = sym head ∙ ap (λ (n : ℕ). drop n (stand.pending.head ++ begin_payload header)) (sym given);
       };
       rest = rest;
       is_rest = subst (λ (e : Bool). IsRest has snap view header.to front stand.walk e rest) (sym open_still) (
         [],
-        record { held_are = subst (λ (h : Option DueItems). AreHeld has h []) (sym held) refl; place_is = λ passed. absurd (true≢false (sym slot ∙ passed)) },
+        record { held_are = subst (λ (h : Option DueItems). AreHeld has h []) (sym held) refl; position_is = λ passed. absurd (true≢false (sym slot ∙ passed)) },
         ap (λ (l : List Item). image_after front (pieces_for header.to (joined l)) header.to) (sym left),
       );
       are = refl;
@@ -213,24 +213,24 @@ begins header start all has snap view stand written head payload given held poin
 
 -- and has put none of them
 pub begins_put : (header : Header) (start : Point) → WalkBegins → (has : Blocks) (snap : DatedState) (view : View) (stand : SendState)
-    → length stand.work.head ≡ record_len → stand.work.head ++ begin_payload header ≡ front_of header
-    → (payload : (field : List ℕ) × (stand.work.payload ≡ Bonus field (length (begin_payload header))) × (take (length (begin_payload header)) field ≡ begin_payload header)) → stand.work.given ≡ 0
-    → stand.walk.held ≡ None → stand.walk.place.point ≡ start → stand.walk.place.slot ≡ true → stand.ended ≡ false → HasPut has snap view start (length (front_of header)) [] 0 stand
+    → length stand.pending.head ≡ record_len → stand.pending.head ++ begin_payload header ≡ front_of header
+    → (payload : (field : List ℕ) × (stand.pending.payload ≡ Bonus field (length (begin_payload header))) × (take (length (begin_payload header)) field ≡ begin_payload header)) → stand.pending.given ≡ 0
+    → stand.walk.held ≡ None → stand.walk.position.point ≡ start → stand.walk.position.slot ≡ true → stand.ended ≡ false → HasPut has snap view start (length (front_of header)) [] 0 stand
 begins_put header start all has snap view stand long head payload given held point slot open_still =
-    let left : walk_left view stand.walk.place.point stand.walk.place.slot ≡ single_items view start =
-    ap (λ (p : Point). walk_left view p stand.walk.place.slot) point ∙ ap (walk_left view start) slot ∙ all view start in
+    let left : walk_left view stand.walk.position.point stand.walk.position.slot ≡ single_items view start =
+    ap (λ (p : Point). walk_left view p stand.walk.position.slot) point ∙ ap (walk_left view start) slot ∙ all view start in
     record {
       later = items view start;
       are = refl;
       are_left = subst (λ (e : Bool). AreLeft has snap view stand.walk e (items view start)) (sym open_still) (
         [],
-        record { held_are = subst (λ (h : Option DueItems). AreHeld has h []) (sym held) refl; place_is = λ passed. absurd (true≢false (sym slot ∙ passed)) },
+        record { held_are = subst (λ (h : Option DueItems). AreHeld has h []) (sym held) refl; position_is = λ passed. absurd (true≢false (sym slot ∙ passed)) },
         ap joined (sym left),
       );
-      in_work = subst (λ (p : Payload). IsInWork [] stand.ended p) (sym payload.1) tt;
+      of_last = subst (λ (p : Payload). IsOfLast [] stand.ended p) (sym payload.1) tt;
       place_is =
-          let size : payload_size stand.work.payload ≡ length (begin_payload header) = ap payload_size payload.1 in
+          let size : payload_size stand.pending.payload ≡ length (begin_payload header) = ap payload_size payload.1 in
           let none : end_size stand.ended ≡ 0 = ap end_size open_still in
-          let whole : length (front_of header) ≡ length stand.work.head + length (begin_payload header) = ap length (sym head) ∙ length-append stand.work.head (begin_payload header) in
+          let whole : length (front_of header) ≡ length stand.pending.head + length (begin_payload header) = ap length (sym head) ∙ length-append stand.pending.head (begin_payload header) in
           omega (arith, size, none, given, whole, long);
     }

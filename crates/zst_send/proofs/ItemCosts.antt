@@ -15,14 +15,14 @@ use Rattle.zst_send.specs.DueItems.{IsFirst}
 use Rattle.zst_send.specs.declared.due_items.DueItems.{DueItems}
 use Rattle.zst_send.specs.declared.due_items.DueItems.TheVariants as dues
 use Rattle.zst_send.specs.declared.send_state.SendState.{SendState}
-use Rattle.zst_send.specs.Places.{IsWalk, items_left}
-use Rattle.zst_send.specs.Records.{AreLeft, HasPut, IsInWork, IsOfItem, blocks_behind, end_size, reads_of, size_of, sizes_of, touched}
-use Rattle.zst_send.specs.Work.{payload_size}
+use Rattle.zst_send.specs.WalkPositions.{IsWalk, items_left}
+use Rattle.zst_send.specs.Records.{AreLeft, HasPut, IsOfLast, IsOfItem, blocks_behind, end_size, reads_of, size_of, sizes_of, touched}
+use Rattle.zst_send.specs.PendingRecords.{payload_size}
 use Rattle.zst_send.specs.declared.walk.Walk.{Walk}
-use Rattle.zst_send.specs.declared.work.Payload.{Payload}
-use Rattle.zst_send.specs.declared.work.Payload.TheVariants as payloads
+use Rattle.zst_send.specs.declared.pending_record.Payload.{Payload}
+use Rattle.zst_send.specs.declared.pending_record.Payload.TheVariants as payloads
 use Rattle.zst_send.proofs.TouchedItems.{touched_more, touched_next, touched_there}
-use Rattle.zst_send.specs.declared.work.Work.{Work}
+use Rattle.zst_send.specs.declared.pending_record.PendingRecord.{PendingRecord}
 
 module _ (has : Blocks) (snap : DatedState) where
   -- an item stands for as many numbers and pairs, and has as many blocks, as what was due
@@ -47,7 +47,7 @@ sizes_join (item ∷ put) more = let rest = sizes_join put more in omega (arith,
 
 -- a walk is at most two looks ahead
 looks_most : (snap : DatedState) (walk : Walk) → looks_ahead snap walk ≤ 2
-looks_most snap walk = let most = go (is_ended walk.place) in omega (arith, most)
+looks_most snap walk = let most = go (is_ended walk.position) in omega (arith, most)
   where
     go : (b : Bool) → (if b then 1 else 0) ≤ 1
     go true = omega arith
@@ -62,25 +62,25 @@ at_most_one (payloads.Block ptr) = omega arith
 
 module _ (has : Blocks) (snap : DatedState) (view : View) (point : Point) (front : ℕ) (put : List Item) (place : ℕ) where
   -- the bytes of a send so far end behind what was put, where all of it was given
-  pub put_ends : (stand : SendState) → HasPut has snap view point front put place stand → stand.ended ≡ false → record_len + payload_size stand.work.payload ≡ stand.work.given → place ≡ front + sizes_of put
+  pub put_ends : (stand : SendState) → HasPut has snap view point front put place stand → stand.ended ≡ false → record_len + payload_size stand.pending.payload ≡ stand.pending.given → place ≡ front + sizes_of put
   put_ends stand had open_still given =
       let none : end_size stand.ended ≡ 0 = ap end_size open_still in
       let is = had.place_is in
       omega (arith, none, is, given)
 
-  last_in_work : (first : Item) (ended : Bool) (payload : Payload) → IsOfItem first payload → ended ≡ false → IsInWork (put ++ first ∷ []) ended payload
+  last_in_work : (first : Item) (ended : Bool) (payload : Payload) → IsOfItem first payload → ended ≡ false → IsOfLast (put ++ first ∷ []) ended payload
   last_in_work first ended payloads.Nothing of open_still = tt
   last_in_work first ended (payloads.Bonus field count) of open_still = tt
   last_in_work first ended (payloads.Block ptr) of open_still = (put, first, refl, of, open_still)
 
   -- one item more
   pub put_one : (later : List Item) (first : Item) (held : List Item) (new : SendState) → items view point ≡ put ++ later → later ≡ first ∷ items_left view new.walk held → place ≡ front + sizes_of put
-      → IsWalk has snap new.walk held → IsOfItem first new.work.payload → new.work.given ≡ 0 → new.ended ≡ false → HasPut has snap view point front (put ++ first ∷ []) place new
+      → IsWalk has snap new.walk held → IsOfItem first new.pending.payload → new.pending.given ≡ 0 → new.ended ≡ false → HasPut has snap view point front (put ++ first ∷ []) place new
   put_one later first held new are comes at walk of fresh open_still = record {
     later = items_left view new.walk held;
     are = are ∙ ap (λ (l : List Item). put ++ l) comes ∙ sym (append_assoc put (first ∷ []) (items_left view new.walk held));
     are_left = subst (λ (e : Bool). AreLeft has snap view new.walk e (items_left view new.walk held)) (sym open_still) (held, walk, refl);
-    in_work = last_in_work first new.ended new.work.payload of open_still;
+    of_last = last_in_work first new.ended new.pending.payload of open_still;
     place_is =
         let none : end_size new.ended ≡ 0 = ap end_size open_still in
         let sizes : sizes_of (put ++ first ∷ []) ≡ sizes_of put + (size_of first + 0) = sizes_join put (first ∷ []) in
@@ -90,16 +90,16 @@ module _ (has : Blocks) (snap : DatedState) (view : View) (point : Point) (front
 
   -- END
   pub put_end : (later : List Item) (new : SendState) → items view point ≡ put ++ later → later ≡ [] → place ≡ front + sizes_of put
-      → new.work.payload ≡ payloads.Nothing → new.work.given ≡ 0 → new.ended ≡ true → HasPut has snap view point front (put ++ []) place new
+      → new.pending.payload ≡ payloads.Nothing → new.pending.given ≡ 0 → new.ended ≡ true → HasPut has snap view point front (put ++ []) place new
   put_end later new are none at alone fresh ended = record {
     later = [];
     are = are ∙ ap (λ (l : List Item). put ++ l) none ∙ sym (append-nil (put ++ []));
     are_left = subst (λ (e : Bool). AreLeft has snap view new.walk e []) (sym ended) refl;
-    in_work = subst (λ (p : Payload). IsInWork (put ++ []) new.ended p) (sym alone) tt;
+    of_last = subst (λ (p : Payload). IsOfLast (put ++ []) new.ended p) (sym alone) tt;
     place_is =
         let last : end_size new.ended ≡ record_len = ap end_size ended in
         let sizes : sizes_of (put ++ []) ≡ sizes_of put = ap sizes_of (append-nil put) in
-        let size : payload_size new.work.payload ≡ 0 = ap payload_size alone in
+        let size : payload_size new.pending.payload ≡ 0 = ap payload_size alone in
         omega (arith, last, sizes, size, at, fresh);
   }
 
@@ -107,29 +107,29 @@ module _ (has : Blocks) (snap : DatedState) (view : View) (point : Point) (front
   pub put_none : (stand : SendState) → HasPut has snap view point front put place stand → HasPut has snap view point front (put ++ []) place stand
   put_none stand had = subst (λ (l : List Item). HasPut has snap view point front l place stand) (sym (append-nil put)) had
 
-  -- some bytes more of the record in work were given
-  given_further : (step : ℕ) (stand : SendState) (work : Work) → work.payload ≡ stand.work.payload → work.given ≡ stand.work.given + step → HasPut has snap view point front put place stand
-      → HasPut has snap view point front put (place + step) (record stand { work = work })
-  given_further step stand work same moved had = record {
+  -- some bytes more of the pending record were given
+  given_further : (step : ℕ) (stand : SendState) (pending : PendingRecord) → pending.payload ≡ stand.pending.payload → pending.given ≡ stand.pending.given + step → HasPut has snap view point front put place stand
+      → HasPut has snap view point front put (place + step) (record stand { pending = pending })
+  given_further step stand pending same moved had = record {
     later = had.later;
     are = had.are;
     are_left = had.are_left;
-    in_work = subst (λ (p : Payload). IsInWork put stand.ended p) (sym same) had.in_work;
-    place_is = (let size : payload_size work.payload ≡ payload_size stand.work.payload = ap payload_size same in let is = had.place_is in omega (arith, size, is, moved));
+    of_last = subst (λ (p : Payload). IsOfLast put stand.ended p) (sym same) had.of_last;
+    place_is = (let size : payload_size pending.payload ≡ payload_size stand.pending.payload = ap payload_size same in let is = had.place_is in omega (arith, size, is, moved));
   }
 
 -- a step that leaves the send as it is
 pub puts_none : (has : Blocks) (snap : DatedState) (view : View) (tight : Type 0) (point : Point) (front : ℕ) (put : List Item) (place : ℕ) (stand : SendState) (holds : Option Ptr) (calls : ℕ) → HasPut has snap view point front put place stand
     → Puts has snap view tight point front put place stand stand holds holds calls calls
 puts_none has snap view tight point front put place stand holds calls had =
-    record { next = None; now = put_none has snap view point front put place stand had; begins = tt; room = inl (refl, refl, refl); few = λ is. omega arith }
+    record { next = None; now = put_none has snap view point front put place stand had; begins = tt; buffer = inl (refl, refl, refl); few = λ is. omega arith }
 
 -- ---- what a take puts
 
--- so it is up to here: no block was read and nothing was put, or the room has the block of the record in work
+-- so it is up to here: no block was read and nothing was put, or the buffer has the block of the pending record
 pub record Paid (has : Blocks) (snap : DatedState) (view : View) (tight : Type 0) (point : Point) (front : ℕ) (put : List Item) (place count : ℕ) (old new : SendState) (holds : Option Ptr) (before after : ℕ) : Type 0 where
   pub on : PutsIn has snap view tight point front put place count old new before after
-  pub room : ((on.again ≡ 0) × (on.more ≡ [])) ⊎ IsHeld holds new.work.payload
+  pub buffer : ((on.again ≡ 0) × (on.more ≡ [])) ⊎ IsHeld holds new.pending.payload
 
 -- nothing was put, for no calls
 pub paid_none : (has : Blocks) (snap : DatedState) (view : View) (tight : Type 0) (point : Point) (front : ℕ) (put : List Item) (place : ℕ) (stand : SendState) (holds : Option Ptr) (calls : ℕ) → HasPut has snap view point front put place stand
@@ -143,7 +143,7 @@ paid_none has snap view tight point front put place stand holds calls had = reco
     given = omega arith;
     few = λ is. omega arith;
   };
-  room = inl (refl, refl);
+  buffer = inl (refl, refl);
 }
 
 module _ (snap : DatedState) (view : View) (point : Point) (front place count step : ℕ) where
@@ -164,12 +164,12 @@ module _ (snap : DatedState) (view : View) (point : Point) (front place count st
       (touched_next snap place count (count + step) front (put ++ more) item later begins (omega (arith, some))) in
       omega (arith, joins, further, given)
 
-  -- the record in work has bytes of what is given, and pays its block
-  block_given : (put later : List Item) (ended : Bool) (payload : Payload) (given : ℕ) → 0 < step → items view point ≡ put ++ later → IsInWork put ended payload
+  -- the pending record has bytes of what is given, and pays its block
+  block_given : (put later : List Item) (ended : Bool) (payload : Payload) (given : ℕ) → 0 < step → items view point ≡ put ++ later → IsOfLast put ended payload
       → place + count + record_len + payload_size payload ≡ front + sizes_of put + end_size ended + given → given < record_len + payload_size payload
       → blocks_behind payload ≤ calls_for snap (bytes (count + step))
-  block_given put later ended payloads.Nothing given some are in_work is left = omega arith
-  block_given put later ended (payloads.Bonus field size) given some are in_work is left = omega arith
+  block_given put later ended payloads.Nothing given some are of_last is left = omega arith
+  block_given put later ended (payloads.Bonus field size) given some are of_last is left = omega arith
   block_given put later ended (payloads.Block ptr) given some are (first, last, put_is, of, open_still) is left =
       let none : end_size ended ≡ 0 = ap end_size open_still in
       let sizes : sizes_of put ≡ sizes_of first + (size_of last + 0) = ap sizes_of put_is ∙ sizes_join first (last ∷ []) in
@@ -180,22 +180,22 @@ module _ (snap : DatedState) (view : View) (point : Point) (front place count st
       (touched_there snap place (count + step) front first last later (omega (arith, some)) (omega (arith, some, none, sizes, size, is)) (omega (arith, none, sizes, size, is, left))) in
       omega (arith, paid, blocks)
 
--- a step, and then some bytes of the record in work, whose block the room has then or isn't read
-module _ (was has : Blocks) (snap : DatedState) (view : View) (tight still : Type 0) (point : Point) (front : ℕ) (put : List Item) (place count step : ℕ) (old at mid : SendState) (work : Work) (first next last : Option Ptr) (before between asked after : ℕ)
+-- a step, and then some bytes of the pending record, whose block the buffer has then or isn't read
+module _ (was has : Blocks) (snap : DatedState) (view : View) (tight still : Type 0) (point : Point) (front : ℕ) (put : List Item) (place count step : ℕ) (old at mid : SendState) (pending : PendingRecord) (first next last : Option Ptr) (before between asked after : ℕ)
     (keeps : tight → still) (paid : Paid was snap view tight point front put place count old at first before between) (puts : Puts has snap view still point front (put ++ paid.on.more) (place + count) at mid first next between asked)
-    (same : work.payload ≡ mid.work.payload) (moved : work.given ≡ mid.work.given + step) (some : 0 < step) (left : mid.work.given < record_len + payload_size mid.work.payload) where
+    (same : pending.payload ≡ mid.pending.payload) (moved : pending.given ≡ mid.pending.given + step) (some : 0 < step) (left : mid.pending.given < record_len + payload_size mid.pending.payload) where
   abbrev more : List Item
   more = paid.on.more ++ listed puts.next
 
-  now : HasPut has snap view point front (put ++ more) (place + (count + step)) (record mid { work = work })
+  now : HasPut has snap view point front (put ++ more) (place + (count + step)) (record mid { pending = pending })
   now =
-      subst (λ (p : ℕ). HasPut has snap view point front (put ++ more) p (record mid { work = work })) (omega arith)
-      (subst (λ (l : List Item). HasPut has snap view point front l (place + count + step) (record mid { work = work })) (append_assoc put paid.on.more (listed puts.next))
-      (given_further has snap view point front ((put ++ paid.on.more) ++ listed puts.next) (place + count) step mid work same moved puts.now))
+      subst (λ (p : ℕ). HasPut has snap view point front (put ++ more) p (record mid { pending = pending })) (omega arith)
+      (subst (λ (l : List Item). HasPut has snap view point front l (place + count + step) (record mid { pending = pending })) (append_assoc put paid.on.more (listed puts.next))
+      (given_further has snap view point front ((put ++ paid.on.more) ++ listed puts.next) (place + count) step mid pending same moved puts.now))
 
   -- no block is read for the bytes
-  quiet : after ≤ asked → ((paid.on.again ≡ 0) × (more ≡ [])) ⊎ IsHeld last work.payload → Paid has snap view tight point front put place (count + step) old (record mid { work = work }) last before after
-  quiet less room = record {
+  quiet : after ≤ asked → ((paid.on.again ≡ 0) × (more ≡ [])) ⊎ IsHeld last pending.payload → Paid has snap view tight point front put place (count + step) old (record mid { pending = pending }) last before after
+  quiet less buffer = record {
     on = record {
       more = more;
       now = now;
@@ -208,20 +208,20 @@ module _ (was has : Blocks) (snap : DatedState) (view : View) (tight still : Typ
           let joins = calls_join snap paid.on.more (listed puts.next) in
           omega (arith, one, other, joins, less);
     };
-    room = room;
+    buffer = buffer;
   }
 
-  -- the block of the record that was in work before is read
-  loud : after ≤ asked + blocks_behind mid.work.payload → paid.on.again ≡ 0 → more ≡ [] → IsHeld last work.payload → Paid has snap view tight point front put place (count + step) old (record mid { work = work }) last before after
+  -- the block of the record that was pending before is read
+  loud : after ≤ asked + blocks_behind mid.pending.payload → paid.on.again ≡ 0 → more ≡ [] → IsHeld last pending.payload → Paid has snap view tight point front put place (count + step) old (record mid { pending = pending }) last before after
   loud most none nothing held = record {
     on = record {
       more = more;
       now = now;
-      again = blocks_behind mid.work.payload;
-      once = at_most_one mid.work.payload;
+      again = blocks_behind mid.pending.payload;
+      once = at_most_one mid.pending.payload;
       given =
           let free : calls_for snap more ≡ 0 = ap (calls_for snap) nothing in
-          let given = block_given snap view point front place count step ((put ++ paid.on.more) ++ listed puts.next) puts.now.later mid.ended mid.work.payload mid.work.given some puts.now.are puts.now.in_work puts.now.place_is left in
+          let given = block_given snap view point front place count step ((put ++ paid.on.more) ++ listed puts.next) puts.now.later mid.ended mid.pending.payload mid.pending.given some puts.now.are puts.now.of_last puts.now.place_is left in
           omega (arith, free, given);
       few = λ is.
           let one = paid.on.few is in
@@ -229,23 +229,23 @@ module _ (was has : Blocks) (snap : DatedState) (view : View) (tight still : Typ
           let joins = calls_join snap paid.on.more (listed puts.next) in
           omega (arith, one, other, joins, most, none);
     };
-    room = inr held;
+    buffer = inr held;
   }
 
-  pub paid_on : after ≤ asked + blocks_behind mid.work.payload → (after ≤ asked) ⊎ IsHeld last mid.work.payload → (IsHeld next mid.work.payload → (after ≤ asked) × IsHeld last mid.work.payload)
-      → Paid has snap view tight point front put place (count + step) old (record mid { work = work }) last before after
-  paid_on most once stays = go paid.room puts.room once
+  pub paid_on : after ≤ asked + blocks_behind mid.pending.payload → (after ≤ asked) ⊎ IsHeld last mid.pending.payload → (IsHeld next mid.pending.payload → (after ≤ asked) × IsHeld last mid.pending.payload)
+      → Paid has snap view tight point front put place (count + step) old (record mid { pending = pending }) last before after
+  paid_on most once stays = go paid.buffer puts.buffer once
     where
-      here : IsHeld last mid.work.payload → IsHeld last work.payload
+      here : IsHeld last mid.pending.payload → IsHeld last pending.payload
       here held = subst (λ (p : Payload). IsHeld last p) (sym same) held
 
-      go : ((paid.on.again ≡ 0) × (paid.on.more ≡ [])) ⊎ IsHeld first at.work.payload → ((puts.next ≡ None) × (mid.work.payload ≡ at.work.payload) × (next ≡ first)) ⊎ IsHeld next mid.work.payload
-          → (after ≤ asked) ⊎ IsHeld last mid.work.payload → Paid has snap view tight point front put place (count + step) old (record mid { work = work }) last before after
-      go room (inr held) once = let kept = stays held in quiet kept.0 (inr (here kept.1))
+      go : ((paid.on.again ≡ 0) × (paid.on.more ≡ [])) ⊎ IsHeld first at.pending.payload → ((puts.next ≡ None) × (mid.pending.payload ≡ at.pending.payload) × (next ≡ first)) ⊎ IsHeld next mid.pending.payload
+          → (after ≤ asked) ⊎ IsHeld last mid.pending.payload → Paid has snap view tight point front put place (count + step) old (record mid { pending = pending }) last before after
+      go buffer (inr held) once = let kept = stays held in quiet kept.0 (inr (here kept.1))
       go (inl (none, nothing)) (inl (no_next, payload, holds)) (inl less) = quiet less (inl (none, ap (λ (l : List Item). l ++ listed puts.next) nothing ∙ ap listed no_next))
       go (inl (none, nothing)) (inl (no_next, payload, holds)) (inr held) = loud most none (ap (λ (l : List Item). l ++ listed puts.next) nothing ∙ ap listed no_next) (here held)
       go (inr held) (inl (no_next, payload, holds)) once =
-          let kept = stays (subst (λ (p : Payload). IsHeld next p) (sym payload) (subst (λ (h : Option Ptr). IsHeld h at.work.payload) (sym holds) held)) in
+          let kept = stays (subst (λ (p : Payload). IsHeld next p) (sym payload) (subst (λ (h : Option Ptr). IsHeld h at.pending.payload) (sym holds) held)) in
           quiet kept.0 (inr (here kept.1))
 
 -- ---- a take

@@ -15,10 +15,10 @@ use Rattle.zst_laws.specs.JoinedRuns.{HeldGoesOn}
 use Rattle.zst_objset.specs.Dnodes.{SpillIs}
 use Rattle.zst_tree.specs.Indices.{Blocks}
 use Rattle.zst_send.specs.DueItems.{AreBehind, AreDue, AreHeld, IsFirst, behind, head_in, is_run, joined_due, longest_payload, opened}
-use Rattle.zst_send.specs.Places.{ComesFirst, Gives, GoesTo, IsPlaceOf, left_behind}
+use Rattle.zst_send.specs.WalkPositions.{ComesFirst, Gives, GoesTo, IsPositionOf, left_behind}
 use Rattle.zst_send.specs.declared.due_items.DueItems.{DueItems}
 use Rattle.zst_send.specs.declared.due_items.DueItems.TheVariants as dues
-use Rattle.zst_send.specs.declared.place.Place.{Place}
+use Rattle.zst_send.specs.declared.walk_position.WalkPosition.{WalkPosition}
 
 -- ---- items that stand alone
 
@@ -81,14 +81,14 @@ module _ (has : Blocks) where
   behind_held (dues.Block k type offset ptr) items is = is
 
   -- what is no run is given, and what is behind it is held
-  pub gives_alone : (snap : DatedState) (view : View) (left : List Item) (place : Place) (due : DueItems) → is_run due ≡ false
-      → ComesFirst has snap view left place (Some due) → Gives has snap view left (record { place = place; held = behind due }) (Some due)
-  gives_alone snap view left place due e (items, are, left_is, of) = (
+  pub gives_alone : (snap : DatedState) (view : View) (left : List Item) (position : WalkPosition) (due : DueItems) → is_run due ≡ false
+      → ComesFirst has snap view left position (Some due) → Gives has snap view left (record { position = position; held = behind due }) (Some due)
+  gives_alone snap view left position due e (items, are, left_is, of) = (
     are.first,
     are.later,
     are.is_first,
-    record { held_are = behind_held due are.later are.are_behind; place_is = of },
-    left_is ∙ ap (λ (l : List Item). joined (l ++ left_behind view place)) are.are ∙ alone_before are.first (due_alone due are.first e are.is_first) (joined (are.later ++ left_behind view place)),
+    record { held_are = behind_held due are.later are.are_behind; position_is = of },
+    left_is ∙ ap (λ (l : List Item). joined (l ++ left_behind view position)) are.are ∙ alone_before are.first (due_alone due are.first e are.is_first) (joined (are.later ++ left_behind view position)),
   )
 
   -- ---- runs
@@ -169,18 +169,18 @@ module _ (has : Blocks) where
   joined_single run (dues.Redacted k offset count) both items e is = is
   joined_single run (dues.Block k type offset ptr) both items e is = is
 
-  -- a run comes first of what is left, and then what was found behind it; where nothing was found, nothing is left behind the place
-  pub record RunComes (snap : DatedState) (view : View) (left : List Item) (place : Place) (run : DueItems) (next : Option DueItems) : Type 0 where
+  -- a run comes first of what is left, and then what was found behind it; where nothing was found, nothing is left behind the position
+  pub record RunComes (snap : DatedState) (view : View) (left : List Item) (position : WalkPosition) (run : DueItems) (next : Option DueItems) : Type 0 where
     pub first : Item
     pub is_first : IsFirst has run first
     pub held : List Item
     pub held_are : AreHeld has next held
-    pub left_is : left ≡ joined (first ∷ (held ++ left_behind view place))
-    pub ends : next ≡ None → left_behind view place ≡ []
-    pub of : IsPlaceOf snap place
+    pub left_is : left ≡ joined (first ∷ (held ++ left_behind view position))
+    pub ends : next ≡ None → left_behind view position ≡ []
+    pub of : IsPositionOf snap position
 
   -- what is found behind a run comes after it
-  pub run_found : (snap : DatedState) (view : View) (left : List Item) (old new : Place) (run : DueItems) (next : Option DueItems) (first : Item)
+  pub run_found : (snap : DatedState) (view : View) (left : List Item) (old new : WalkPosition) (run : DueItems) (next : Option DueItems) (first : Item)
       → IsFirst has run first → left ≡ joined (first ∷ left_behind view old) → GoesTo has snap view old new next → RunComes snap view left new run next
   run_found snap view left old new run None first is left_is (none, behind, of) = record {
     first = first;
@@ -211,14 +211,14 @@ module _ (has : Blocks) where
   run_single (dues.Redacted k offset count) items e are = are.are_behind
   run_single (dues.Block k type offset ptr) items e are = absurd (true≢false (sym e))
 
-  pub run_begins : (snap : DatedState) (view : View) (left : List Item) (old new : Place) (run : DueItems) (next : Option DueItems) → is_run run ≡ true
+  pub run_begins : (snap : DatedState) (view : View) (left : List Item) (old new : WalkPosition) (run : DueItems) (next : Option DueItems) → is_run run ≡ true
       → ComesFirst has snap view left old (Some run) → GoesTo has snap view old new next → RunComes snap view left new run next
   run_begins snap view left old new run next e (items, are, left_is, of) goes =
       run_found snap view left old new run next are.first are.is_first
       (left_is ∙ ap (λ (l : List Item). joined (l ++ left_behind view old)) (are.are ∙ ap (λ (l : List Item). are.first ∷ l) (run_single run items e are))) goes
 
   -- what touches a run goes into it, and what is found behind both comes next
-  pub run_grows : HeldGoesOn → (snap : DatedState) (view : View) (left : List Item) (old new : Place) (run due both : DueItems) (next : Option DueItems) → is_run run ≡ true
+  pub run_grows : HeldGoesOn → (snap : DatedState) (view : View) (left : List Item) (old new : WalkPosition) (run due both : DueItems) (next : Option DueItems) → is_run run ≡ true
       → joined_due run (Some due) ≡ Some both → RunComes snap view left old run (Some due) → GoesTo has snap view old new next → RunComes snap view left new both next
   run_grows goes_on snap view left old new run due both next e joins comes goes =
       let are = comes.held_are in
@@ -234,24 +234,24 @@ module _ (has : Blocks) where
           run_found snap view left old new both next item is (left_is ∙ (goes_on comes.first comes.held_are.first (left_behind view old)).0 item same) goes
 
   -- what doesn't touch a run leaves it as it is: it is given, and the other is held
-  pub run_ends : HeldGoesOn → (snap : DatedState) (view : View) (left : List Item) (place : Place) (run : DueItems) (next : Option DueItems) → is_run run ≡ true
-      → joined_due run next ≡ None → RunComes snap view left place run next → Gives has snap view left (record { place = place; held = next }) (Some run)
-  run_ends goes_on snap view left place run None e joins comes = (
+  pub run_ends : HeldGoesOn → (snap : DatedState) (view : View) (left : List Item) (position : WalkPosition) (run : DueItems) (next : Option DueItems) → is_run run ≡ true
+      → joined_due run next ≡ None → RunComes snap view left position run next → Gives has snap view left (record { position = position; held = next }) (Some run)
+  run_ends goes_on snap view left position run None e joins comes = (
     comes.first,
     comes.held,
     comes.is_first,
-    record { held_are = comes.held_are; place_is = comes.of },
-    (let empty : comes.held ++ left_behind view place ≡ [] = ap (λ (l : List Item). l ++ left_behind view place) comes.held_are ∙ comes.ends refl in
+    record { held_are = comes.held_are; position_is = comes.of },
+    (let empty : comes.held ++ left_behind view position ≡ [] = ap (λ (l : List Item). l ++ left_behind view position) comes.held_are ∙ comes.ends refl in
         comes.left_is ∙ ap (λ (l : List Item). joined (comes.first ∷ l)) empty ∙ ap (λ (l : List Item). comes.first ∷ joined l) (sym empty)),
   )
-  run_ends goes_on snap view left place run (Some due) e joins comes = (
+  run_ends goes_on snap view left position run (Some due) e joins comes = (
     comes.first,
     comes.held,
     comes.is_first,
-    record { held_are = comes.held_are; place_is = comes.of },
-    comes.left_is ∙ ap (λ (l : List Item). joined (comes.first ∷ (l ++ left_behind view place))) comes.held_are.are
-        ∙ (goes_on comes.first comes.held_are.first (comes.held_are.later ++ left_behind view place)).1 (go (join comes.first comes.held_are.first) refl (subst (λ (d : Option DueItems). JoinIs d (join comes.first comes.held_are.first)) joins (items_join run due comes.first comes.held_are.first e comes.is_first comes.held_are.is_first)))
-        ∙ ap (λ (l : List Item). comes.first ∷ joined (l ++ left_behind view place)) (sym comes.held_are.are),
+    record { held_are = comes.held_are; position_is = comes.of },
+    comes.left_is ∙ ap (λ (l : List Item). joined (comes.first ∷ (l ++ left_behind view position))) comes.held_are.are
+        ∙ (goes_on comes.first comes.held_are.first (comes.held_are.later ++ left_behind view position)).1 (go (join comes.first comes.held_are.first) refl (subst (λ (d : Option DueItems). JoinIs d (join comes.first comes.held_are.first)) joins (items_join run due comes.first comes.held_are.first e comes.is_first comes.held_are.is_first)))
+        ∙ ap (λ (l : List Item). comes.first ∷ joined (l ++ left_behind view position)) (sym comes.held_are.are),
   )
     where
       go : (item : Option Item) → join comes.first comes.held_are.first ≡ item → JoinIs None item → join comes.first comes.held_are.first ≡ None
@@ -268,7 +268,7 @@ module _ (has : Blocks) where
   joins_something (dues.Block k type offset ptr) = refl
 
   -- so it is with whatever was found
-  pub run_goes_on : HeldGoesOn → (snap : DatedState) (view : View) (left : List Item) (old new : Place) (run both : DueItems) (found next : Option DueItems) → is_run run ≡ true
+  pub run_goes_on : HeldGoesOn → (snap : DatedState) (view : View) (left : List Item) (old new : WalkPosition) (run both : DueItems) (found next : Option DueItems) → is_run run ≡ true
       → joined_due run found ≡ Some both → RunComes snap view left old run found → GoesTo has snap view old new next → RunComes snap view left new both next
   run_goes_on goes_on snap view left old new run both None next e joins comes goes = let none : joined_due run None ≡ None = joins_something run in absurd (cc)
   run_goes_on goes_on snap view left old new run both (Some due) next e joins comes goes = run_grows goes_on snap view left old new run due both next e joins comes goes

@@ -10,14 +10,14 @@ use Rattle.zst_tree.specs.Indices.{Blocks}
 use Rattle.zst_send.specs.DueItems.{AreBehind, AreHeld, IsFirst}
 use Rattle.zst_send.specs.Records.{AreLeft, HasPut}
 use Rattle.zst_send.specs.SendState.{IsRest, StandsAt}
-use Rattle.zst_send.specs.Work.{HasBlock, IsPayload, IsWork}
+use Rattle.zst_send.specs.PendingRecords.{HasBlock, IsPayload, IsPending}
 use Rattle.zst_send.specs.declared.due_items.DueItems.{DueItems}
 use Rattle.zst_send.specs.declared.due_items.DueItems.TheVariants.{Absent, Object, Spill, Tail, Holes, Redacted, Block}
 use Rattle.zst_send.specs.declared.send_state.SendState.{SendState}
 use Rattle.zst_send.specs.declared.walk.Walk.{Walk}
-use Rattle.zst_send.specs.declared.work.Payload.{Payload}
-use Rattle.zst_send.specs.declared.work.Payload.TheVariants as payloads
-use Rattle.zst_send.specs.declared.work.Work.{Work}
+use Rattle.zst_send.specs.declared.pending_record.Payload.{Payload}
+use Rattle.zst_send.specs.declared.pending_record.Payload.TheVariants as payloads
+use Rattle.zst_send.specs.declared.pending_record.PendingRecord.{PendingRecord}
 
 module _ (old new : Blocks) (keeps : (ptr : Ptr) (bytes : List ℕ) → old ptr bytes → new ptr bytes) where
   pub block_stays : (bytes : List ℕ) (holds : Option Ptr) → HasBlock old bytes holds → HasBlock new bytes holds
@@ -29,8 +29,8 @@ module _ (old new : Blocks) (keeps : (ptr : Ptr) (bytes : List ℕ) → old ptr 
   payload_stays (payloads.Bonus field count) bytes is = is
   payload_stays (payloads.Block ptr) bytes is = (keeps ptr bytes is.0, is.1)
 
-  work_stays : (work : Work) (left : List ℕ) → IsWork old work left → IsWork new work left
-  work_stays work left is = record { payload = is.payload; payload_is = payload_stays work.payload is.payload is.payload_is; left_are = is.left_are }
+  pending_stays : (pending : PendingRecord) (left : List ℕ) → IsPending old pending left → IsPending new pending left
+  pending_stays pending left is = record { payload = is.payload; payload_is = payload_stays pending.payload is.payload is.payload_is; left_are = is.left_are }
 
   first_stays : (due : DueItems) (item : Item) → IsFirst old due item → IsFirst new due item
   first_stays (Absent first count) item is = is
@@ -68,14 +68,14 @@ module _ (old new : Blocks) (keeps : (ptr : Ptr) (bytes : List ℕ) → old ptr 
     rest_stays : (text : List ℕ) (walk : Walk) (ended : Bool) (rest : List ℕ) → IsRest old snap view to text walk ended rest → IsRest new snap view to text walk ended rest
     rest_stays text walk true rest is = is
     rest_stays text walk false rest is =
-        (is.0, record { held_are = held_stay walk.held is.0 is.1.held_are; place_is = is.1.place_is }, is.2)
+        (is.0, record { held_are = held_stay walk.held is.0 is.1.held_are; position_is = is.1.position_is }, is.2)
 
     pub stand_stays : (stand : SendState) (left : List ℕ) → StandsAt old snap view to stand left → StandsAt new snap view to stand left
     stand_stays stand left at = record {
       text = at.text;
       written = at.written;
-      pending = at.pending;
-      work = work_stays stand.work at.pending at.work;
+      first = at.first;
+      pending = pending_stays stand.pending at.first at.pending;
       rest = at.rest;
       is_rest = rest_stays at.text stand.walk stand.ended at.rest at.is_rest;
       are = at.are;
@@ -84,8 +84,8 @@ module _ (old new : Blocks) (keeps : (ptr : Ptr) (bytes : List ℕ) → old ptr 
   -- so does what it has put
   left_stay : (snap : DatedState) (view : View) (walk : Walk) (ended : Bool) (items : List Item) → AreLeft old snap view walk ended items → AreLeft new snap view walk ended items
   left_stay snap view walk true items are = are
-  left_stay snap view walk false items are = (are.0, record { held_are = held_stay walk.held are.0 are.1.held_are; place_is = are.1.place_is }, are.2)
+  left_stay snap view walk false items are = (are.0, record { held_are = held_stay walk.held are.0 are.1.held_are; position_is = are.1.position_is }, are.2)
 
   pub put_stays : (snap : DatedState) (view : View) (point : Point) (front : ℕ) (put : List Item) (place : ℕ) (stand : SendState) → HasPut old snap view point front put place stand → HasPut new snap view point front put place stand
   put_stays snap view point front put place stand had =
-      record { later = had.later; are = had.are; are_left = left_stay snap view stand.walk stand.ended had.later had.are_left; in_work = had.in_work; place_is = had.place_is }
+      record { later = had.later; are = had.are; are_left = left_stay snap view stand.walk stand.ended had.later had.are_left; of_last = had.of_last; place_is = had.place_is }

@@ -20,11 +20,11 @@ use Rattle.zst_tree.specs.declared.tree.ObjSet.{ObjSet}
 use Rattle.zst_send.specs.Damage.{IsDamagedDue, IsDamagedLoad, IsDamagedPayload, IsDamagedRead, IsDamagedSend}
 use Rattle.zst_send.specs.DueItems.{behind, due_of, is_run}
 use Rattle.zst_send.specs.KnownPointers.{DueStands, IsAmong, IsSpillOf, PayloadStands}
-use Rattle.zst_send.specs.Work.{HasBlockOf}
+use Rattle.zst_send.specs.PendingRecords.{HasBlockOf}
 use Rattle.zst_send.specs.declared.due_items.DueItems.{DueItems}
 use Rattle.zst_send.specs.declared.due_items.DueItems.TheVariants.{Absent, Object, Spill, Tail, Holes, Redacted, Block}
-use Rattle.zst_send.specs.declared.work.Payload.{Payload}
-use Rattle.zst_send.specs.declared.work.Payload.TheVariants as payloads
+use Rattle.zst_send.specs.declared.pending_record.Payload.{Payload}
+use Rattle.zst_send.specs.declared.pending_record.Payload.TheVariants as payloads
 use Rattle.zst_send.proofs.BlockDamage.{told_for}
 use Rattle.zst_send.proofs.Sizes.{size_most}
 

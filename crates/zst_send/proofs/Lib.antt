@@ -1,5 +1,7 @@
 mod LookCosts
+mod NextRecords
 mod BlockDamage
+mod BufferReads
 mod GivenRecords
 mod RecordPieces
 mod ItemRuns

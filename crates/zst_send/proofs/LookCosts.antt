@@ -15,10 +15,10 @@ use Rattle.zst_traverse.specs.declared.walk_entry.WalkEntry.TheVariants as found
 use Rattle.zst_tree.specs.Indices.{Blocks}
 use Rattle.zst_send.specs.Costs.{cells_due, cells_next, ended, looks_ahead}
 use Rattle.zst_send.specs.DueItems.{behind, due_of, due_pairs, is_run, joined_due}
-use Rattle.zst_send.specs.Places.{IsPlaceOf, place_after}
+use Rattle.zst_send.specs.WalkPositions.{IsPositionOf, position_after}
 use Rattle.zst_send.specs.declared.due_items.DueItems.{DueItems}
 use Rattle.zst_send.specs.declared.due_items.DueItems.TheVariants as dues
-use Rattle.zst_send.specs.declared.place.Place.{Place}
+use Rattle.zst_send.specs.declared.walk_position.WalkPosition.{WalkPosition}
 
 -- ---- what is found has a cell
 
@@ -29,14 +29,14 @@ pairs_count snap k first count type size cells.Hole ptr some is positive = subst
 pairs_count snap k first count type size cells.Redacted ptr some is positive = subst (λ (s : ℕ). 0 < count * size / s) (sym is) (subst (λ (n : ℕ). 0 < n) (sym (mul-div_cancel count some)) positive)
 pairs_count snap k first count type size cells.Data ptr some is positive = omega arith
 
-pub found_counts : (has : Blocks) (snap : DatedState) (choice : Choice) (place : Place) (next : WalkEntry) → 0 < place.block_size → IsPlaceOf snap place
-    → IsNextCell has snap choice place.point place.slot (Some next) → 0 < cells_due snap (due_of next (place_after place next).type_ (place_after place next).block_size)
-found_counts has snap choice place (found.Object k dnode) some of next = omega arith
-found_counts has snap choice place (found.Gone first count) some of next = next.1.some
-found_counts has snap choice place (found.Pairs k first count what ptr) some of next =
+pub found_counts : (has : Blocks) (snap : DatedState) (choice : Choice) (position : WalkPosition) (next : WalkEntry) → 0 < position.block_size → IsPositionOf snap position
+    → IsNextCell has snap choice position.point position.slot (Some next) → 0 < cells_due snap (due_of next (position_after position next).type_ (position_after position next).block_size)
+found_counts has snap choice position (found.Object k dnode) some of next = omega arith
+found_counts has snap choice position (found.Gone first count) some of next = next.1.some
+found_counts has snap choice position (found.Pairs k first count what ptr) some of next =
     let passed = of next.0 in
-    let size : size_at (snap.state k) ≡ place.block_size = ap (λ (j : ℕ). size_at (snap.state j)) next.1 ∙ ap size_at passed.there ∙ sym passed.size_is in
-    pairs_count snap k first count place.type_ place.block_size what ptr some size next.2.some
+    let size : size_at (snap.state k) ≡ position.block_size = ap (λ (j : ℕ). size_at (snap.state j)) next.1 ∙ ap size_at passed.there ∙ sym passed.size_is in
+    pairs_count snap k first count position.type_ position.block_size what ptr some size next.2.some
 
 -- ---- a run has the cells of its parts
 
@@ -108,10 +108,10 @@ module _ (snap : DatedState) where
   -- ---- what is found and not given yet is a look ahead
 
   -- a look is paid by what it found, or by the end
-  pub look_ahead : (place : Place) (next : Option DueItems) → (next ≡ None → ended place ≡ 1) → IfSome next (λ due. 0 < cells_due snap due)
-      → 1 ≤ looks_ahead snap (record { place = place; held = next })
-  look_ahead place None ends some = let e = ends refl in omega (arith, e)
-  look_ahead place (Some due) ends some = omega (arith, some)
+  pub look_ahead : (position : WalkPosition) (next : Option DueItems) → (next ≡ None → ended position ≡ 1) → IfSome next (λ due. 0 < cells_due snap due)
+      → 1 ≤ looks_ahead snap (record { position = position; held = next })
+  look_ahead position None ends some = let e = ends refl in omega (arith, e)
+  look_ahead position (Some due) ends some = omega (arith, some)
 
   -- what is no run has the cell that its look found, and what is behind it none
   pub given_counts : (due : DueItems) → is_run due ≡ false → (min 1 (cells_due snap due) ≤ cells_due snap due) × (cells_next snap (behind due) ≡ 0)

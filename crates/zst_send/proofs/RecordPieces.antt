@@ -8,10 +8,10 @@ use Rattle.zst_stream.specs.Records.{piece_for}
 use Rattle.zst_tree.specs.Indices.{Blocks}
 use Rattle.zst_writer.specs.Writes.{HasWritten}
 use Rattle.zst_writer.specs.declared.writer.Writer.{Writer}
-use Rattle.zst_send.specs.Work.{IsPayload, IsPut}
-use Rattle.zst_send.specs.declared.work.Payload.{Payload}
-use Rattle.zst_send.specs.declared.work.Payload.TheVariants.{Nothing}
-use Rattle.zst_send.specs.declared.work.Work.{Work}
+use Rattle.zst_send.specs.PendingRecords.{IsPayload, IsPut}
+use Rattle.zst_send.specs.declared.pending_record.Payload.{Payload}
+use Rattle.zst_send.specs.declared.pending_record.Payload.TheVariants.{Nothing}
+use Rattle.zst_send.specs.declared.pending_record.PendingRecord.{PendingRecord}
 
 -- bytes that are left behind some were copied from the text of which they are left
 pub record AreCopied (into left : List ℕ) (count : ℕ) : Type 0 where
@@ -42,13 +42,13 @@ payload_given head payload into left given from count room given_is left_is coun
     record { same = copied ∙ sym (ap (take count) rest); less = omega (arith, whole, count_is) }
 
 -- the record of an item that nothing follows
-pub lone_put : (has : Blocks) (to : ℕ) (text : List ℕ) (item found : Item) (writer : Writer) (work : Work) → item ≡ found
-    → HasWritten writer (text ++ piece_after text (piece_for to found)) × (work.head ≡ piece_after text (piece_for to found)) → work.payload ≡ Nothing → work.given ≡ 0 → IsPut has to text item writer work
-lone_put has to text item found writer work same put nothing given = subst (λ (i : Item). IsPut has to text i writer work) (sym same) (record {
+pub lone_put : (has : Blocks) (to : ℕ) (text : List ℕ) (item found : Item) (writer : Writer) (pending : PendingRecord) → item ≡ found
+    → HasWritten writer (text ++ piece_after text (piece_for to found)) × (pending.head ≡ piece_after text (piece_for to found)) → pending.payload ≡ Nothing → pending.given ≡ 0 → IsPut has to text item writer pending
+lone_put has to text item found writer pending same put nothing given = subst (λ (i : Item). IsPut has to text i writer pending) (sym same) (record {
   written = put.0;
-  work_is = record {
+  pending_is = record {
     payload = [];
     payload_is = subst (λ (p : Payload). IsPayload has p []) (sym nothing) refl;
-    left_are = sym put.1 ∙ sym (append-nil work.head) ∙ ap (λ (n : ℕ). drop n (work.head ++ [])) (sym given);
+    left_are = sym put.1 ∙ sym (append-nil pending.head) ∙ ap (λ (n : ℕ). drop n (pending.head ++ [])) (sym given);
   };
 })

@@ -8,8 +8,8 @@ use Rattle.zst_model.specs.states.State.{BlockFits, Data, IsObject, IsObjectOrNo
 use Rattle.std.specs.Prelude.{IsTrue, List, length, Option, Some, None, IfSome}
 use Rattle.zst_model.proofs.Sizes.{block_size_over_none, spill_is_block}
 use Rattle.zst_model.specs.states.DatedState.{DatedState}
-use Rattle.zst_send.specs.Places.{PlaceFits}
-use Rattle.zst_send.specs.declared.place.Place.{Place}
+use Rattle.zst_send.specs.WalkPositions.{PositionFits}
+use Rattle.zst_send.specs.declared.walk_position.WalkPosition.{WalkPosition}
 
 -- a block size is at most that of the largest block
 pub size_most : (size : ℕ) → is_block_size size ≡ true → size ≤ 131072
@@ -18,9 +18,9 @@ size_most size e =
     let range = (and_parts (nat_le 512 size && nat_le size 131072) (size % 512 == 0) e).0 in
     leb-true size 131072 (and_parts (nat_le 512 size) (nat_le size 131072) range).1
 
--- the size of an object's blocks is one that a place may have
-pub size_fits : (place : Place) (dnode : Dnode) → DnodeFits dnode → place.block_size ≡ dnode.block_size → PlaceFits place
-size_fits place dnode fits same = record {
+-- the size of an object's blocks is one that a position may have
+pub size_fits : (position : WalkPosition) (dnode : Dnode) → DnodeFits dnode → position.block_size ≡ dnode.block_size → PositionFits position
+size_fits position dnode fits same = record {
   some = let over : 0 < dnode.block_size = block_size_over_none dnode.block_size fits.head.size in omega (arith, over, same);
   most = let most : dnode.block_size ≤ 131072 = size_most dnode.block_size fits.head.size in omega (arith, most, same);
 }

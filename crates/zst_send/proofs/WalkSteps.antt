@@ -24,10 +24,10 @@ use Rattle.zst_traverse.specs.declared.walk_entry.WalkEntry.{WalkEntry}
 use Rattle.zst_traverse.specs.declared.walk_entry.WalkEntry.TheVariants as found
 use Rattle.zst_tree.specs.Indices.{Blocks}
 use Rattle.zst_send.specs.DueItems.{AreBehind, AreDue, IsFirst, due_of, due_pairs}
-use Rattle.zst_send.specs.Places.{GoesTo, IsPlaceOf, place_after}
+use Rattle.zst_send.specs.WalkPositions.{GoesTo, IsPositionOf, position_after}
 use Rattle.zst_send.specs.declared.due_items.DueItems.{DueItems}
 use Rattle.zst_send.specs.declared.due_items.DueItems.TheVariants as dues
-use Rattle.zst_send.specs.declared.place.Place.{Place}
+use Rattle.zst_send.specs.declared.walk_position.WalkPosition.{WalkPosition}
 use Rattle.zst_send.proofs.Sizes.{data_most, object_lawful, spill_most}
 use Rattle.zst_send.proofs.WalkGaps.{counts_by_pair, is_counted, nothing_behind, nothing_below, number_there, shown_gone, shown_there, some_number}
 
@@ -77,34 +77,34 @@ module _ (has : Blocks) (header : Header) (snap : DatedState) (source : Option �
         );
       }
 
-  object_goes : WalkLaws → IsState snap.state → (place : Place) (k : ℕ) (dnode : Dnode) → NoneLeft snap (choice_after source) place.point place.slot
-      → IsNextObject has snap (choice_after source) (first_number place.point place.slot) k dnode
-      → GoesTo has snap view place (place_after place (found.Object k dnode)) (Some (dues.Object k dnode))
-  object_goes laws lawful place k dnode left next =
+  object_goes : WalkLaws → IsState snap.state → (position : WalkPosition) (k : ℕ) (dnode : Dnode) → NoneLeft snap (choice_after source) position.point position.slot
+      → IsNextObject has snap (choice_after source) (first_number position.point position.slot) k dnode
+      → GoesTo has snap view position (position_after position (found.Object k dnode)) (Some (dues.Object k dnode))
+  object_goes laws lawful position k dnode left next =
       let object = next.is.object in
       let shown = object_view snap (choice_after source) k object in
       let is = next.is.is in (
         map (At k) (opening shown),
         opening_due k dnode object (snap.number_date k) (snap.index_date k) next.is.map (object_lawful snap k object lawful next.is.there) is,
-        ap joined (laws.object view place.point place.slot k shown (is_counted snap source k next.included)
-            (nothing_below header snap source place.point place.slot k left next.none_before)
-            (from_point place.point place.slot k next.from_on) (past_slot place.point place.slot k next.from_on)
+        ap joined (laws.object view position.point position.slot k shown (is_counted snap source k next.included)
+            (nothing_below header snap source position.point position.slot k left next.none_before)
+            (from_point position.point position.slot k next.from_on) (past_slot position.point position.slot k next.from_on)
             (shown_there header snap source k object next.included next.is.there)),
         λ slot. record { object = object; there = next.is.there; type_is = is.type_is; size_is = is.size_is },
       )
 
   -- ---- numbers without objects
 
-  gone_goes : WalkLaws → (place : Place) (first count : ℕ) → NoneLeft snap (choice_after source) place.point place.slot
-      → IsNextGone snap (choice_after source) (first_number place.point place.slot) first count
-      → GoesTo has snap view place (place_after place (found.Gone first count)) (Some (dues.Absent first count))
-  gone_goes laws place first count left next =
+  gone_goes : WalkLaws → (position : WalkPosition) (first count : ℕ) → NoneLeft snap (choice_after source) position.point position.slot
+      → IsNextGone snap (choice_after source) (first_number position.point position.slot) first count
+      → GoesTo has snap view position (position_after position (found.Gone first count)) (Some (dues.Absent first count))
+  gone_goes laws position first count left next =
       let some : 0 < count = next.some in (
         FreeObjects first count ∷ [],
         record { first = FreeObjects first count; later = []; are = refl; is_first = refl; are_behind = refl },
-        laws.gone view place.point place.slot first count (some_number first (is_counted snap source first (next.included first (omega arith) (omega arith)))) some next.under
-            (nothing_below header snap source place.point place.slot first left next.none_before)
-            (from_point place.point place.slot first next.from_on) (past_slot place.point place.slot first next.from_on)
+        laws.gone view position.point position.slot first count (some_number first (is_counted snap source first (next.included first (omega arith) (omega arith)))) some next.under
+            (nothing_below header snap source position.point position.slot first left next.none_before)
+            (from_point position.point position.slot first next.from_on) (past_slot position.point position.slot first next.from_on)
             (λ j from below. shown_gone header snap source j (next.included j from below) (next.absent j from below)),
         λ slot. absurd (true≢false slot),
       )
@@ -166,36 +166,36 @@ module _ (has : Blocks) (header : Header) (snap : DatedState) (source : Option �
   one_there : (k : ℕ) (one other : Object) → snap.state k ≡ Some one → snap.state k ≡ Some other → one ≡ other
   one_there k one other a b = let same : Some one ≡ Some other = sym a ∙ b in cc
 
-  pairs_go : WalkLaws → IsState snap.state → (place : Place) (k first count : ℕ) (what : Cell) (ptr : Ptr) → 0 < place.block_size → IsPlaceOf snap place
-      → place.slot ≡ false → k ≡ place.point.object → IsNextPairs has snap (choice_after source) place.point first count what ptr
-      → GoesTo has snap view place (place_after place (found.Pairs k first count what ptr)) (Some (due_pairs k first count place.type_ place.block_size what ptr))
-  pairs_go laws lawful place k first count what ptr some of slot same next =
+  pairs_go : WalkLaws → IsState snap.state → (position : WalkPosition) (k first count : ℕ) (what : Cell) (ptr : Ptr) → 0 < position.block_size → IsPositionOf snap position
+      → position.slot ≡ false → k ≡ position.point.object → IsNextPairs has snap (choice_after source) position.point first count what ptr
+      → GoesTo has snap view position (position_after position (found.Pairs k first count what ptr)) (Some (due_pairs k first count position.type_ position.block_size what ptr))
+  pairs_go laws lawful position k first count what ptr some of slot same next =
       let passed = of slot in
-      let one : passed.object ≡ next.object = one_there place.point.object passed.object next.object passed.there next.there in
-      let due = pairs_due laws lawful place.point place.type_ place.block_size first count what ptr some next
+      let one : passed.object ≡ next.object = one_there position.point.object passed.object next.object passed.there next.there in
+      let due = pairs_due laws lawful position.point position.type_ position.block_size first count what ptr some next
       (passed.type_is ∙ ap (λ (o : Object). o.attr.type_) one) (passed.size_is ∙ ap (λ (o : Object). o.attr.block_size) one) in (
         due.0,
-        subst (λ (j : ℕ). AreDue has (due_pairs j first count place.type_ place.block_size what ptr) due.0) (sym same) due.1,
-        ap (λ (s : Bool). joined (walk_left view place.point s)) slot ∙ due.2
-            ∙ ap (λ (j : ℕ). joined (due.0 ++ walk_left view (record { object = j; offset = (first + count) * place.block_size }) false)) (sym same),
+        subst (λ (j : ℕ). AreDue has (due_pairs j first count position.type_ position.block_size what ptr) due.0) (sym same) due.1,
+        ap (λ (s : Bool). joined (walk_left view position.point s)) slot ∙ due.2
+            ∙ ap (λ (j : ℕ). joined (due.0 ++ walk_left view (record { object = j; offset = (first + count) * position.block_size }) false)) (sym same),
         λ passed_over. record { object = passed.object; there = ap snap.state same ∙ passed.there; type_is = passed.type_is; size_is = passed.size_is },
       )
 
   -- ---- what is found
 
-  -- what is found at a place comes first of what is left there
-  pub found_goes : WalkLaws → IsState snap.state → (place : Place) (next : WalkEntry) → 0 < place.block_size → IsPlaceOf snap place
-      → IsNextCell has snap (choice_after source) place.point place.slot (Some next)
-      → GoesTo has snap view place (place_after place next) (Some (due_of next (place_after place next).type_ (place_after place next).block_size))
-  found_goes laws lawful place (found.Object k dnode) some of next = object_goes laws lawful place k dnode next.0 next.1
-  found_goes laws lawful place (found.Gone first count) some of next = gone_goes laws place first count next.0 next.1
-  found_goes laws lawful place (found.Pairs k first count what ptr) some of next = pairs_go laws lawful place k first count what ptr some of next.0 next.1 next.2
+  -- what is found at a position comes first of what is left there
+  pub found_goes : WalkLaws → IsState snap.state → (position : WalkPosition) (next : WalkEntry) → 0 < position.block_size → IsPositionOf snap position
+      → IsNextCell has snap (choice_after source) position.point position.slot (Some next)
+      → GoesTo has snap view position (position_after position next) (Some (due_of next (position_after position next).type_ (position_after position next).block_size))
+  found_goes laws lawful position (found.Object k dnode) some of next = object_goes laws lawful position k dnode next.0 next.1
+  found_goes laws lawful position (found.Gone first count) some of next = gone_goes laws position first count next.0 next.1
+  found_goes laws lawful position (found.Pairs k first count what ptr) some of next = pairs_go laws lawful position k first count what ptr some of next.0 next.1 next.2
 
   -- where nothing is found, nothing is left there, and nothing behind all numbers
-  pub none_goes : WalkLaws → (place new : Place) → IsNextCell has snap (choice_after source) place.point place.slot None
-      → number_bound ≤ new.point.object → new.slot ≡ true → GoesTo has snap view place new None
-  none_goes laws place new next far slot = (
-    laws.ends view place.point place.slot (nothing_below header snap source place.point place.slot number_bound next.0 next.1),
+  pub none_goes : WalkLaws → (position new : WalkPosition) → IsNextCell has snap (choice_after source) position.point position.slot None
+      → number_bound ≤ new.point.object → new.slot ≡ true → GoesTo has snap view position new None
+  none_goes laws position new next far slot = (
+    laws.ends view position.point position.slot (nothing_below header snap source position.point position.slot number_bound next.0 next.1),
     nothing_behind header snap source laws.ends new.point new.slot far,
     λ passed_over. absurd (true≢false (sym slot ∙ passed_over)),
   )

@@ -1,5 +1,5 @@
 -- What a send costs in calls of the disk: looks for what comes next, and reads of blocks.
-use Rattle.std.specs.Prelude.{◌≡◌, ◌⊎◌, ℕ, ◌+◌, ◌*◌, ◌/◌, ◌≤◌, ◌&&◌, Bool, min, nat_le, if◌then◌else◌, List, [], ◌∷◌, ◌++◌, length, Option, Some, None, IfSome}
+use Rattle.std.specs.Prelude.{◌≡◌, ◌⊎◌, ℕ, ◌+◌, ◌*◌, ◌/◌, ◌≤◌, ◌&&◌, Bool, min, nat_le, if◌then◌else◌, List, [], ◌∷◌, ◌++◌, length, Option, Some, None, IfSome, Result, IfOk}
 use Rattle.zst_block.specs.declared.ptr.Ptr.{Ptr}
 use Rattle.zst_model.specs.declared.states.item.Change.TheVariants as changes
 use Rattle.zst_model.specs.declared.states.item.Item.{Item}
@@ -10,6 +10,7 @@ use Rattle.zst_model.specs.sends.Items.{items}
 use Rattle.zst_model.specs.sends.View.{View}
 use Rattle.zst_model.specs.states.DatedState.{DatedState, size_at}
 use Rattle.zst_model.specs.states.State.{number_bound}
+use Rattle.zst_pool.specs.declared.fault.PoolFault.{PoolFault}
 use Rattle.zst_record.specs.Payload.{stated_point}
 use Rattle.zst_stream.specs.Image.{front_of}
 use Rattle.zst_tree.specs.Indices.{Blocks}
@@ -17,12 +18,12 @@ use Rattle.zst_send.specs.Records.{AreLeft, HasPut, reads_of, sizes_of, touched}
 use Rattle.zst_send.specs.Sends.{begun, begun_view}
 use Rattle.zst_send.specs.declared.due_items.DueItems.{DueItems}
 use Rattle.zst_send.specs.declared.due_items.DueItems.TheVariants.{Absent, Object, Spill, Tail, Holes, Redacted, Block}
-use Rattle.zst_send.specs.declared.place.Place.{Place}
+use Rattle.zst_send.specs.declared.walk_position.WalkPosition.{WalkPosition}
 use Rattle.zst_send.specs.declared.send.Send.{Send}
 use Rattle.zst_send.specs.declared.send_state.SendState.{SendState}
 use Rattle.zst_send.specs.declared.walk.Walk.{Walk}
-use Rattle.zst_send.specs.declared.work.Payload.{Payload}
-use Rattle.zst_send.specs.declared.work.Payload.TheVariants as payloads
+use Rattle.zst_send.specs.declared.pending_record.Payload.{Payload}
+use Rattle.zst_send.specs.declared.pending_record.Payload.TheVariants as payloads
 
 -- ---- looks
 
@@ -41,17 +42,17 @@ abbrev pub cells_next : DatedState → Option DueItems → ℕ
 cells_next snap None = 0
 cells_next snap (Some due) = cells_due snap due
 
--- a place is behind all numbers: a look from there reads nothing
-abbrev pub is_ended : Place → Bool
-is_ended place = place.slot && nat_le number_bound place.point.object
+-- a position is behind all numbers: a look from there reads nothing
+abbrev pub is_ended : WalkPosition → Bool
+is_ended position = position.slot && nat_le number_bound position.point.object
 
 -- 1 where it is, since the look that found the end isn't made again
-abbrev pub ended : Place → ℕ
-ended place = if is_ended place then 1 else 0
+abbrev pub ended : WalkPosition → ℕ
+ended position = if is_ended position then 1 else 0
 
 -- so many looks a walk has made for what it hasn't given: one for what it holds, and one for the end
 abbrev pub looks_ahead : DatedState → Walk → ℕ
-looks_ahead snap walk = min 1 (cells_next snap walk.held) + ended walk.place
+looks_ahead snap walk = min 1 (cells_next snap walk.held) + ended walk.position
 
 -- ---- reads
 
@@ -65,7 +66,7 @@ reads_due (Holes k offset length) = 0
 reads_due (Redacted k offset length) = 0
 reads_due (Block k type offset ptr) = 1
 
--- the room holds the block that follows a record, where one does
+-- the buffer holds the block that follows a record, where one does
 abbrev pub IsHeld : Option Ptr → Payload → Type 0
 IsHeld holds payloads.Nothing = Unit {0}
 IsHeld holds (payloads.Bonus field count) = Unit {0}
@@ -116,15 +117,15 @@ abbrev pub listed : Option Item → List Item
 listed None = []
 listed (Some item) = item ∷ []
 
--- a step puts the next item, whose block the room has then, or END, or nothing, for no more calls than the item and the looks take that the walk is further ahead, where the set is tight
+-- a step puts the next item, whose block the buffer has then, or END, or nothing, for no more calls than the item and the looks take that the walk is further ahead, where the set is tight
 pub record Puts (has : Blocks) (snap : DatedState) (view : View) (tight : Type 0) (point : Point) (front : ℕ) (put : List Item) (place : ℕ) (old new : SendState) (was holds : Option Ptr) (before after : ℕ) : Type 0 where
   pub next : Option Item
   pub now : HasPut has snap view point front (put ++ listed next) place new
   pub begins : IfSome next (λ item. place ≡ front + sizes_of put)
-  pub room : ((next ≡ None) × (new.work.payload ≡ old.work.payload) × (holds ≡ was)) ⊎ IsHeld holds new.work.payload
+  pub buffer : ((next ≡ None) × (new.pending.payload ≡ old.pending.payload) × (holds ≡ was)) ⊎ IsHeld holds new.pending.payload
   pub few : tight → after + 64 * looks_ahead snap old.walk ≤ before + calls_for snap (listed next) + 64 * looks_ahead snap new.walk
 
--- while it gives `count` bytes a send puts some items, for no more calls than these and the looks take, and one where the block of the record in work is read again: all of them are for items that have a byte among those
+-- while it gives `count` bytes a send puts some items, for no more calls than these and the looks take, and one where the block of the pending record is read again: all of them are for items that have a byte among those
 pub record PutsIn (has : Blocks) (snap : DatedState) (view : View) (tight : Type 0) (point : Point) (front : ℕ) (put : List Item) (place count : ℕ) (old new : SendState) (before after : ℕ) : Type 0 where
   pub more : List Item
   pub now : HasPut has snap view point front (put ++ more) (place + count) new
@@ -146,3 +147,10 @@ AreToCome has sent start send items = AreLeft has sent.snapshot.objects (begun_v
 -- of the items that were to come a send has put some since, for no more calls than they and its looks ahead take
 abbrev pub PaysFor : Blocks → Sent → Option Point → List Item → (old new : Send) → (before after : ℕ) → Type 0
 PaysFor has sent start items old new before after = Pays has sent.snapshot.objects (begun_view sent start) items old.stand new.stand before after
+
+-- what a take costs that is of a set whose slots are tight, behind so many bytes
+pub record TakeCosts (was has : Blocks) (sent : Sent) (start : Option Point) (place : ℕ) (old new : Send) (before after : ℕ) (result : Result ℕ PoolFault) : Type 0 where
+  -- it calls the disk at most 64 times for each number and pair of the items that have a byte of what it gave, and for two more, and once for each WRITE and SPILL of theirs
+  pub pays : IfOk result (λ count. after ≤ before + most_calls sent (items_in sent start place count))
+  -- over several takes the items that are put pay once, and a look that was made ahead isn't made again
+  pub ahead : (items : List Item) × AreToCome was sent start old items × IfOk result (λ count. PaysFor has sent start items old new (before + 1) after)

@@ -9,8 +9,8 @@ use Rattle.zst_tree.specs.declared.tree.ObjSet.{ObjSet}
 use Rattle.zst_send.specs.DueItems.{longest_payload}
 use Rattle.zst_send.specs.declared.due_items.DueItems.{DueItems}
 use Rattle.zst_send.specs.declared.due_items.DueItems.TheVariants.{Absent, Object, Spill, Tail, Holes, Redacted, Block}
-use Rattle.zst_send.specs.declared.work.Payload.{Payload}
-use Rattle.zst_send.specs.declared.work.Payload.TheVariants as payloads
+use Rattle.zst_send.specs.declared.pending_record.Payload.{Payload}
+use Rattle.zst_send.specs.declared.pending_record.Payload.TheVariants as payloads
 
 -- what was read of a block has other sums than its pointer states, or the pointer names no whole sectors of the disk
 abbrev pub IsDamagedRead : (List ℕ → Type 0) → ℕ → Ptr → DamageFact
@@ -30,7 +30,7 @@ IsDamagedDue images size (Holes k offset length) sector stated found = ⊥
 IsDamagedDue images size (Redacted k offset length) sector stated found = ⊥
 IsDamagedDue images size (Block k type offset ptr) sector stated found = IsDamagedLoad images size ptr sector stated found
 
--- what may be told of the record in work: of the block that follows it
+-- what may be told of the pending record: of the block that follows it
 abbrev pub IsDamagedPayload : (List ℕ → Type 0) → ℕ → Payload → DamageFact
 IsDamagedPayload images size payloads.Nothing sector stated found = ⊥
 IsDamagedPayload images size (payloads.Bonus field count) sector stated found = ⊥

@@ -10,8 +10,8 @@ use Rattle.zst_send.specs.declared.due_items.DueItems.TheVariants.{Absent, Objec
 use Rattle.zst_send.specs.declared.send.Send.{Send}
 use Rattle.zst_send.specs.declared.send_state.SendState.{SendState}
 use Rattle.zst_send.specs.declared.walk.Walk.{Walk}
-use Rattle.zst_send.specs.declared.work.Payload.{Payload}
-use Rattle.zst_send.specs.declared.work.Payload.TheVariants as payloads
+use Rattle.zst_send.specs.declared.pending_record.Payload.{Payload}
+use Rattle.zst_send.specs.declared.pending_record.Payload.TheVariants as payloads
 
 -- an image is one of these
 abbrev pub IsAmong : List (List ℕ) → List ℕ → Type 0
@@ -37,7 +37,7 @@ DueStands images set (Block k type offset ptr) = IsDataOf images set ptr
 abbrev pub WalkStands : (List ℕ → Type 0) → ObjSet → Walk → Type 0
 WalkStands images set walk = IfSome walk.held (DueStands images set)
 
--- and the block that follows the record in work
+-- and the block that follows the pending record
 abbrev pub PayloadStands : (List ℕ → Type 0) → ObjSet → Payload → Type 0
 PayloadStands images set payloads.Nothing = Unit {0}
 PayloadStands images set (payloads.Bonus field count) = Unit {0}
@@ -46,7 +46,7 @@ PayloadStands images set (payloads.Block ptr) = IsDataOf images set ptr ⊎ IsSp
 -- where a send stands it keeps what may stand in the set
 pub record IsOfSet (images : List ℕ → Type 0) (set : ObjSet) (stand : SendState) : Type 0 where
   pub walk : WalkStands images set stand.walk
-  pub work : PayloadStands images set stand.work.payload
+  pub pending : PayloadStands images set stand.pending.payload
 
 -- each pointer that a send keeps is one that may stand in the set of its snapshot, in these images
 abbrev pub Knows : (List ℕ → Type 0) → Send → Type 0

@@ -1,10 +1,13 @@
+pub mod BufferReads
 pub mod Costs
 pub mod Damage
 pub mod DueItems
 pub mod KnownPointers
+pub mod NextRecords
 pub mod Openings
-pub mod Places
+pub mod PendingRecords
 pub mod Records
 pub mod Sends
 pub mod SendState
-pub mod Work
+pub mod Takes
+pub mod WalkPositions

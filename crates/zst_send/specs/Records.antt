@@ -10,12 +10,12 @@ use Rattle.zst_model.specs.states.DatedState.{DatedState}
 use Rattle.zst_record.specs.Formats.{record_len}
 use Rattle.zst_stream.specs.Records.{item_payload}
 use Rattle.zst_tree.specs.Indices.{Blocks}
-use Rattle.zst_send.specs.Places.{IsWalk, items_left}
-use Rattle.zst_send.specs.Work.{payload_size}
+use Rattle.zst_send.specs.WalkPositions.{IsWalk, items_left}
+use Rattle.zst_send.specs.PendingRecords.{payload_size}
 use Rattle.zst_send.specs.declared.send_state.SendState.{SendState}
 use Rattle.zst_send.specs.declared.walk.Walk.{Walk}
-use Rattle.zst_send.specs.declared.work.Payload.{Payload}
-use Rattle.zst_send.specs.declared.work.Payload.TheVariants.{Nothing, Bonus, Block}
+use Rattle.zst_send.specs.declared.pending_record.Payload.{Payload}
+use Rattle.zst_send.specs.declared.pending_record.Payload.TheVariants.{Nothing, Bonus, Block}
 
 -- ---- where they stand
 
@@ -73,16 +73,16 @@ pub record IsOfItem (item : Item) (payload : Payload) : Type 0 where
   pub size : payload_size payload ≡ length (item_payload item)
   pub blocks : blocks_behind payload ≡ reads_of item
 
--- where a block follows the record in work, that is the record of the last item that was put
-abbrev pub IsInWork : List Item → Bool → Payload → Type 0
-IsInWork put ended Nothing = Unit {0}
-IsInWork put ended (Bonus field count) = Unit {0}
-IsInWork put ended (Block ptr) = (first : List Item) × (last : Item) × (put ≡ first ++ last ∷ []) × IsOfItem last (Block ptr) × (ended ≡ false)
+-- where a block follows the pending record, that is the record of the last item that was put
+abbrev pub IsOfLast : List Item → Bool → Payload → Type 0
+IsOfLast put ended Nothing = Unit {0}
+IsOfLast put ended (Bonus field count) = Unit {0}
+IsOfLast put ended (Block ptr) = (first : List Item) × (last : Item) × (put ≡ first ++ last ∷ []) × IsOfItem last (Block ptr) × (ended ≡ false)
 
 -- a send from a point on, whose BEGIN has `front` bytes with its payload, and that has given `place` bytes, has put the records of these first items of its view, and END where it says so; the others are left
 pub record HasPut (has : Blocks) (snap : DatedState) (view : View) (point : Point) (front : ℕ) (put : List Item) (place : ℕ) (stand : SendState) : Type 0 where
   pub later : List Item
   pub are : items view point ≡ put ++ later
   pub are_left : AreLeft has snap view stand.walk stand.ended later
-  pub in_work : IsInWork put stand.ended stand.work.payload
-  pub place_is : place + record_len + payload_size stand.work.payload ≡ front + sizes_of put + end_size stand.ended + stand.work.given
+  pub of_last : IsOfLast put stand.ended stand.pending.payload
+  pub place_is : place + record_len + payload_size stand.pending.payload ≡ front + sizes_of put + end_size stand.ended + stand.pending.given

@@ -2,7 +2,7 @@ ghost use Rattle.std.specs.Prelude.{◌≡◌};
 ghost use Rattle.zst_model.specs.sends.View.{header_from};
 ghost use Rattle.zst_record.specs.Payload.{stated_point};
 
-use crate::room::Room;
+use crate::block_buffer::BlockBuffer;
 use crate::send_state::{SendState, Subject};
 use crate::support::check_built;
 use std::alloc::Global;
@@ -13,41 +13,38 @@ use zst_outside::Disk;
 use zst_plan::{SendPlan, send_plan};
 use zst_pool::{Pool, PoolFault};
 
-/// A send: what it is of, where it stands, and the room of one block. It has no part of the pool.
+/// A send: what it is of, where it stands, and a buffer for one block. It has no part of the pool.
 #[derive(Drop)]
 pub struct Send {
     subject: Subject,
     stand: SendState,
-    room: Room,
+    buffer: BlockBuffer,
 }
 
 impl Send {
-    ghost use Rattle.std.specs.Prelude.{Bool, Option, ◌≡◌, ◌==◌, ◌≢◌, ◌+◌, ◌≤◌, false, true, Contains, List, [], ℕ, IfErr, IfOk, None, Some, Err, length, Ok};
+    ghost use Rattle.std.specs.Prelude.{Bool, Option, ◌≡◌, ◌==◌, false, true, Contains, List, [], ℕ, IfErr, IfOk, None, Some, Err, length, Ok};
     ghost use Rattle.std.specs.List.{position};
     ghost use Rattle.zst_space.specs.FreeSectors.{FreeSectors};
     ghost use Rattle.zst_block.specs.Blocks.{Has};
-    ghost use Rattle.zst_block.specs.IoStates.{IsHonest, blocks_of, disk_of, io_of};
-    ghost use Rattle.zst_block.specs.IoCalls.{Looks};
+    ghost use Rattle.zst_block.specs.IoStates.{IsHonest, blocks_of, disk_of};
     ghost use Rattle.zst_dir.specs.RowNames.{AreNamed};
     ghost use Rattle.zst_dir.specs.declared.rows.Snapshot.{Snapshot as SnapshotRow};
     ghost use Rattle.zst_image.specs.Reads.{RunsBy};
     ghost use Rattle.zst_model.specs.pools.Pool.{Pool as Plain};
     ghost use Rattle.zst_model.specs.declared.refusals.subjects.Name.TheVariants as names;
-    ghost use Rattle.zst_model.specs.declared.refusals.plan_fault.PlanFault.{PlanFault};
-    ghost use Rattle.zst_model.specs.declared.states.item.Item.{Item};
     ghost use Rattle.zst_model.specs.declared.sends.header.Point.{Point};
     ghost use Rattle.zst_model.specs.sends.Headers.{Sent};
     ghost use Rattle.zst_objset.specs.TightSets.{SetIsTight};
     ghost use Rattle.zst_plan.specs.Plans.{IsInside, IsPlanOf};
     ghost use Rattle.zst_pool.specs.Damage.{IsOf};
     ghost use Rattle.zst_pool.specs.Lookups.{set_named};
-    ghost use Rattle.zst_pool.specs.Queries.{stop_of};
-    ghost use Rattle.zst_send.specs.Costs.{AreToCome, PaysFor, items_in, most_calls};
+    ghost use Rattle.zst_send.specs.Costs.{TakeCosts};
     ghost use Rattle.zst_send.specs.Damage.{IsDamagedSend};
     ghost use Rattle.zst_send.specs.KnownPointers.{IsAmong, Knows};
     ghost use Rattle.zst_send.specs.Openings.{IsPlanned, Opens, Resumes, built, is_plain, opening, set_where, set_with};
-    ghost use Rattle.zst_send.specs.Sends.{SendFits, Sends, SendsFrom, Takes, TakesFrom, begun_text, sent_set};
-    ghost use Rattle.zst_send.specs.Work.{RoomFits};
+    ghost use Rattle.zst_send.specs.Sends.{SendFits, SendsFrom, TakesFrom, begun_text, sent_set};
+    ghost use Rattle.zst_send.specs.PendingRecords.{BufferFits};
+    ghost use Rattle.zst_send.specs.Takes.{FillsAtMost, ReadsPool};
 
     /// Plans a send and takes all of its memory. Nothing is read.
     pub fn open<D: Disk>(
@@ -70,19 +67,15 @@ impl Send {
         ensures failed_pool { pool.old.io.failed ≡ true → result ≡ Err PoolFault.Failed }
         ensures open_still { pool.old.io.failed ≡ false → ¬ (result ≡ Err PoolFault.Failed) }
         // The pool stays as it was.
-        ensures disk { pool.new.io.disk.now ≡ pool.old.io.disk.now }
-        ensures space { pool.new.io.space ≡ pool.old.io.space }
-        ensures failed { pool.new.io.failed ≡ pool.old.io.failed }
-        ensures kept { pool.new.kept ≡ pool.old.kept }
-        ensures same { pool.new.io.disk.ghost_name ≡ pool.old.io.disk.ghost_name }
+        ensures pool { pool.new ≡ pool.old }
     {
         if pool.io.failed {
             return Err(PoolFault::Failed);
         }
         let plan = send_plan(&pool.kept.dir, ask)?;
         check_built(&pool.kept.dir, &plan)?;
-        let room = Room::new(alloc)?;
-        Ok(Send::planned(&pool.kept.dir, &plan, None, room))
+        let buffer = BlockBuffer::new(alloc)?;
+        Ok(Send::planned(&pool.kept.dir, &plan, None, buffer))
     }
 
     /// A send by this plan from a point on, which takes all of its memory: its BEGIN has RESUMING and
@@ -111,18 +104,14 @@ impl Send {
         ensures failed_pool { pool.old.io.failed ≡ true → result ≡ Err PoolFault.Failed }
         ensures open_still { pool.old.io.failed ≡ false → ¬ (result ≡ Err PoolFault.Failed) }
         // The pool stays as it was.
-        ensures disk { pool.new.io.disk.now ≡ pool.old.io.disk.now }
-        ensures space { pool.new.io.space ≡ pool.old.io.space }
-        ensures failed { pool.new.io.failed ≡ pool.old.io.failed }
-        ensures kept { pool.new.kept ≡ pool.old.kept }
-        ensures same { pool.new.io.disk.ghost_name ≡ pool.old.io.disk.ghost_name }
+        ensures pool { pool.new ≡ pool.old }
     {
         if pool.io.failed {
             return Err(PoolFault::Failed);
         }
         check_built(&pool.kept.dir, plan)?;
-        let room = Room::new(alloc)?;
-        Ok(Send::planned(&pool.kept.dir, plan, Some(point), room))
+        let buffer = BlockBuffer::new(alloc)?;
+        Ok(Send::planned(&pool.kept.dir, plan, Some(point), buffer))
     }
 
     /// Fills `into` with the next bytes, and counts them: fewer are given exactly at the end. After
@@ -135,54 +124,38 @@ impl Send {
         requires send { SendFits self.old }
 
         // The next bytes of the text are given, and those behind them are left.
-        ensures takes { (sent : Sent) (given left : List ℕ) → IsHonest pool.new.io → Sends (blocks_of pool.old.io) self.old sent given left
-            → Takes (blocks_of pool.new.io) self.new sent given left into.new result }
-        // So they are of a send from a point.
         ensures takes_from { (sent : Sent) (start : Option Point) (given left : List ℕ) → IsHonest pool.new.io → SendsFrom (blocks_of pool.old.io) self.old sent start given left
             → TakesFrom (blocks_of pool.new.io) self.new sent start given left into.new result }
         // Whatever the image, only as many as were asked are given.
-        ensures count { IfOk result (λ count. count ≤ length into.old) }
-        // Its subject stays, and the plan isn't asked again.
+        ensures into { FillsAtMost into.old into.new result }
+        // Its subject stays, and the pool is only read.
         ensures subject { self.new.subject ≡ self.old.subject }
-        ensures unplanned { (fault : PlanFault) → result ≢ Err (PoolFault.Plan fault) }
+        ensures pool { ReadsPool pool.old pool.new result }
         // Among the images that the disk had so far, it keeps what may stand in the set, and E25 names a block of it.
         ensures knows { (images : List (List ℕ)) → Contains images (disk_of pool.old.io).seen → IsHonest pool.new.io → Knows (IsAmong images) self.old → Knows (IsAmong images) self.new }
         ensures damaged { (images : List (List ℕ)) → Contains images (disk_of pool.old.io).seen → IsHonest pool.new.io → Knows (IsAmong images) self.old
             → IfErr result (IsOf (IsDamagedSend (IsAmong images) (disk_of pool.old.io).size self.old.subject.set)) }
-        ensures into { length into.new ≡ length into.old }
         ensures send { SendFits self.new }
-
-        // A pool that has failed answers nothing else.
-        ensures failed_pool { pool.old.io.failed ≡ true → result ≡ Err PoolFault.Failed }
-        ensures open_still { pool.old.io.failed ≡ false → ¬ (result ≡ Err PoolFault.Failed) }
-        // The pool is only read. E28 comes only where its disk failed in this call.
-        ensures looks { Looks (io_of pool.old.io) (io_of pool.new.io) (stop_of result) }
-        // Of a set whose slots are tight it calls the disk at most 64 times for each number and pair of the items that have a byte of what it gave, and for two more, and once for each WRITE and SPILL of theirs.
-        ensures pays { (sent : Sent) (start : Option Point) (given left : List ℕ) → IsHonest pool.new.io → SendsFrom (blocks_of pool.old.io) self.old sent start given left
+        // Of a set whose slots are tight it calls the disk for the items that have a byte of what it gave, and for two looks more.
+        ensures costs { (sent : Sent) (start : Option Point) (given left : List ℕ) → IsHonest pool.new.io → SendsFrom (blocks_of pool.old.io) self.old sent start given left
             → SetIsTight (blocks_of pool.old.io) self.old.subject.set sent.snapshot.objects
-            → IfOk result (λ count. (disk_of pool.new.io).calls ≤ (disk_of pool.old.io).calls + most_calls sent (items_in sent start (length given) count)) }
-        // Over several takes the items that are put pay once, and a look that was made ahead isn't made again.
-        ensures ahead { (sent : Sent) (start : Option Point) (given left : List ℕ) → IsHonest pool.new.io → SendsFrom (blocks_of pool.old.io) self.old sent start given left
-            → SetIsTight (blocks_of pool.old.io) self.old.subject.set sent.snapshot.objects
-            → (items : List Item) × AreToCome (blocks_of pool.old.io) sent start self.old items
-            × IfOk result (λ count. PaysFor (blocks_of pool.new.io) sent start items self.old self.new ((disk_of pool.old.io).calls + 1) (disk_of pool.new.io).calls) }
-        ensures kept { pool.new.kept ≡ pool.old.kept }
+            → TakeCosts (blocks_of pool.old.io) (blocks_of pool.new.io) sent start (length given) self.old self.new (disk_of pool.old.io).calls (disk_of pool.new.io).calls result }
     {
         if pool.io.failed {
             return Err(PoolFault::Failed);
         }
         // A copy goes on, so that a refusal leaves the send where it stood.
         let mut stand = self.stand;
-        let count = stand.fill(&mut self.room, &mut pool.io, &self.subject, into)?;
+        let count = stand.fill(&mut self.buffer, &mut pool.io, &self.subject, into)?;
         self.stand = stand;
         Ok(count)
     }
 
     // A send by this plan that has given nothing, from its beginning or from a point.
-    fn planned(dir: &Dir, plan: &SendPlan, start: Option<Point>, room: Room) -> Send
+    fn planned(dir: &Dir, plan: &SendPlan, start: Option<Point>, buffer: BlockBuffer) -> Send
         requires inside { IsInside dir.now plan.now }
-        requires room { RoomFits room }
-        requires empty { room.holds ≡ None }
+        requires buffer { BufferFits buffer }
+        requires empty { buffer.holds ≡ None }
         ensures set { (test : SnapshotRow → Bool) → position test dir.now.snapshots ≡ Some plan.now.snap → set_where test dir.now ≡ Some (sent_set result) }
         ensures knows { (images : List (List ℕ)) → Knows (IsAmong images) result }
         ensures fits { SendFits result }
@@ -201,7 +174,7 @@ impl Send {
         Send {
             subject,
             stand: SendState::start(header, point),
-            room,
+            buffer,
         }
     }
 }

@@ -10,7 +10,7 @@ ghost use Rattle.zst_objset.specs.Sets.{SetHolds};
 ghost use Rattle.zst_send.specs.Costs.{cells_due, cells_next, ended, looks_ahead};
 ghost use Rattle.zst_send.specs.DueItems.{DueFits, is_run};
 ghost use Rattle.zst_send.specs.KnownPointers.{DueStands, IsAmong, WalkStands};
-ghost use Rattle.zst_send.specs.Places.{ComesFirst, Gives, IsPlaceOf, IsWalk, WalkFits, items_left};
+ghost use Rattle.zst_send.specs.WalkPositions.{ComesFirst, Gives, IsPositionOf, IsWalk, WalkFits, items_left};
 ghost use Rattle.zst_traverse.specs.Cells.{choice_after};
 ghost use Rattle.zst_traverse.specs.Damage.{IsDamagedCell};
 ghost use Rattle.zst_objset.specs.TightSets.{SetIsTight};
@@ -18,7 +18,7 @@ ghost use Rattle.zst_tree.specs.Damage.{IsSeen};
 ghost use Rattle.zst_tree.specs.Indices.{Delivers};
 
 use crate::due_items::{DueItems, joined};
-use crate::place::Place;
+use crate::walk_position::WalkPosition;
 use std::alloc::Global;
 use zst_block::{BlockFault, Io};
 use zst_laws::held_goes_on;
@@ -29,7 +29,7 @@ use zst_tree::ObjSet;
 /// A walk over what a view shows: where it stands, and what it found and hasn't given.
 #[derive(Clone, Copy)]
 pub(crate) struct Walk {
-    pub place: Place,
+    pub position: WalkPosition,
     pub held: Option<DueItems>,
 }
 
@@ -37,12 +37,12 @@ impl Walk {
     /// A walk that holds nothing and stands before what is at or after a point.
     pub(crate) fn start(point: Point) -> Walk
         ensures held { result.held ≡ None }
-        ensures point { result.place.point ≡ point }
-        ensures slot { result.place.slot ≡ true }
+        ensures point { result.position.point ≡ point }
+        ensures slot { result.position.slot ≡ true }
         ensures fits { WalkFits result }
     {
         Walk {
-            place: Place::start(point),
+            position: WalkPosition::start(point),
             held: None,
         }
     }
@@ -97,7 +97,7 @@ impl Walk {
         requires walk { WalkFits self.old }
         ensures goes { (header : Header) (snap : DatedState) (held : List Item) → IsHonest io.new → SetHolds (blocks_of io.old) set.now snap
             → IsWalk (blocks_of io.old) snap self.old held
-            → Delivers (ComesFirst (blocks_of io.new) snap (view_of header snap (choice_after source)) (items_left (view_of header snap (choice_after source)) self.old held) self.new.place) result }
+            → Delivers (ComesFirst (blocks_of io.new) snap (view_of header snap (choice_after source)) (items_left (view_of header snap (choice_after source)) self.old held) self.new.position) result }
         ensures held { self.new.held ≡ None }
         ensures stands { (images : List (List ℕ)) → Contains images (disk_of io.old).seen → IsHonest io.new → WalkStands (IsAmong images) set.now self.old
             → OnOk result (WalkStands (IsAmong images) set.now self.new) × IfOk result (λ next. IfSome next (DueStands (IsAmong images) set.now)) }
@@ -106,15 +106,15 @@ impl Walk {
         ensures damaged { IsHonest io.new → IfDamaged result (IsDamagedCell (IsSeen (disk_of io.old).seen) (disk_of io.old).size set.now) }
         ensures looks { Looks (io_of io.old) (io_of io.new) (stop_of result) }
         ensures few { (snap : DatedState) → IsHonest io.new → SetIsTight (blocks_of io.old) set.now snap → (disk_of io.new).calls ≤ (disk_of io.old).calls + 64 }
-        ensures ahead { (snap : DatedState) → IsHonest io.new → SetIsTight (blocks_of io.old) set.now snap → IsPlaceOf snap self.old.place
-            → IfOk result (λ next. (disk_of io.new).calls + 64 * looks_ahead snap self.old ≤ (disk_of io.old).calls + 64 * (min 1 (cells_next snap next) + ended self.new.place)) }
+        ensures ahead { (snap : DatedState) → IsHonest io.new → SetIsTight (blocks_of io.old) set.now snap → IsPositionOf snap self.old.position
+            → IfOk result (λ next. (disk_of io.new).calls + 64 * looks_ahead snap self.old ≤ (disk_of io.old).calls + 64 * (min 1 (cells_next snap next) + ended self.new.position)) }
     {
         match self.held {
             Some(due) => {
                 self.held = None;
                 Ok(Some(due))
             }
-            None => self.place.find(io, alloc, set, source),
+            None => self.position.find(io, alloc, set, source),
         }
     }
 
@@ -130,7 +130,7 @@ impl Walk {
         requires walk { WalkFits self.old }
         requires run { (is_run run ≡ true) × DueFits run }
         ensures gives { (header : Header) (snap : DatedState) (left : List Item) → IsHonest io.new → SetHolds (blocks_of io.old) set.now snap
-            → ComesFirst (blocks_of io.old) snap (view_of header snap (choice_after source)) left self.old.place (Some run)
+            → ComesFirst (blocks_of io.old) snap (view_of header snap (choice_after source)) left self.old.position (Some run)
             → Delivers (λ due. Gives (blocks_of io.new) snap (view_of header snap (choice_after source)) left self.new (Some due)) result }
         ensures stands { (images : List (List ℕ)) → Contains images (disk_of io.old).seen → IsHonest io.new
             → OnOk result (WalkStands (IsAmong images) set.now self.new) × IfOk result (DueStands (IsAmong images) set.now) }
@@ -139,15 +139,15 @@ impl Walk {
         ensures damaged { IsHonest io.new → IfDamaged result (IsDamagedCell (IsSeen (disk_of io.old).seen) (disk_of io.old).size set.now) }
         ensures looks { Looks (io_of io.old) (io_of io.new) (stop_of result) }
         ensures few { (header : Header) (snap : DatedState) (left : List Item) → IsHonest io.new → SetIsTight (blocks_of io.old) set.now snap
-            → ComesFirst (blocks_of io.old) snap (view_of header snap (choice_after source)) left self.old.place (Some run)
-            → IfOk result (λ due. (disk_of io.new).calls + 64 * (cells_due snap run + ended self.old.place) ≤ (disk_of io.old).calls + 64 * (cells_due snap due + looks_ahead snap self.new)) }
+            → ComesFirst (blocks_of io.old) snap (view_of header snap (choice_after source)) left self.old.position (Some run)
+            → IfOk result (λ due. (disk_of io.new).calls + 64 * (cells_due snap run + ended self.old.position) ≤ (disk_of io.old).calls + 64 * (cells_due snap due + looks_ahead snap self.new)) }
     {
         held_goes_on();
         let mut run = run;
-        let mut next = self.place.find(io, alloc, set, source)?;
+        let mut next = self.position.find(io, alloc, set, source)?;
         while let Some(both) = joined(&run, &next) {
             run = both;
-            next = self.place.find(io, alloc, set, source)?;
+            next = self.position.find(io, alloc, set, source)?;
         }
         self.held = next;
         Ok(run)

@@ -58,12 +58,12 @@ returns-in_err-check_built-clause-planned g c = λ running live named.
     plan_refuses (opening ask running) c.from_residual-in_err-check_built.result fault (err_is c.from_residual-in_err-check_built.result (Plan fault) c.from_residual-in_err-check_built.ensures.1)
     (planned_is ask running s.0 s.1 ∙ c.in_err-check_built.ensures.judges running s.0 named s.2)
 
-pub returns-in_err-room-clause-planned : goal.returns-in_err-room-clause-planned
-returns-in_err-room-clause-planned g c = λ running live named.
+pub returns-in_err-buffer-clause-planned : goal.returns-in_err-buffer-clause-planned
+returns-in_err-buffer-clause-planned g c = λ running live named.
     let rows = c.args.pool.now.kept.dir in
     let ask = c.args.ask.now in
     let s = ok_alike (IsPlanOf rows running) c.in_ok-plan.plan (send_plan ask running) (c.in_ok-plan.ensures.exact running named) in
-    plan_lacks (opening ask running) c.from_residual-in_err-room.result s.0 (err_is c.from_residual-in_err-room.result OutOfMemory c.from_residual-in_err-room.ensures.1)
+    plan_lacks (opening ask running) c.from_residual-in_err-buffer.result s.0 (err_is c.from_residual-in_err-buffer.result OutOfMemory c.from_residual-in_err-buffer.ensures.1)
     (planned_is ask running s.0 s.1 ∙ c.in_ok-check_built.ensures.judges running s.0 named s.2)
 
 pub returns-clause-planned : goal.returns-clause-planned

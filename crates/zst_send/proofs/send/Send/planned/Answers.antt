@@ -11,7 +11,7 @@ use Rattle.zst_stream.specs.Image.{front_of}
 use Rattle.zst_stream.specs.Records.{view_text}
 use Rattle.zst_send.specs.Records.{HasPut}
 use Rattle.zst_send.specs.SendState.{StandsAt}
-use Rattle.zst_send.specs.Work.{HasBlock}
+use Rattle.zst_send.specs.PendingRecords.{HasBlock}
 use Rattle.zst_objset.specs.Sets.{SetHolds}
 use Rattle.zst_objset.specs.TightSets.{SetIsTight}
 use Rattle.zst_pool.proofs.NamedPools.{rows_named}
@@ -38,7 +38,7 @@ returns-clause-sends c = λ image space running sent runs is plain.
       has_put = subst (λ (h : Header). HasPut has sent.snapshot.objects (begun_view sent c.args.start) (stated_point c.args.start) (length (front_of h)) [] 0 c.start.result) header
           (subst (λ (p : Point). HasPut has sent.snapshot.objects (begun_view sent c.args.start) p (length (front_of c.header_from-header.result)) [] 0 c.start.result) c.stated_point-point.ensures
           (c.start.ensures.puts image space sent.snapshot.objects (begun_view sent c.args.start)));
-      loaded = subst (λ (holds : Option Ptr). HasBlock has c.args.room.bytes.items holds) (sym c.requires.empty) tt;
+      loaded = subst (λ (holds : Option Ptr). HasBlock has c.args.buffer.bytes.items holds) (sym c.requires.empty) tt;
     }
 
 pub returns-clause-set : goal.returns-clause-set

@@ -27,9 +27,9 @@ returns-in_err-check_built-clause-planned g c = λ running sent live named is.
     let fault = c.in_err-check_built.field-0.0 in
     plan_refuses (built sent) c.from_residual.result fault (err_is c.from_residual.result (Plan fault) c.from_residual.ensures.1) (c.in_err-check_built.ensures.judges running sent named is)
 
-pub returns-in_err-room-clause-planned : goal.returns-in_err-room-clause-planned
-returns-in_err-room-clause-planned g c = λ running sent live named is.
-    plan_lacks (built sent) c.from_residual-in_err-room.result sent (err_is c.from_residual-in_err-room.result OutOfMemory c.from_residual-in_err-room.ensures.1)
+pub returns-in_err-buffer-clause-planned : goal.returns-in_err-buffer-clause-planned
+returns-in_err-buffer-clause-planned g c = λ running sent live named is.
+    plan_lacks (built sent) c.from_residual-in_err-buffer.result sent (err_is c.from_residual-in_err-buffer.result OutOfMemory c.from_residual-in_err-buffer.ensures.1)
     (c.in_ok-check_built.ensures.judges running sent named is)
 
 pub returns-clause-planned : goal.returns-clause-planned

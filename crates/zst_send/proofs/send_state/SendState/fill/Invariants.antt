@@ -14,22 +14,22 @@ use Rattle.zst_send.proofs.ItemCosts.{Paid}
 use Rattle.zst_traverse.specs.Cells.{choice_after}
 use Rattle.zst_send.specs.KnownPointers.{IsAmong, IsOfSet}
 use Rattle.zst_send.specs.SendState.{StandFits, StandsAt}
-use Rattle.zst_send.specs.Work.{IsLoaded, RoomFits}
+use Rattle.zst_send.specs.PendingRecords.{IsLoaded, BufferFits}
 use Rattle.zst_send.proofs.GivenRecords.{HasGiven}
 use Rattle.zst_send.proofs.send_state.SendState.fill.Given as goal
 
 abbrev pub invariant-loop-count : goal.invariant-loop-count
 invariant-loop-count g l = record {
   stands : (header : Header) (snap : DatedState) (left : List ℕ) → IsHonest l.io → SetHolds (blocks_of l.fn.io) l.subject.set snap
-      → IsLoaded (blocks_of l.fn.io) l.fn.room → StandsAt (blocks_of l.fn.io) snap (view_of header snap (choice_after l.subject.source)) l.subject.to l.fn.self left
-      → HasGiven (blocks_of l.io) snap (view_of header snap (choice_after l.subject.source)) l.subject.to left l.into l.count l.self l.room;
+      → IsLoaded (blocks_of l.fn.io) l.fn.buffer → StandsAt (blocks_of l.fn.io) snap (view_of header snap (choice_after l.subject.source)) l.subject.to l.fn.self left
+      → HasGiven (blocks_of l.io) snap (view_of header snap (choice_after l.subject.source)) l.subject.to left l.into l.count l.self l.buffer;
   paid : (header : Header) (snap : DatedState) (point : Point) (front : ℕ) (put : List Item) (place : ℕ) → IsHonest l.io → SetHolds (blocks_of l.fn.io) l.subject.set snap
       → HasPut (blocks_of l.fn.io) snap (view_of header snap (choice_after l.subject.source)) point front put place l.fn.self
       → Paid (blocks_of l.io) snap (view_of header snap (choice_after l.subject.source)) (SetIsTight (blocks_of l.fn.io) l.subject.set snap) point front put place l.count
-      l.fn.self l.self l.room.holds (disk_of l.fn.io).calls (disk_of l.io).calls;
+      l.fn.self l.self l.buffer.holds (disk_of l.fn.io).calls (disk_of l.io).calls;
   knows : (images : List (List ℕ)) → Contains images (disk_of l.fn.io).seen → IsHonest l.io → IsOfSet (IsAmong images) l.subject.set l.fn.self → IsOfSet (IsAmong images) l.subject.set l.self;
   stand : StandFits l.self;
-  room : RoomFits l.room;
+  buffer : BufferFits l.buffer;
   into : length l.into ≡ length l.fn.into;
   count : l.count ≤ length l.into;
   looks : Looks (io_of l.fn.io) (io_of l.io) None;

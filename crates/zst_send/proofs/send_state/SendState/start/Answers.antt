@@ -5,22 +5,22 @@ use Rattle.std.proofs.Common.{sym, subst}
 use Rattle.std.specs.Prelude.{IfSome, Option}
 use Rattle.zst_send.specs.KnownPointers.{DueStands, IsAmong, PayloadStands}
 use Rattle.zst_send.specs.declared.due_items.DueItems.{DueItems}
-use Rattle.zst_send.specs.declared.work.Payload.{Payload}
+use Rattle.zst_send.specs.declared.pending_record.Payload.{Payload}
 use Rattle.zst_send.proofs.send_state.SendState.start.Goals as goal
 
 pub returns-clause-stands : goal.returns-clause-stands
 returns-clause-stands c = λ image space snap view.
-    begins c.args.header c.args.point c.walk_begins.ensures (Has image space) snap view (record { walk = c.start.result; writer = c.begin-work.new.writer; work = c.begin-work.result; ended = false })
-    c.begin-work.ensures.written c.begin-work.ensures.head c.begin-work.ensures.payload c.begin-work.ensures.given
+    begins c.args.header c.args.point c.walk_begins.ensures (Has image space) snap view (record { walk = c.start.result; writer = c.begin-pending.new.writer; pending = c.begin-pending.result; ended = false })
+    c.begin-pending.ensures.written c.begin-pending.ensures.head c.begin-pending.ensures.payload c.begin-pending.ensures.given
     c.start.ensures.held c.start.ensures.point c.start.ensures.slot refl
 
 pub returns-clause-puts : goal.returns-clause-puts
 returns-clause-puts c = λ image space snap view.
-    begins_put c.args.header c.args.point c.walk_begins.ensures (Has image space) snap view (record { walk = c.start.result; writer = c.begin-work.new.writer; work = c.begin-work.result; ended = false })
-    c.begin-work.ensures.long c.begin-work.ensures.head c.begin-work.ensures.payload c.begin-work.ensures.given c.start.ensures.held c.start.ensures.point c.start.ensures.slot refl
+    begins_put c.args.header c.args.point c.walk_begins.ensures (Has image space) snap view (record { walk = c.start.result; writer = c.begin-pending.new.writer; pending = c.begin-pending.result; ended = false })
+    c.begin-pending.ensures.long c.begin-pending.ensures.head c.begin-pending.ensures.payload c.begin-pending.ensures.given c.start.ensures.held c.start.ensures.point c.start.ensures.slot refl
 
 pub returns-clause-knows : goal.returns-clause-knows
 returns-clause-knows c = λ images set. record {
   walk = subst (λ (h : Option DueItems). IfSome h (DueStands (IsAmong images) set)) (sym c.start.ensures.held) tt;
-  work = subst (λ (p : Payload). PayloadStands (IsAmong images) set p) (sym c.begin-work.ensures.payload.1) tt;
+  pending = subst (λ (p : Payload). PayloadStands (IsAmong images) set p) (sym c.begin-pending.ensures.payload.1) tt;
 }

@@ -10,9 +10,9 @@ use Rattle.zst_traverse.specs.Cells.{choice_after}
 use Rattle.zst_tree.proofs.Results.{delivers_if}
 use Rattle.zst_tree.specs.Indices.{Blocks}
 use Rattle.zst_send.specs.DueItems.{AreHeld}
-use Rattle.zst_send.specs.Places.{ComesFirst, GoesTo, left_behind}
+use Rattle.zst_send.specs.WalkPositions.{ComesFirst, GoesTo, left_behind}
 use Rattle.zst_send.specs.declared.due_items.DueItems.{DueItems}
-use Rattle.zst_send.specs.declared.place.Place.{Place}
+use Rattle.zst_send.specs.declared.walk_position.WalkPosition.{WalkPosition}
 use Rattle.std.specs.Prelude.{IfOk, IfSome, OnOk}
 use Rattle.zst_send.specs.Costs.{cells_due, cells_next, ended, looks_ahead}
 use Rattle.zst_send.specs.declared.walk.Walk.{Walk}
@@ -21,7 +21,7 @@ use Rattle.zst_send.specs.KnownPointers.{DueStands, IsAmong}
 use Rattle.zst_send.proofs.walk.Walk.first.Goals as goal
 
 -- where nothing is held, what is found comes first
-found_first : (has : Blocks) (snap : DatedState) (view : View) (held : List Item) (old new : Place) → held ≡ [] → (found : Option DueItems)
+found_first : (has : Blocks) (snap : DatedState) (view : View) (held : List Item) (old new : WalkPosition) → held ≡ [] → (found : Option DueItems)
     → GoesTo has snap view old new found → ComesFirst has snap view (joined (held ++ left_behind view old)) new found
 found_first has snap view held old new empty None (none, behind, of) = (ap (λ (l : List Item). joined (l ++ left_behind view old)) empty ∙ ap joined none, of)
 found_first has snap view held old new empty (Some due) (items, are, goes, of) = (items, are, ap (λ (l : List Item). joined (l ++ left_behind view old)) empty ∙ goes, of)
@@ -29,7 +29,7 @@ found_first has snap view held old new empty (Some due) (items, are, goes, of) =
 pub returns-in-None-clause-goes : goal.returns-in-None-clause-goes
 returns-in-None-clause-goes g c = λ header snap held honest holds walk.
     let empty : held ≡ [] = subst (λ (h : Option DueItems). AreHeld (blocks_of c.args.io.now) h held) c.in-None.is walk.held_are in
-    delivers_if _ _ c.find.result (found_first _ snap (view_of header snap (choice_after c.args.source)) held c.args.self.now.place c.find.new.self empty) (c.find.ensures.found header snap honest holds walk.place_is)
+    delivers_if _ _ c.find.result (found_first _ snap (view_of header snap (choice_after c.args.source)) held c.args.self.now.position c.find.new.self empty) (c.find.ensures.found header snap honest holds walk.position_is)
 
 pub returns-in-Some-clause-stands : goal.returns-in-Some-clause-stands
 returns-in-Some-clause-stands g c = λ images among honest was. (tt, subst (λ (h : Option DueItems). IfSome h (DueStands (IsAmong images) c.args.set.now)) c.in-Some.is was)
@@ -44,18 +44,18 @@ returns-in-None-clause-stands g c = λ images among honest was. (on_ok c.find.re
 
 pub returns-in-Some-clause-ahead : goal.returns-in-Some-clause-ahead
 returns-in-Some-clause-ahead g c = λ snap honest tight of.
-    let same = subst (λ (h : Option DueItems). looks_ahead snap c.args.self.now ≡ min 1 (cells_next snap h) + ended c.args.self.now.place) c.in-Some.is refl in
+    let same = subst (λ (h : Option DueItems). looks_ahead snap c.args.self.now ≡ min 1 (cells_next snap h) + ended c.args.self.now.position) c.in-Some.is refl in
     omega (arith, same)
 
 -- what is found is a look ahead
-found_ahead : (snap : DatedState) (old : Walk) (place : Place) (before after : ℕ) (result : Result (Option DueItems) BlockFault) → old.held ≡ None → after + 64 * ended old.place ≤ before + 64
-    → (result ≡ Ok None → ended place ≡ 1) → IfOk result (λ found. IfSome found (λ due. 0 < cells_due snap due))
-    → IfOk result (λ next. after + 64 * looks_ahead snap old ≤ before + 64 * (min 1 (cells_next snap next) + ended place))
-found_ahead snap old place before after (Ok next) empty few ends counted =
-    let ahead = look_ahead snap place next (λ none. ends (ap Ok none)) counted in
+found_ahead : (snap : DatedState) (old : Walk) (position : WalkPosition) (before after : ℕ) (result : Result (Option DueItems) BlockFault) → old.held ≡ None → after + 64 * ended old.position ≤ before + 64
+    → (result ≡ Ok None → ended position ≡ 1) → IfOk result (λ found. IfSome found (λ due. 0 < cells_due snap due))
+    → IfOk result (λ next. after + 64 * looks_ahead snap old ≤ before + 64 * (min 1 (cells_next snap next) + ended position))
+found_ahead snap old position before after (Ok next) empty few ends counted =
+    let ahead = look_ahead snap position next (λ none. ends (ap Ok none)) counted in
     let none : cells_next snap old.held ≡ 0 = ap (cells_next snap) empty in
     omega (arith, few, ahead, none)
-found_ahead snap old place before after (Err fault) empty few ends counted = tt
+found_ahead snap old position before after (Err fault) empty few ends counted = tt
 
 pub returns-in-None-clause-ahead : goal.returns-in-None-clause-ahead
 returns-in-None-clause-ahead g c = λ snap honest tight of.

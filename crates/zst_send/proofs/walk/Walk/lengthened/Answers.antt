@@ -13,7 +13,7 @@ use Rattle.zst_traverse.specs.Cells.{choice_after}
 use Rattle.zst_traverse.specs.Damage.{IsDamagedCell}
 use Rattle.zst_tree.specs.Damage.{IsSeen}
 use Rattle.zst_tree.proofs.Damage.{seen_before}
-use Rattle.zst_send.specs.Places.{ComesFirst}
+use Rattle.zst_send.specs.WalkPositions.{ComesFirst}
 use Rattle.zst_send.proofs.LookCosts.{joined_counts, look_ahead}
 use Rattle.zst_send.proofs.ItemRuns.{RunComes, run_begins, run_ends, run_goes_on}
 use Rattle.zst_send.specs.KnownPointers.{IsAmong}
@@ -29,14 +29,14 @@ pub loop-both-init : goal.loop-both-init
 loop-both-init g c = record {
   comes = λ header snap left honest holds first.
       let view : View = view_of header snap (choice_after c.args.source) in
-      let on = look_on (λ (seen : List ℕ) (space : FreeSectors). ComesFirst (Has seen space) snap view left c.args.self.now.place (Some c.args.run)) c.in_ok-next.ensures.looks first in
-      run_begins _ snap view left c.args.self.now.place c.find.new.self c.args.run c.in_ok-next.next c.requires.run.0 on (c.in_ok-next.ensures.found header snap honest holds first.3);
+      let on = look_on (λ (seen : List ℕ) (space : FreeSectors). ComesFirst (Has seen space) snap view left c.args.self.now.position (Some c.args.run)) c.in_ok-next.ensures.looks first in
+      run_begins _ snap view left c.args.self.now.position c.find.new.self c.args.run c.in_ok-next.next c.requires.run.0 on (c.in_ok-next.ensures.found header snap honest holds first.3);
   paid = λ header snap left honest tight first.
       let counted = c.in_ok-next.ensures.counted snap honest tight.holds first.3 in
       let ahead = look_ahead snap c.find.new.self c.in_ok-next.next (λ none. c.in_ok-next.ensures.ends (ap Ok none)) counted in
       omega (arith, ahead, c.in_ok-next.ensures.few snap honest tight);
   stands = λ images among honest. c.in_ok-next.ensures.stands images among honest;
-  walk = record { place = c.in_ok-next.ensures.place; held = c.requires.walk.held };
+  walk = record { position = c.in_ok-next.ensures.position; held = c.requires.walk.held };
   run = c.requires.run.0;
   run_fits = c.requires.run.1;
   next = c.in_ok-next.ensures.ranges;
@@ -58,8 +58,8 @@ loop-both-preserved g c = record {
       let was = c.in_ok-next-2.ensures.looks.reads.honest honest in
       let on = look_on (λ (seen : List ℕ) (space : FreeSectors). SetHolds (Has seen space) c.args.set.now snap) c.loop-both.invariant.looks holds in
       let comes = c.loop-both.invariant.comes header snap left was holds first in
-      let moved = look_on (λ (seen : List ℕ) (space : FreeSectors). RunComes (Has seen space) snap view left c.loop-both.self.place c.loop-both.run c.loop-both.next) c.in_ok-next-2.ensures.looks comes in
-      run_goes_on _ c.held_goes_on.ensures snap view left c.loop-both.self.place c.find-in-Some.new.self c.loop-both.run c.in-Some.both c.loop-both.next c.in_ok-next-2.next c.loop-both.invariant.run
+      let moved = look_on (λ (seen : List ℕ) (space : FreeSectors). RunComes (Has seen space) snap view left c.loop-both.self.position c.loop-both.run c.loop-both.next) c.in_ok-next-2.ensures.looks comes in
+      run_goes_on _ c.held_goes_on.ensures snap view left c.loop-both.self.position c.find-in-Some.new.self c.loop-both.run c.in-Some.both c.loop-both.next c.in_ok-next-2.next c.loop-both.invariant.run
       (sym c.in-Some.ensures.joined) moved (c.in_ok-next-2.ensures.found header snap honest on comes.of);
   paid = λ header snap left honest tight first.
       let was = c.in_ok-next-2.ensures.looks.reads.honest honest in
@@ -71,7 +71,7 @@ loop-both-preserved g c = record {
       let paid = c.loop-both.invariant.paid header snap left was tight first in
       omega (arith, ahead, joins, paid, c.in_ok-next-2.ensures.few snap honest on);
   stands = λ images among honest. c.in_ok-next-2.ensures.stands images (among_on images _ _ c.loop-both.invariant.looks.reads.seen among) honest;
-  walk = record { place = c.in_ok-next-2.ensures.place; held = c.loop-both.invariant.walk.held };
+  walk = record { position = c.in_ok-next-2.ensures.position; held = c.loop-both.invariant.walk.held };
   run = c.in-Some.ensures.run;
   run_fits = c.in-Some.ensures.fits;
   next = c.in_ok-next-2.ensures.ranges;
@@ -81,7 +81,7 @@ loop-both-preserved g c = record {
 pub returns-clause-gives : goal.returns-clause-gives
 returns-clause-gives g c = λ header snap left honest holds first.
     let comes = c.loop-both.invariant.comes header snap left honest holds first in
-    run_ends _ c.held_goes_on.ensures snap (view_of header snap (choice_after c.args.source)) left c.loop-both.self.place c.loop-both.run c.loop-both.next c.loop-both.invariant.run
+    run_ends _ c.held_goes_on.ensures snap (view_of header snap (choice_after c.args.source)) left c.loop-both.self.position c.loop-both.run c.loop-both.next c.loop-both.invariant.run
     (sym c.joined.ensures.joined ∙ c.in_default.is) comes
 
 pub returns-in_err-next-clause-stands : goal.returns-in_err-next-clause-stands

@@ -12,18 +12,18 @@ use Rattle.zst_traverse.specs.Cells.{choice_after}
 use Rattle.zst_send.specs.Costs.{cells_due, cells_next, ended}
 use Rattle.zst_send.specs.DueItems.{DueFits, is_run, size_of_run}
 use Rattle.zst_send.specs.KnownPointers.{DueStands, IsAmong}
-use Rattle.zst_send.specs.Places.{ComesFirst, WalkFits}
+use Rattle.zst_send.specs.WalkPositions.{ComesFirst, WalkFits}
 use Rattle.zst_send.proofs.ItemRuns.{RunComes}
 use Rattle.zst_send.proofs.walk.Walk.lengthened.Given as goal
 
 abbrev pub invariant-loop-both : goal.invariant-loop-both
 invariant-loop-both g l = record {
   comes : (header : Header) (snap : DatedState) (left : List Item) → IsHonest l.io → SetHolds (blocks_of l.fn.io) l.set snap
-      → ComesFirst (blocks_of l.fn.io) snap (view_of header snap (choice_after l.source)) left l.fn.self.place (Some l.fn.run)
-      → RunComes (blocks_of l.io) snap (view_of header snap (choice_after l.source)) left l.self.place l.run l.next;
+      → ComesFirst (blocks_of l.fn.io) snap (view_of header snap (choice_after l.source)) left l.fn.self.position (Some l.fn.run)
+      → RunComes (blocks_of l.io) snap (view_of header snap (choice_after l.source)) left l.self.position l.run l.next;
   paid : (header : Header) (snap : DatedState) (left : List Item) → IsHonest l.io → SetIsTight (blocks_of l.fn.io) l.set snap
-      → ComesFirst (blocks_of l.fn.io) snap (view_of header snap (choice_after l.source)) left l.fn.self.place (Some l.fn.run)
-      → (disk_of l.io).calls + 64 * (cells_due snap l.fn.run + ended l.fn.self.place) ≤ (disk_of l.fn.io).calls + 64 * (cells_due snap l.run + (min 1 (cells_next snap l.next) + ended l.self.place));
+      → ComesFirst (blocks_of l.fn.io) snap (view_of header snap (choice_after l.source)) left l.fn.self.position (Some l.fn.run)
+      → (disk_of l.io).calls + 64 * (cells_due snap l.fn.run + ended l.fn.self.position) ≤ (disk_of l.fn.io).calls + 64 * (cells_due snap l.run + (min 1 (cells_next snap l.next) + ended l.self.position));
   stands : (images : List (List ℕ)) → Contains images (disk_of l.fn.io).seen → IsHonest l.io → IfSome l.next (DueStands (IsAmong images) l.set);
   walk : WalkFits l.self;
   run : is_run l.run ≡ true;

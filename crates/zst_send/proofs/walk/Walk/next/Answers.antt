@@ -17,7 +17,7 @@ use Rattle.zst_traverse.specs.Damage.{IsDamagedCell}
 use Rattle.zst_tree.specs.Damage.{IsSeen}
 use Rattle.zst_tree.proofs.Damage.{seen_before}
 use Rattle.zst_send.specs.DueItems.{AreHeld}
-use Rattle.zst_send.specs.Places.{ComesFirst, Gives, items_left}
+use Rattle.zst_send.specs.WalkPositions.{ComesFirst, Gives, items_left}
 use Rattle.zst_send.specs.declared.due_items.DueItems.{DueItems}
 use Rattle.zst_send.proofs.LookCosts.{given_counts}
 use Rattle.zst_send.proofs.ItemRuns.{gives_alone}
@@ -35,8 +35,8 @@ pub returns-in_default-clause-gives : goal.returns-in_default-clause-gives
 returns-in_default-clause-gives g c = λ header snap held honest holds walk.
     let has = blocks_of c.first.new.io in
     let view : View = view_of header snap (choice_after c.args.source) in
-    let first = subst (λ (d : Option DueItems). ComesFirst has snap view (items_left view c.args.self.now held) c.first.new.self.place d) c.in_default.is (c.in_ok-due.ensures.goes header snap held honest holds walk) in
-    (first.0, record { held_are = subst (λ (h : Option DueItems). AreHeld has h []) (sym c.in_ok-due.ensures.held) refl; place_is = first.1 })
+    let first = subst (λ (d : Option DueItems). ComesFirst has snap view (items_left view c.args.self.now held) c.first.new.self.position d) c.in_default.is (c.in_ok-due.ensures.goes header snap held honest holds walk) in
+    (first.0, record { held_are = subst (λ (h : Option DueItems). AreHeld has h []) (sym c.in_ok-due.ensures.held) refl; position_is = first.1 })
 
 pub returns-in_err-lengthened-clause-gives : goal.returns-in_err-lengthened-clause-gives
 returns-in_err-lengthened-clause-gives g c = λ header snap held honest holds walk.
@@ -46,7 +46,7 @@ returns-in_err-lengthened-clause-gives g c = λ header snap held honest holds wa
     let p = err_from_is_err_and c.from_residual-in_err-lengthened.result c.from_residual-in_err-lengthened.ensures.1 in
     let was = c.in_err-lengthened.ensures.looks.reads.honest honest in
     let on = look_on (λ (seen : List ℕ) (space : FreeSectors). SetHolds (Has seen space) c.args.set.now snap) c.in_ok-due.ensures.looks holds in
-    let first = subst (λ (d : Option DueItems). ComesFirst has snap view left c.first.new.self.place d) c.in-Some.is (c.in_ok-due.ensures.goes header snap held was holds walk) in
+    let first = subst (λ (d : Option DueItems). ComesFirst has snap view left c.first.new.self.position d) c.in-Some.is (c.in_ok-due.ensures.goes header snap held was holds walk) in
     rw (p.1, p.2) (c.in_err-lengthened.ensures.gives header snap left honest on first)
 
 pub returns-then-is_run-clause-gives : goal.returns-then-is_run-clause-gives
@@ -56,7 +56,7 @@ returns-then-is_run-clause-gives g c = λ header snap held honest holds walk.
     let left : List Item = items_left view c.args.self.now held in
     let was = c.in_ok-lengthened.ensures.looks.reads.honest honest in
     let on = look_on (λ (seen : List ℕ) (space : FreeSectors). SetHolds (Has seen space) c.args.set.now snap) c.in_ok-due.ensures.looks holds in
-    let first = subst (λ (d : Option DueItems). ComesFirst has snap view left c.first.new.self.place d) c.in-Some.is (c.in_ok-due.ensures.goes header snap held was holds walk) in
+    let first = subst (λ (d : Option DueItems). ComesFirst has snap view left c.first.new.self.position d) c.in-Some.is (c.in_ok-due.ensures.goes header snap held was holds walk) in
     c.in_ok-lengthened.ensures.gives header snap left honest on first
 
 pub returns-clause-gives : goal.returns-clause-gives
@@ -64,10 +64,10 @@ returns-clause-gives g c = λ header snap held honest holds walk.
     let has = blocks_of c.first.new.io in
     let view : View = view_of header snap (choice_after c.args.source) in
     let left : List Item = items_left view c.args.self.now held in
-    let place = c.first.new.self.place in
-    let first = subst (λ (d : Option DueItems). ComesFirst has snap view left place d) c.in-Some.is (c.in_ok-due.ensures.goes header snap held honest holds walk) in
-    let alone = gives_alone has snap view left place c.in-Some.due (sym c.is_run.ensures ∙ c.if-is_run.false) first in
-    subst (λ (h : Option DueItems). Gives has snap view left (record { place = place; held = h }) (Some c.in-Some.due)) (sym c.behind-self.ensures.behind) alone
+    let position = c.first.new.self.position in
+    let first = subst (λ (d : Option DueItems). ComesFirst has snap view left position d) c.in-Some.is (c.in_ok-due.ensures.goes header snap held honest holds walk) in
+    let alone = gives_alone has snap view left position c.in-Some.due (sym c.is_run.ensures ∙ c.if-is_run.false) first in
+    subst (λ (h : Option DueItems). Gives has snap view left (record { position = position; held = h }) (Some c.in-Some.due)) (sym c.behind-self.ensures.behind) alone
 
 pub returns-in_default-clause-stands : goal.returns-in_default-clause-stands
 returns-in_default-clause-stands g c = λ images among honest was. ((c.in_ok-due.ensures.stands images among honest was).0, tt)
@@ -99,7 +99,7 @@ returns-in_err-due-clause-few g c = λ header snap held honest tight walk.
 
 pub returns-in_default-clause-few : goal.returns-in_default-clause-few
 returns-in_default-clause-few g c = λ header snap held honest tight walk.
-    let ahead = c.in_ok-due.ensures.ahead snap honest tight walk.place_is in
+    let ahead = c.in_ok-due.ensures.ahead snap honest tight walk.position_is in
     let none = ap (cells_next snap) c.in_default.is in
     let kept : cells_next snap c.first.new.self.held ≡ 0 = ap (cells_next snap) c.in_ok-due.ensures.held in
     omega (arith, ahead, none, kept)
@@ -116,14 +116,14 @@ returns-then-is_run-clause-few g c = λ header snap held honest tight walk.
     let left : List Item = items_left view c.args.self.now held in
     let was = c.in_ok-lengthened.ensures.looks.reads.honest honest in
     let on = look_on (λ (seen : List ℕ) (space : FreeSectors). SetIsTight (Has seen space) c.args.set.now snap) c.in_ok-due.ensures.looks tight in
-    let first = subst (λ (d : Option DueItems). ComesFirst has snap view left c.first.new.self.place d) c.in-Some.is (c.in_ok-due.ensures.goes header snap held was tight.holds walk) in
-    let ahead = c.in_ok-due.ensures.ahead snap was tight walk.place_is in
+    let first = subst (λ (d : Option DueItems). ComesFirst has snap view left c.first.new.self.position d) c.in-Some.is (c.in_ok-due.ensures.goes header snap held was tight.holds walk) in
+    let ahead = c.in_ok-due.ensures.ahead snap was tight walk.position_is in
     let found = ap (cells_next snap) c.in-Some.is in
     omega (arith, ahead, found, c.in_ok-lengthened.ensures.few header snap left honest on first)
 
 pub returns-clause-few : goal.returns-clause-few
 returns-clause-few g c = λ header snap held honest tight walk.
-    let ahead = c.in_ok-due.ensures.ahead snap honest tight walk.place_is in
+    let ahead = c.in_ok-due.ensures.ahead snap honest tight walk.position_is in
     let found = ap (cells_next snap) c.in-Some.is in
     let given = given_counts snap c.in-Some.due (sym c.is_run.ensures ∙ c.if-is_run.false) in
     let held : cells_next snap c.behind-self.result ≡ 0 = ap (cells_next snap) c.behind-self.ensures.behind ∙ given.1 in

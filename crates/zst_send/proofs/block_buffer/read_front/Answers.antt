@@ -1,0 +1,5 @@
+use Rattle.zst_send.proofs.BlockDamage.{read_told}
+use Rattle.zst_send.proofs.block_buffer.read_front.Goals as goal
+
+pub returns-clause-damaged : goal.returns-clause-damaged
+returns-clause-damaged g c = λ honest. read_told _ _ _ _ c.read.result (c.read.ensures.answer honest)

@@ -1,0 +1,31 @@
+use Rattle.std.proofs.Common.{refl}
+use Rattle.std.proofs.lemmas.Result.{err_from_is_err_and}
+use Rattle.zst_send.proofs.BufferReads.{gives_none}
+use Rattle.zst_send.proofs.pending_record.PendingRecord.give.Goals as goal
+
+pub returns-in_err-count-clause-gives : goal.returns-in_err-count-clause-gives
+returns-in_err-count-clause-gives g c = λ left honest loaded pending.
+    let p = err_from_is_err_and c.from_residual.result c.from_residual.ensures.1 in
+    rw (p.1, p.2) (c.in_err-count.ensures.gives left honest loaded pending)
+
+pub returns-in_err-count-clause-copies : goal.returns-in_err-count-clause-copies
+returns-in_err-count-clause-copies g c =
+    let p = err_from_is_err_and c.from_residual.result c.from_residual.ensures.1 in
+    rw (p.1, p.2) c.in_err-count.ensures.copies
+
+pub returns-in_err-count-clause-more : goal.returns-in_err-count-clause-more
+returns-in_err-count-clause-more g c =
+    let p = err_from_is_err_and c.from_residual.result c.from_residual.ensures.1 in
+    rw (p.1, p.2) (gives_none c.args.self.now _ c.requires.pending)
+
+pub returns-clause-copies : goal.returns-clause-copies
+returns-clause-copies g c = c.in_ok-count.ensures.copies
+
+pub returns-clause-more : goal.returns-clause-more
+returns-clause-more g c = record {
+  some = c.in_ok-count.ensures.count.0;
+  moved = refl;
+  payload = refl;
+  stays = tt;
+  fits = record { head = c.requires.pending.head; payload = c.requires.pending.payload; given = c.in_ok-count.ensures.count.1 };
+}

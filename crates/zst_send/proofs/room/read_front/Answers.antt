@@ -1,5 +1,0 @@
-use Rattle.zst_send.proofs.BlockDamage.{read_told}
-use Rattle.zst_send.proofs.room.read_front.Goals as goal
-
-pub returns-clause-damaged : goal.returns-clause-damaged
-returns-clause-damaged g c = λ honest. read_told _ _ _ _ c.read.result (c.read.ensures.answer honest)
