@@ -28,11 +28,11 @@ module _ (sent : Sent) (start : Option Point) (here here' : DiskState) (out out'
   wrote : (result : Result (Unit {0}) Refusal) → SendsOf sent start here here' out out' result → (rest : List ℕ) × Wrote out out' (begun_text sent start) rest
   wrote result s =
       subst (λ (at : Option Point). (rest : List ℕ) × Wrote out out' (begun_text sent at) rest) s.begins
-      (subst (λ (planned : Result Sent PlanFault). (rest : List ℕ) × Wrote out out' (text_for (start_of s.asked) planned) rest) s.is (s.sends.sends s.pool s.honest s.reads).front)
+      (subst (λ (planned : Result Sent PlanFault). (rest : List ℕ) × Wrote out out' (text_for (start_of s.request) planned) rest) s.is (s.sends.sends s.pool s.honest s.reads).front)
 
   printed : SendsOf sent start here here' out out' (Ok tt) → Printed out out' (begun_text sent start)
   printed s =
-      let ends = subst (λ (planned : Result Sent PlanFault). SendEnds (start_of s.asked) planned here.faults here'.faults out out' (Ok tt)) s.is (s.sends.sends s.pool s.honest s.reads).ends in
+      let ends = subst (λ (planned : Result Sent PlanFault). SendEnds (start_of s.request) planned here.faults here'.faults out out' (Ok tt)) s.is (s.sends.sends s.pool s.honest s.reads).ends in
       subst (λ (at : Option Point). Printed out out' (begun_text sent at)) s.begins ends.printed
 
 all_of : (out out' : SinkState) (text : List ℕ) → Printed out out' text → out'.written ≡ out.written ++ text

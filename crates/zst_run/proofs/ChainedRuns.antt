@@ -97,7 +97,7 @@ module _ (can : RestCanBeSent) (tight : Bool) (token : Token) (receive : RecvAsk
 
 pub rest_stands : KeepsWhole → RestCanBeSent → RestIsReceived → OneMoreIsKept → (here here' there there' : DiskState) → SentRestStands here here' there there'
 rest_stands keeps can law kept here here' there there' tight token receive from into partial sent also state out out' other other' input input' sender honest receiver underway sends received piped =
-    let run = received.receiving in
+    let run = received.does in
     let text = text_sent (Rest token) from also here here' out out' piped.0 sender.reads sender.is honest sends piped.1 in
     let is = told can tight token receive from into sent also here there there' sender receiver in
     let of = of_rest can tight token receive from into sent also here there there' sender receiver run.pieces input input' (subst (λ (t : List ℕ). IsReadOf t input input') text piped.2) run.consumed in
@@ -120,7 +120,7 @@ rest_stands keeps can law kept here here' there there' tight token receive from 
 
 pub rests_so : KeepsWhole → RestCanBeSent → ResumedStopsAreProgress → (here there there' : DiskState) → RestsAreProgress here there there'
 rests_so keeps can law here there there' tight token receive from into partial sent also state result out out' input input' sender receiver underway received read =
-    let run = received.receiving in
+    let run = received.does in
     let of = of_rest can tight token receive from into sent also here there there' sender receiver run.pieces input input' read run.consumed in
     let gives = gives can tight token receive from into sent also here there there' sender receiver in
     let same = same_partial can tight token receive from into sent also here there there' sender receiver partial underway.there in
@@ -137,14 +137,14 @@ rests_so keeps can law here there there' tight token receive from into partial s
 pub chained_so : Fits → RestCanBeSent → (here there there' : DiskState) → RunsAreChained here there there'
 chained_so fits can here there there' = record {
   first = λ tight ask receive from into sent component base result out out' input input' sender receiver begins received read.
-      let run = received.receiving in
+      let run = received.does in
       let of : AreOfStream run.pieces sent None = pieces_read (begun_text sent None) input input' run.pieces read run.consumed in
       each_image (Chain sent receive.target component base) there there' tight receive receiver.uber receiver.rows into result out out' input input' receiver.honest receiver.reads receiver.tells received
       (λ n. Begun receive into (take n run.pieces) refl (into_is fits tight ask receive from into sent here there there' sender receiver) receiver.alone
       (matches fits tight ask receive from into sent here there there' sender receiver) begins (sendable fits tight ask receive from into sent here there there' sender receiver)
       (first_of_stream n run.pieces sent None of));
   next = λ tight token receive from into sent also component base result out out' input input' chain sender receiver received read.
-      let run = received.receiving in
+      let run = received.does in
       let is = told can tight token receive from into sent also here there there' sender receiver in
       let of = of_rest can tight token receive from into sent also here there there' sender receiver run.pieces input input' read run.consumed in
       each_image (Chain sent receive.target component base) there there' tight receive receiver.uber receiver.rows into result out out' input input' receiver.honest receiver.reads receiver.tells received
@@ -154,7 +154,7 @@ chained_so fits can here there there' = record {
 
 pub chains_so : KeepsWhole → RestCanBeSent → resumption.ChainsComplete → OneMoreIsKept → (here there there' : DiskState) → ChainsComplete here there there'
 chains_so keeps can law kept here there there' tight token receive from into sent also component base out out' input input' chain sender receiver received read =
-    let run = received.receiving in
+    let run = received.does in
     let is = told can tight token receive from into sent also here there there' sender receiver in
     let end = received_so tight receive into run.pieces there' input input' out out' received.answer (run.ends tight receiver.uber receiver.rows into receiver.honest receiver.reads receiver.tells) received.replied in
     let done = end.1 in

@@ -3,7 +3,6 @@ use Rattle.std.specs.Prelude.{false, Option, Some, None, Result, Ok, Err}
 use Rattle.std.proofs.Common.{◌≡◌, ◌≢◌, ◌⊎◌, inl, inr, ⊎_elim, ℕ, ◌≤◌, List, [], refl, sym, ap, ◌∙◌, subst, arith, Bool}
 use Rattle.zst_outside.specs.Causes.{Rose-earlier}
 use Rattle.zst_outside.specs.Images.{DiskState, Leaves, Leaves-weaker, Leaves-then, OnlyReads, OnlyReads-then, IsSynced}
-use Rattle.zst_outside.specs.States.{SinkState}
 use Rattle.zst_space.specs.FreeSectors.{FreeSectors}
 use Rattle.zst_block.specs.Blocks.{SparesTaken}
 use Rattle.zst_uber.specs.declared.uber.Uber.{Uber}
@@ -38,8 +37,7 @@ use Rattle.zst_pool.specs.Plans.{Plans, indices_end, numbers_end}
 use Rattle.zst_pool.specs.StepAnswers.{BeforeOrAfter, StepAnswer}
 use Rattle.zst_pool.specs.declared.fault.PoolFault.{PoolFault}
 use Rattle.zst_pool.specs.declared.fault.PoolFault.TheVariants as faults
-use Rattle.zst_run.specs.Commands.{OldOrReads, IsPoolRefusal, OfStepping, Answers, Opened, Opens, Planned, Ran, Stepping, Steps}
-use Rattle.zst_run.specs.Replies.{Replied}
+use Rattle.zst_run.specs.Commands.{OldOrReads, IsPoolRefusal, OfStepping, Answers, Opened, Opens, Planned, Ran, Stepping}
 
 -- ---- plans' faults as refusals
 
@@ -481,12 +479,3 @@ module _ (laws : KeepLaws) (one : ReadsOne) (stay : ReadsStay) (now : ℕ) (comm
     idle = λ not. OnlyReads-then here mid here' reads (looks not);
     later = omega (arith, later, cause.later);
   }
-
--- a refused command writes nothing
-pub steps_refused : (now : ℕ) (command : Command) (here here' : DiskState) (out : SinkState) (refusal : Refusal)
-    → Stepping now command here here' (Err refusal) → Steps now command here here' out out (Err refusal)
-steps_refused now command here here' out refusal stepping = record { answer = Err refusal; stepping = stepping; replied = (refl, refl) }
-
-pub steps_replied : (now : ℕ) (command : Command) (here here' : DiskState) (out out' : SinkState) (lines : List (List ℕ)) (result : Result (Unit {0}) Refusal)
-    → Stepping now command here here' (Ok lines) → Replied out out' (Ok lines) result → Steps now command here here' out out' result
-steps_replied now command here here' out out' lines result stepping replied = record { answer = Ok lines; stepping = stepping; replied = replied }

@@ -2,6 +2,7 @@
 use Rattle.std.proofs.Common.{◌≡◌, ◌≢◌, inl, inr, ◌⊎◌, ℕ, ◌≤◌, ◌+◌, ◌-◌, ◌*◌, Bool, List, [], ◌∷◌, ◌++◌, length, None, Result, Ok, Err, refl, sym, ap, ◌∙◌, subst, arith}
 use Rattle.std.specs.Prelude.{IfErr}
 use Rattle.std.specs.List.{concat}
+use Rattle.std.specs.Result.{result_map_both}
 use Rattle.std.proofs.lemmas.List.{append-nil, append_cancel_left, length-append}
 use Rattle.zst_outside.specs.Images.{DiskState}
 use Rattle.zst_outside.specs.States.{SourceState, SinkState, Gave}
@@ -33,7 +34,8 @@ use Rattle.zst_run.specs.Receives.{ArePieces, IsReceiveRefusal, ReceiveEnds, Ref
 use Rattle.zst_run.specs.Replies.{Replied}
 use Rattle.zst_run.specs.Runs.{status_of}
 use Rattle.zst_run.specs.Sends.{SendEnds, TextEnds, start_of}
-use Rattle.zst_run.specs.Tokens.{AnswersBy, OfToken, as_answer, token_lines}
+use Rattle.zst_run.specs.Tokens.{AnswersBy, OfToken}
+use Rattle.zst_run.proofs.ImageTokens.{as_answer}
 
 pub done_is_told : DoneIsTold
 done_is_told note note' status (Ok done) alone told = inl told.0
@@ -53,9 +55,9 @@ text_done text before after out out' (Err refusals.OutOfMemory) within disk sink
 text_done text before after out out' (Err other) within disk sink ends = absurd ends
 
 pub sends_complete : (here here' : DiskState) → SendsComplete here here'
-sends_complete here here' asked pool sent out out' result honest reads is within disk sink sends =
-    text_done (begun_text sent (start_of asked)) here.faults here'.faults out out' result within disk sink
-    (subst (λ (planned : Result Sent PlanFault). SendEnds (start_of asked) planned here.faults here'.faults out out' result) is (sends.sends pool honest reads).ends)
+sends_complete here here' request pool sent out out' result honest reads is within disk sink sends =
+    text_done (begun_text sent (start_of request)) here.faults here'.faults out out' result within disk sink
+    (subst (λ (planned : Result Sent PlanFault). SendEnds (start_of request) planned here.faults here'.faults out out' result) is (sends.sends pool honest reads).ends)
 
 -- ---- receives
 
@@ -111,7 +113,7 @@ answer_done out out' (Err refusal) result sink alone replied =
 
 pub receives_complete : (here here' : DiskState) → ReceivesComplete here here'
 receives_complete here here' tight ask uber rows pool text input input' out out' result honest reads tells has within takes room disk source sink run =
-    let went = run.receiving in
+    let went = run.does in
     let found = of_front text input input' went.pieces went.are_pieces went.consumed has in
     let short : (need largest : ℕ) → run.answer ≡ Err (refusals.Full need largest) → ⊥ =
     λ need largest full. let costs = went.cost honest need largest full in room costs.0 costs.1 went.pieces costs.2 found.1 costs.3 in
@@ -139,8 +141,8 @@ pub steps_complete : (here here' : DiskState) → StepsComplete here here'
 steps_complete here here' tight now command uber rows pool done out out' result honest reads is room disk sink steps =
     answer_done out out' steps.answer result sink
     (λ refusal e. step_refusal tight command uber rows pool done here here' (stepped [] now command pool) refusal is room disk
-    (subst (λ (answer : Result (List (List ℕ)) Refusal). IfErr answer (IsPoolRefusal OfStepping here here')) e steps.stepping.refused)
-    (subst (λ (answer : Result (List (List ℕ)) Refusal). Answers tight command uber rows pool here' (stepped [] now command pool) answer) e (steps.stepping.answers tight uber rows pool honest reads)))
+    (subst (λ (answer : Result (List (List ℕ)) Refusal). IfErr answer (IsPoolRefusal OfStepping here here')) e steps.does.refused)
+    (subst (λ (answer : Result (List (List ℕ)) Refusal). Answers tight command uber rows pool here' (stepped [] now command pool) answer) e (steps.does.answers tight uber rows pool honest reads)))
     steps.replied
 
 create_refusal : (sectors id : ℕ) (here here' : DiskState) (refusal : Refusal) → latest here.seen ≡ None → 512 * sectors ≤ here.size → NoneCounted here.faults here'.faults
@@ -155,8 +157,8 @@ pub creates_complete : (here here' : DiskState) → CreatesComplete here here'
 creates_complete here here' sectors id out out' result honest none room disk sink creates =
     answer_done out out' creates.answer result sink
     (λ refusal e. create_refusal sectors id here here' refusal none room disk
-    (subst (λ (answer : Result (List (List ℕ)) Refusal). IfErr answer (IsPoolRefusal OfMaking here here')) e creates.making.refused)
-    (subst (λ (answer : Result (List (List ℕ)) Refusal). Makes sectors id here here' answer) e (creates.making.makes honest)))
+    (subst (λ (answer : Result (List (List ℕ)) Refusal). IfErr answer (IsPoolRefusal OfMaking here here')) e creates.does.refused)
+    (subst (λ (answer : Result (List (List ℕ)) Refusal). Makes sectors id here here' answer) e (creates.does.makes honest)))
     creates.replied
 
 token_refusal : (dataset : List ℕ) (token : Token) (told : Result Token PlanFault) (here here' : DiskState) (refusal : Refusal) → told ≡ Ok token → NoneCounted here.faults here'.faults
@@ -167,7 +169,7 @@ token_refusal dataset token told here here' refusal is disk refused answers =
     absurd (let both : Err refusal ≡ Ok token = answers ∙ ap as_answer is in cc)
 
 token_done : (out out' : SinkState) (answer : Result Token Refusal) (result : Result (Unit {0}) Refusal) → NoneCounted out.faults out'.faults
-    → ((refusal : Refusal) → answer ≡ Err refusal → refusal ≡ refusals.OutOfMemory) → Replied out out' (token_lines answer) result → DoneOrNoMemory result
+    → ((refusal : Refusal) → answer ≡ Err refusal → refusal ≡ refusals.OutOfMemory) → Replied out out' (result_map_both (λ token. token_text token ∷ []) (λ refusal. refusal) answer) result → DoneOrNoMemory result
 token_done out out' (Ok token) result sink alone replied = replied_done out out' (token_text token ∷ []) result sink replied
 token_done out out' (Err refusal) result sink alone replied = inr (subst (λ (r : Refusal). result ≡ Err r) (alone refusal refl) replied.0)
 

@@ -2,11 +2,10 @@
 use Rattle.std.specs.Prelude.{Result, Ok, Err, IfErr}
 use Rattle.std.specs.List.{concat}
 use Rattle.std.proofs.Common.{◌≡◌, ◌≢◌, inl, inr, ℕ, ◌<◌, ◌≤◌, Bool, false, List, [], refl, sym, ap, ◌∙◌, subst, arith}
-use Rattle.std.proofs.lemmas.Bool.{false≢true}
 use Rattle.std.proofs.lemmas.List.{append-nil}
 use Rattle.zst_outside.specs.Causes.{Rose-earlier}
 use Rattle.zst_outside.specs.Images.{DiskState, IsSynced, Leaves, Leaves-then, Leaves-weaker, OnlyReads}
-use Rattle.zst_outside.specs.States.{SourceState, SinkState, Gave}
+use Rattle.zst_outside.specs.States.{SourceState, Gave}
 use Rattle.zst_uber.specs.declared.uber.Uber.{Uber}
 use Rattle.zst_model.specs.declared.refusals.refusal.Refusal.{Refusal}
 use Rattle.zst_model.specs.declared.refusals.refusal.Refusal.TheVariants as refusals
@@ -31,15 +30,14 @@ use Rattle.zst_recv.specs.ReceiveSteps.{Waits}
 use Rattle.zst_recv.specs.Stages.{TellsTarget}
 use Rattle.zst_recv.specs.declared.fault.RecvFault.{RecvFault}
 use Rattle.zst_recv.specs.declared.fault.RecvFault.TheVariants as faults
-use Rattle.zst_run.specs.Receives.{IsDamagedReceive, IsOnTheWay, IsReceiveRefusal, ReceiveEnds, ReceiveOpened, ReceiveRan, Receives, Receiving, SaysOfPlan, Stopped, CostMore}
-use Rattle.zst_run.specs.Replies.{Replied}
+use Rattle.zst_run.specs.Receives.{IsDamagedReceive, IsOnTheWay, IsReceiveRefusal, ReceiveEnds, ReceiveRan, Receiving, SaysOfPlan, Stopped, CostMore}
 use Rattle.zst_run.specs.ReceiveTurns.{ReadsAlong, Fed, IsEnd, IsReady, told}
 use Rattle.zst_run.specs.declared.receive.Receipt.{Receipt}
 use Rattle.zst_run.proofs.CommandLemmas.{images_after, of_plan, open_alive, open_disk, rests_read}
 use Rattle.zst_run.proofs.ReceiveDamage.{damaged_here, told_damaged}
 use Rattle.zst_run.proofs.FedPieces.{none_fed}
 use Rattle.zst_run.proofs.ReceiveLemmas.{says_other}
-use Rattle.zst_run.proofs.ImageSends.{is_of_opening, pool_is_open}
+use Rattle.zst_run.proofs.ImageSends.{idle_says, is_of_opening, pool_is_open, ran_says}
 
 -- ---- where the pool can't be opened
 
@@ -89,13 +87,6 @@ unopened_ends tight ask here' input uber rows pool (opens.BadVersion version) wh
 unopened_ends tight ask here' input uber rows pool opens.DiskFault whole gives rests = tt
 unopened_ends tight ask here' input uber rows pool opens.OutOfMemory whole gives rests = nothing_fed tight ask here' uber rows pool whole (rests (λ is. absurd (cc is)))
 
-unopened_says : (ask : RecvAsk) (here here' : DiskState) (input : SourceState) (fault : OpenFault) → OnlyReads here here' → OpenAnswers here (Err fault) → ReceiveOpened ask [] here here' input input (Err (open_refusal fault))
-unopened_says ask here here' input (opens.Damaged sector stated found) reads is = inl (is, reads, refl)
-unopened_says ask here here' input opens.NoPool reads is = (is, reads, refl)
-unopened_says ask here here' input (opens.BadVersion version) reads is = (record { body = is.0; there = is.1; version = is.2; other = is.3 }, reads, refl)
-unopened_says ask here here' input opens.DiskFault reads is = inl (reads, refl)
-unopened_says ask here here' input opens.OutOfMemory reads is = inl (reads, refl)
-
 pub unopened : KeepsWhole → (ask : RecvAsk) (here here' : DiskState) (input : SourceState) (fault : OpenFault)
     → ((tight : Bool) (uber : Uber) (rows : Rows) (pool : Pool) → here'.honest → ReadsAs tight uber rows pool here.seen → GivesPool uber rows (Err fault))
     → (here'.honest → OpenAnswers here (Err fault)) → OnlyReads here here' → (fault ≢ opens.DiskFault → IsSynced here')
@@ -110,7 +101,7 @@ unopened whole ask here here' input fault there answer reads synced cause = reco
   ends = λ tight uber rows pool told is dates.
       unopened_ends tight ask here' input uber rows pool fault (whole.0 pool (whole.1 tight uber rows pool here.seen is)) (there tight uber rows pool told is)
       (λ alive. rests_read here here' uber rows pool is reads (synced alive));
-  opened = λ told. unopened_says ask here here' input fault reads (answer told);
+  opened = λ told. idle_says (List (List ℕ)) (OnlyReads here here' × (input ≡ input)) here (ReceiveRan ask [] here (Err (open_refusal fault))) fault (reads, refl) (answer told);
   text = says_other [] input input (open_refusal fault) (open_no_stream fault);
   cost = λ told need largest is. absurd (open_no_full fault need largest is);
   refused = record {
@@ -169,15 +160,9 @@ module _ (here mid here' : DiskState) (input input' : SourceState) where
     cause = λ e. source.1;
   }
 
-  opened_says : (ask : RecvAsk) (pieces : List (List ℕ)) (uber : Uber) (rows : Rows) (answer : Result (List (List ℕ)) Refusal) → ReceiveRan ask pieces here answer uber rows → IfErr answer (IsEnd mid here' input input')
-      → ReceiveOpened ask pieces here here' input input' answer
-  opened_says ask pieces uber rows (Ok lines) ran is = (uber, rows, ran)
-  opened_says ask pieces uber rows (Err refusals.NoPool) ran is = absurd (false≢true (sym (is_open refusals.NoPool is)))
-  opened_says ask pieces uber rows (Err (refusals.BadVersion number)) ran is = absurd (false≢true (sym (is_open (refusals.BadVersion number) is)))
-  opened_says ask pieces uber rows (Err (refusals.Damaged sector stated found)) ran is = inr (uber, rows, ran)
-  opened_says ask pieces uber rows (Err refusals.DiskFault) ran is = inr (uber, rows, ran)
-  opened_says ask pieces uber rows (Err refusals.OutOfMemory) ran is = inr (uber, rows, ran)
-  opened_says ask pieces uber rows (Err other) ran is = (uber, rows, ran)
+  behind_opening : (answer : Result (List (List ℕ)) Refusal) → IfErr answer (IsEnd mid here' input input') → IfErr answer (λ refusal. is_of_opening refusal ≡ false)
+  behind_opening (Ok lines) is = tt
+  behind_opening (Err refusal) is = is_open refusal is
 
   full_in : (answer : Result (List (List ℕ)) Refusal) (need largest : ℕ) → IfErr answer (IsEnd mid here' input input') → answer ≡ Err (refusals.Full need largest) → largest < need
   full_in (Ok lines) need largest is full = absurd (cc full)
@@ -222,27 +207,20 @@ module _ (ask : RecvAsk) (here mid here' : DiskState) (input input' : SourceStat
             images_after here here' (IsOnTheWay tight here ask pool f.pieces) (moments tight uber rows pool honest is dates) (λ c image. inl image) only now_left;
         ends = λ tight uber rows pool honest is dates. (f.says tight pool honest (ready tight uber rows pool honest is dates)).ends;
         opened = λ honest. let was = answers (falls honest) in
-            opened_says here mid here' input input' ask f.pieces kept.body was.1 (told result)
-            (record {
-              opens = (was.0, was.2, was.3);
-              full = λ need largest is. full_in here mid here' input input' (told result) need largest ends is;
-              planned = subst (λ (r : Rows). SaysOfPlan r ask (concat f.pieces) (told result)) was.4 (plans (concat f.pieces) f.consumed);
-              damaged = λ sector stated found is.
-                  damaged_here here mid kept.body ask.target sector stated found reads.seen (damaged sector stated found honest (told_damaged result (refusals.Damaged sector stated found) is));
-            }) ends;
+            ran_says (OnlyReads here here' × (input' ≡ input)) here (ReceiveRan ask f.pieces here (told result)) (told result) (
+              kept.body,
+              was.1,
+              record {
+                opens = (was.0, was.2, was.3);
+                full = λ need largest is. full_in here mid here' input input' (told result) need largest ends is;
+                planned = subst (λ (r : Rows). SaysOfPlan r ask (concat f.pieces) (told result)) was.4 (plans (concat f.pieces) f.consumed);
+                damaged = λ sector stated found is.
+                    damaged_here here mid kept.body ask.target sector stated found reads.seen (damaged sector stated found honest (told_damaged result (refusals.Damaged sector stated found) is));
+              },
+            ) (behind_opening here mid here' input input' (told result) ends);
         text = f.text;
         cost = λ honest need largest is. let was = answers (falls honest) in (kept.body, was.1, (was.0, was.2, was.3), subst (λ (r : Rows). CostMore (record { body = kept.body; dir = r }) f.pieces) was.4 (f.cost need largest is));
         refused = refused_in here mid here' input input' (told result) later ends;
         later = omega (arith, later, still);
         input_later = input_later;
       }
-
--- ---- its line
-
-pub receives_refused : (ask : RecvAsk) (here here' : DiskState) (input input' : SourceState) (out : SinkState) (refusal : Refusal) → Receiving ask here here' input input' (Err refusal)
-    → Receives ask here here' input input' out out (Err refusal)
-receives_refused ask here here' input input' out refusal is = record { answer = Err refusal; receiving = is; replied = (refl, refl) }
-
-pub receives_replied : (ask : RecvAsk) (here here' : DiskState) (input input' : SourceState) (out out' : SinkState) (lines : List (List ℕ)) (result : Result (Unit {0}) Refusal)
-    → Receiving ask here here' input input' (Ok lines) → Replied out out' (Ok lines) result → Receives ask here here' input input' out out' result
-receives_replied ask here here' input input' out out' lines result is replied = record { answer = Ok lines; receiving = is; replied = replied }

@@ -23,15 +23,16 @@ use Rattle.zst_image.specs.declared.pool_state.PoolState.{PoolState}
 use Rattle.zst_image.specs.declared.open_fault.OpenFault.{OpenFault}
 use Rattle.zst_image.specs.declared.open_fault.OpenFault.TheVariants as opens
 use Rattle.zst_tree.specs.Damage.{IsSeen}
+use Rattle.zst_tree.specs.declared.tree.ObjSet.{ObjSet}
 use Rattle.zst_pool.specs.Faults.{pool_refusal}
 use Rattle.zst_pool.specs.declared.fault.PoolFault.{PoolFault}
 use Rattle.zst_pool.specs.declared.fault.PoolFault.TheVariants as faults
 use Rattle.zst_send.specs.Damage.{IsDamagedSend}
 use Rattle.zst_send.specs.Sends.{begun_text}
-use Rattle.zst_run.specs.Commands.{Opens}
+use Rattle.zst_run.specs.Commands.{Opens, SaysOfOpening}
 use Rattle.zst_run.specs.SendPieces.{IfUnplanned}
 use Rattle.zst_run.specs.declared.send.SendRequest.{SendRequest}
-use Rattle.zst_run.specs.Sends.{IsSendRefusal, OfAsked, OfGiving, OfSending, RefusalEnds, SendOpened, SendRan, Sends, SendsBy, TellsOf, send_damage, start_of, to_send}
+use Rattle.zst_run.specs.Sends.{HasSet, IsDamagedRequest, IsSendRefusal, OfGiving, OfSending, RefusalEnds, SendRan, Sends, SendsBy, TellsOf, start_of, to_send}
 use Rattle.zst_run.proofs.CommandLemmas.{of_plan, open_alive, open_disk, told_before}
 use Rattle.zst_run.proofs.SendLemmas.{sent_earlier}
 
@@ -48,12 +49,13 @@ unopened_ends start planned before after out (opens.Damaged sector stated found)
 unopened_ends start planned before after out opens.NoPool is rose = absurd is
 unopened_ends start planned before after out (opens.BadVersion version) is rose = absurd is
 
-unopened_says : (asked : SendRequest) (here : DiskState) (out : SinkState) (fault : OpenFault) → OpenAnswers here (Err fault) → SendOpened asked here out out (Err (open_refusal fault))
-unopened_says asked here out (opens.Damaged sector stated found) is = inl (is, refl)
-unopened_says asked here out opens.NoPool is = (is, refl)
-unopened_says asked here out (opens.BadVersion version) is = (record { body = is.0; there = is.1; version = is.2; other = is.3 }, refl)
-unopened_says asked here out opens.DiskFault is = inl refl
-unopened_says asked here out opens.OutOfMemory is = inl refl
+-- what opening answers, where nothing was done but reading the image
+pub idle_says : (T : Type 0) (Idle : Type 0) (here : DiskState) (Is : Uber → Rows → Type 0) (fault : OpenFault) → Idle → OpenAnswers here (Err fault) → SaysOfOpening {T = T} Idle here Is (Err (open_refusal fault))
+idle_says T Idle here Is (opens.Damaged sector stated found) idle is = inl (is, idle)
+idle_says T Idle here Is opens.NoPool idle is = (is, idle)
+idle_says T Idle here Is (opens.BadVersion version) idle is = (record { body = is.0; there = is.1; version = is.2; other = is.3 }, idle)
+idle_says T Idle here Is opens.DiskFault idle is = inl idle
+idle_says T Idle here Is opens.OutOfMemory idle is = inl idle
 
 -- a fault of opening is never the output's, nor a full disk's
 open_no_sink : (fault : OpenFault) → open_refusal fault ≢ refusals.SinkFault
@@ -70,15 +72,15 @@ open_never_full (opens.BadVersion version) need largest is = absurd (cc is)
 open_never_full opens.DiskFault need largest is = absurd (cc is)
 open_never_full opens.OutOfMemory need largest is = absurd (cc is)
 
-pub unopened : (asked : SendRequest) (here here' : DiskState) (out : SinkState) (fault : OpenFault)
+pub unopened : (request : SendRequest) (here here' : DiskState) (out : SinkState) (fault : OpenFault)
     → ((tight : Bool) (uber : Uber) (rows : Rows) (pool : Pool) → here'.honest → ReadsAs tight uber rows pool here.seen → GivesPool uber rows (Err fault))
     → (here'.honest → OpenAnswers here (Err fault)) → OnlyReads here here' → image_faults.HasDiskCause {T = PoolState} opens.DiskFault here.faults here'.faults (Err fault)
-    → Sends asked here here' out out (Err (open_refusal fault))
-unopened asked here here' out fault there answer reads cause = record {
+    → Sends request here here' out out (Err (open_refusal fault))
+unopened request here here' out fault there answer reads cause = record {
   reads = reads;
   sends = λ pool told is.
-      unopened_ends (start_of asked) (to_send asked pool) here.faults here'.faults out fault (there false is.0 is.1 pool told is.2) (λ e. cause.fault (ap (λ (f : OpenFault). Err f) e));
-  opened = λ told. unopened_says asked here out fault (answer told);
+      unopened_ends (start_of request) (to_send request pool) here.faults here'.faults out fault (there false is.0 is.1 pool told is.2) (λ e. cause.fault (ap (λ (f : OpenFault). Err f) e));
+  opened = λ told. idle_says (Unit {0}) (out ≡ out) here (SendRan request here out out (Err (open_refusal fault))) fault refl (answer told);
   refused = record {
     pool = record { one = inl (fault, refl); alive = open_alive fault; cause = λ is. cause.fault (ap (λ (f : OpenFault). Err f) (open_disk fault is)) };
     never_full = open_never_full fault;
@@ -110,37 +112,38 @@ is_open refusal is =
     ⊎_elim (λ pool. ap is_of_opening pool.1 ∙ pool_is_open pool.0) (⊎_elim (λ sink. ap is_of_opening sink) (λ limit. ap is_of_opening limit)) is
 
 -- what an answer says of each plan of the rows in memory, and of damage
-pub record SaysOfRows (asked : SendRequest) (dir : Rows) (disk disk' : DiskState) (out out' : SinkState) (result : Result (Unit {0}) Refusal) : Type 0 where
-  pub planned : (pool : Pool) → AreNamed dir pool → IfUnplanned (to_send asked pool) out out' result
-  pub because : (pool : Pool) (fault : PlanFault) → AreNamed dir pool → result ≡ Err (refusals.Plan fault) → to_send asked pool ≡ Err fault
-  pub damaged : disk'.honest → TellsOf (OfAsked asked dir (send_damage disk)) result
+pub record SaysOfRows (request : SendRequest) (dir : Rows) (disk disk' : DiskState) (out out' : SinkState) (result : Result (Unit {0}) Refusal) : Type 0 where
+  pub planned : (pool : Pool) → AreNamed dir pool → IfUnplanned (to_send request pool) out out' result
+  pub because : (pool : Pool) (fault : PlanFault) → AreNamed dir pool → result ≡ Err (refusals.Plan fault) → to_send request pool ≡ Err fault
+  pub damaged : disk'.honest → TellsOf (IsDamagedRequest request dir disk) result
 
 -- so it is of the body and the rows that a pool was opened by
-ran : (asked : SendRequest) (here mid here' : DiskState) (out out' : SinkState) (kept : PoolState) (rows : Rows) (result : Result (Unit {0}) Refusal) → kept.dir ≡ kept_rows rows → Opens here kept.body rows
-    → OnlyReads here mid → here'.honest → SaysOfRows asked kept.dir mid here' out out' result → SendRan asked here out out' result kept.body rows
-ran asked here mid here' out out' kept rows result same opens reads honest says = record {
+ran : (request : SendRequest) (here mid here' : DiskState) (out out' : SinkState) (kept : PoolState) (rows : Rows) (result : Result (Unit {0}) Refusal) → kept.dir ≡ kept_rows rows → Opens here kept.body rows
+    → OnlyReads here mid → here'.honest → SaysOfRows request kept.dir mid here' out out' result → SendRan request here out out' result kept.body rows
+ran request here mid here' out out' kept rows result same opens reads honest says = record {
   opens = opens;
   planned = λ pool fault named refused. rw refused at (says.planned pool (rw same named.are_named));
   because = λ pool fault named is. says.because pool fault (rw same named.are_named) is;
   damaged = λ sector stated found is.
-      told_before here mid (λ seen size. OfAsked asked (kept_rows rows) (IsDamagedSend (IsSeen seen) size) sector stated found) reads
-      (subst (λ (r : Rows). OfAsked asked r (send_damage mid) sector stated found) same (says.damaged honest sector stated found is));
+      told_before here mid (λ seen size. (set : ObjSet) × HasSet request (kept_rows rows) set × IsDamagedSend (IsSeen seen) size set sector stated found) reads
+      (subst (λ (r : Rows). IsDamagedRequest request r mid sector stated found) same (says.damaged honest sector stated found is));
 }
 
-opened_says : (asked : SendRequest) (here : DiskState) (out out' : SinkState) (result : Result (Unit {0}) Refusal)
-    → ((uber : Uber) × (rows : Rows) × SendRan asked here out out' result uber rows) → IfErr result OfGiving → SendOpened asked here out out' result
-opened_says asked here out out' (Ok done) has is = has
-opened_says asked here out out' (Err refusals.NoPool) has is = absurd (false≢true (sym (is_open refusals.NoPool is)))
-opened_says asked here out out' (Err (refusals.BadVersion number)) has is = absurd (false≢true (sym (is_open (refusals.BadVersion number) is)))
-opened_says asked here out out' (Err (refusals.Damaged sector stated found)) has is = inr has
-opened_says asked here out out' (Err refusals.DiskFault) has is = inr has
-opened_says asked here out out' (Err refusals.OutOfMemory) has is = inr has
-opened_says asked here out out' (Err other) has is = has
+-- what is answered once a pool was opened
+pub ran_says : {T : Type 0} (Idle : Type 0) (here : DiskState) (Is : Uber → Rows → Type 0) (answer : Result T Refusal) → ((uber : Uber) × (rows : Rows) × Is uber rows) → IfErr answer (λ refusal. is_of_opening refusal ≡ false)
+    → SaysOfOpening Idle here Is answer
+ran_says Idle here Is (Ok value) has is = has
+ran_says Idle here Is (Err refusals.NoPool) has is = absurd (false≢true (sym is))
+ran_says Idle here Is (Err (refusals.BadVersion number)) has is = absurd (false≢true (sym is))
+ran_says Idle here Is (Err (refusals.Damaged sector stated found)) has is = inr has
+ran_says Idle here Is (Err refusals.DiskFault) has is = inr has
+ran_says Idle here Is (Err refusals.OutOfMemory) has is = inr has
+ran_says Idle here Is (Err other) has is = has
 
--- what it refused is one of its refusals
-of_giving : (mid here' : DiskState) (out out' : SinkState) (result : Result (Unit {0}) Refusal) → IfErr result (IsSendRefusal OfGiving mid here' out out') → IfErr result OfGiving
-of_giving mid here' out out' (Ok done) is = tt
-of_giving mid here' out out' (Err refusal) is = is.pool.one
+-- no refusal of it is one that only opening gives
+behind_opening : (mid here' : DiskState) (out out' : SinkState) (result : Result (Unit {0}) Refusal) → IfErr result (IsSendRefusal OfGiving mid here' out out') → IfErr result (λ refusal. is_of_opening refusal ≡ false)
+behind_opening mid here' out out' (Ok done) is = tt
+behind_opening mid here' out out' (Err refusal) is = is_open refusal is.pool.one
 
 whole_refusal : (here mid here' : DiskState) (out out' : SinkState) (result : Result (Unit {0}) Refusal) → here.faults ≤ mid.faults → IfErr result (IsSendRefusal OfGiving mid here' out out')
     → IfErr result (IsSendRefusal OfSending here here' out out')
@@ -170,20 +173,20 @@ runs here mid kept uber rows pool reads same is =
     (subst (λ (u : Uber). RunsBy None (Has here.seen (free_by u)) kept.dir pool) (sym same.0)
     (subst (λ (r : Rows). RunsBy None (Has here.seen (free_by uber)) r pool) (sym same.1) is.described.rows_are))
 
-pub opened : (asked : SendRequest) (here mid here' : DiskState) (out out' : SinkState) (kept : PoolState) (result : Result (Unit {0}) Refusal)
+pub opened : (request : SendRequest) (here mid here' : DiskState) (out out' : SinkState) (kept : PoolState) (result : Result (Unit {0}) Refusal)
     → ((tight : Bool) (uber : Uber) (rows : Rows) (pool : Pool) → mid.honest → ReadsAs tight uber rows pool here.seen → GivesPool uber rows (Ok kept))
     → (mid.honest → OpenAnswers here (Ok kept)) → OnlyReads here mid → here.faults ≤ mid.faults → OnlyReads mid here' → mid.faults ≤ here'.faults
-    → ((pool : Pool) → here'.honest → RunsBy None (Has mid.seen (free_by kept.body)) kept.dir pool → SendsBy (start_of asked) (to_send asked pool) mid.faults here'.faults out out' result)
-    → IfErr result (IsSendRefusal OfGiving mid here' out out') → SaysOfRows asked kept.dir mid here' out out' result
-    → Sends asked here here' out out' result
-opened asked here mid here' out out' kept result there answer reads later gave still gives refused says = record {
+    → ((pool : Pool) → here'.honest → RunsBy None (Has mid.seen (free_by kept.body)) kept.dir pool → SendsBy (start_of request) (to_send request pool) mid.faults here'.faults out out' result)
+    → IfErr result (IsSendRefusal OfGiving mid here' out out') → SaysOfRows request kept.dir mid here' out out' result
+    → Sends request here here' out out' result
+opened request here mid here' out out' kept result there answer reads later gave still gives refused says = record {
   reads = OnlyReads-then here mid here' reads gave;
   sends = λ pool told is.
-      sends_earlier (start_of asked) (to_send asked pool) here.faults mid.faults here'.faults out out' result later
+      sends_earlier (start_of request) (to_send request pool) here.faults mid.faults here'.faults out out' result later
       (gives pool told (runs here mid kept is.0 is.1 pool reads (there false is.0 is.1 pool (gave.honest told) is.2) is.2));
   opened = λ told. let was = answer (gave.honest told) in
-      opened_says asked here out out' result (kept.body, was.1, ran asked here mid here' out out' kept was.1 result was.4 (was.0, was.2, was.3) reads told says)
-      (of_giving mid here' out out' result refused);
+      ran_says (out' ≡ out) here (SendRan request here out out' result) result (kept.body, was.1, ran request here mid here' out out' kept was.1 result was.4 (was.0, was.2, was.3) reads told says)
+      (behind_opening mid here' out out' result refused);
   refused = whole_refusal here mid here' out out' result later refused;
   later = omega (arith, later, still);
 }

@@ -1,10 +1,12 @@
 -- What the line `token` tells, from what opening the pool and asking it say.
 use Rattle.std.proofs.Common.{◌≡◌, inl, inr, ℕ, ◌≤◌, Bool, false, List, Option, Result, Ok, Err, IfErr, refl, sym, ap, subst, None}
+use Rattle.std.specs.Result.{result_map_both}
 use Rattle.zst_outside.specs.Images.{DiskState, OnlyReads}
 use Rattle.zst_block.specs.Blocks.{Has}
 use Rattle.zst_uber.specs.declared.uber.Uber.{Uber}
 use Rattle.zst_model.specs.declared.refusals.plan_fault.PlanFault.{PlanFault}
 use Rattle.zst_model.specs.declared.refusals.plan_fault.PlanFault.TheVariants.{NoPartial}
+use Rattle.zst_model.specs.declared.refusals.refusal.Refusal.{Refusal}
 use Rattle.zst_model.specs.pools.Pool.{Pool}
 use Rattle.zst_model.specs.refusals.Refusal.{refusal_of}
 use Rattle.zst_dir.specs.RowNames.{AreNamed}
@@ -20,7 +22,7 @@ use Rattle.zst_image.specs.declared.open_fault.OpenFault.TheVariants as opens
 use Rattle.zst_recv.specs.Tokens.{token_told}
 use Rattle.zst_token.specs.declared.token.Token.{Token}
 use Rattle.zst_run.specs.Commands.{IsPoolRefusal}
-use Rattle.zst_run.specs.Tokens.{AnswersBy, OfToken, TellsToken, TokenOpened, TokenRan, as_answer}
+use Rattle.zst_run.specs.Tokens.{AnswersBy, OfToken, TellsToken, TokenOpened, TokenRan}
 use Rattle.zst_run.proofs.CommandLemmas.{open_alive, open_disk}
 
 -- ---- where the pool can't be opened
@@ -54,46 +56,50 @@ unopened dataset here here' fault there answer reads cause = record {
 
 -- ---- where it is opened
 
+-- what a pool tells, its fault as a refusal
+abbrev pub as_answer : Result Token PlanFault → Result Token Refusal
+as_answer told = result_map_both (λ token. token) refusal_of told
+
 -- a pool that tells no token tells E14
 abbrev pub IsMissing : List ℕ → Result Token PlanFault → Type 0
 IsMissing dataset told = IfErr told (λ fault. fault ≡ NoPartial dataset)
 
-asked_answers : (told asked : Result Token PlanFault) → asked ≡ told → (dataset : List ℕ) → IsMissing dataset asked → AnswersBy told (as_answer asked)
-asked_answers told (Ok token) same dataset missing = ap as_answer same
-asked_answers told (Err fault) same dataset missing =
+found_answers : (told found : Result Token PlanFault) → found ≡ told → (dataset : List ℕ) → IsMissing dataset found → AnswersBy told (as_answer found)
+found_answers told (Ok token) same dataset missing = ap as_answer same
+found_answers told (Err fault) same dataset missing =
     subst (λ (f : PlanFault). AnswersBy told (Err (refusal_of f))) (sym missing) (subst (λ (f : PlanFault). Err (refusal_of f) ≡ as_answer told) missing (ap as_answer same))
 
-asked_says : (dataset : List ℕ) (here : DiskState) (asked : Result Token PlanFault) → IsMissing dataset asked → ((uber : Uber) × (rows : Rows) × TokenRan dataset here (as_answer asked) uber rows)
-    → TokenOpened dataset here (as_answer asked)
-asked_says dataset here (Ok token) missing has = has
-asked_says dataset here (Err fault) missing has =
+found_says : (dataset : List ℕ) (here : DiskState) (found : Result Token PlanFault) → IsMissing dataset found → ((uber : Uber) × (rows : Rows) × TokenRan dataset here (as_answer found) uber rows)
+    → TokenOpened dataset here (as_answer found)
+found_says dataset here (Ok token) missing has = has
+found_says dataset here (Err fault) missing has =
     subst (λ (f : PlanFault). TokenOpened dataset here (Err (refusal_of f))) (sym missing)
     (subst (λ (f : PlanFault). (uber : Uber) × (rows : Rows) × TokenRan dataset here (Err (refusal_of f)) uber rows) missing has)
 
-asked_refused : (dataset : List ℕ) (here here' : DiskState) (asked : Result Token PlanFault) → IsMissing dataset asked → IfErr (as_answer asked) (IsPoolRefusal (OfToken dataset) here here')
-asked_refused dataset here here' (Ok token) missing = tt
-asked_refused dataset here here' (Err fault) missing =
+found_refused : (dataset : List ℕ) (here here' : DiskState) (found : Result Token PlanFault) → IsMissing dataset found → IfErr (as_answer found) (IsPoolRefusal (OfToken dataset) here here')
+found_refused dataset here here' (Ok token) missing = tt
+found_refused dataset here here' (Err fault) missing =
     subst (λ (f : PlanFault). IsPoolRefusal (OfToken dataset) here here' (refusal_of f)) (sym missing)
     (record { one = inr refl; alive = λ is. absurd (cc is); cause = λ is. absurd (cc is) })
 
-pub opened : (dataset : List ℕ) (here here' : DiskState) (kept : PoolState) (asked : Result Token PlanFault)
+pub opened : (dataset : List ℕ) (here here' : DiskState) (kept : PoolState) (found : Result Token PlanFault)
     → ((tight : Bool) (uber : Uber) (rows : Rows) (pool : Pool) → here'.honest → ReadsAs tight uber rows pool here.seen → GivesPool uber rows (Ok kept))
     → (here'.honest → OpenAnswers here (Ok kept)) → OnlyReads here here' → here.faults ≤ here'.faults
-    → ((pool : Pool) → AreNamed kept.dir pool → asked ≡ token_told dataset pool)
-    → ((bound : Option ℕ) (image : List ℕ) (space : FreeSectors) (pool : Pool) → RunsBy bound (Has image space) kept.dir pool → asked ≡ token_told dataset pool) → IsMissing dataset asked
-    → TellsToken dataset here here' (as_answer asked)
-opened dataset here here' kept asked there answer reads later named runs missing = record {
+    → ((pool : Pool) → AreNamed kept.dir pool → found ≡ token_told dataset pool)
+    → ((bound : Option ℕ) (image : List ℕ) (space : FreeSectors) (pool : Pool) → RunsBy bound (Has image space) kept.dir pool → found ≡ token_told dataset pool) → IsMissing dataset found
+    → TellsToken dataset here here' (as_answer found)
+opened dataset here here' kept found there answer reads later named runs missing = record {
   reads = reads;
   answers = λ pool told is.
       let gives = there false is.0 is.1 pool told is.2 in
-      asked_answers (token_told dataset pool) asked
+      found_answers (token_told dataset pool) found
       (runs None here.seen (free_by is.0) pool (subst (λ (r : Rows). RunsBy None (Has here.seen (free_by is.0)) r pool) (sym gives.1) is.2.described.rows_are)) dataset missing;
   opened = λ told. let was = answer told in
-      asked_says dataset here asked missing (
+      found_says dataset here found missing (
         kept.body,
         was.1,
         record { opens = (was.0, was.2, was.3); told = λ pool names. ap as_answer (named pool (subst (λ (r : Rows). AreNamed r pool) (sym was.4) names.are_named)) },
       );
-  refused = asked_refused dataset here here' asked missing;
+  refused = found_refused dataset here here' found missing;
   later = later;
 }

@@ -5,6 +5,7 @@ pub mod CommandLemmas
 pub mod LineRanges
 pub mod NewPools
 pub mod ReplyLines
+pub mod LaterDisks
 pub mod SendLemmas
 pub mod ImageSends
 pub mod AlikeSends
@@ -21,7 +22,7 @@ pub mod ImageReceives
 pub mod ReceiptLine
 pub mod PipedRuns
 pub mod ChainedRuns
+pub mod ImageTokens
 pub mod CompleteRuns
 pub mod TurnEnds
-pub mod ImageTokens
 pub mod RestLemmas

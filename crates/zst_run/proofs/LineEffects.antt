@@ -7,14 +7,15 @@ use Rattle.zst_line.specs.declared.line.Line.TheVariants.{Dump, Create, Step, Re
 use Rattle.zst_run.specs.Devices.{Devices}
 use Rattle.zst_plan.specs.declared.receive.RecvAsk.{RecvAsk}
 use Rattle.zst_script.specs.Asks.{ask_of, receipt_of}
-use Rattle.zst_run.specs.LineEffects.{DoesLine, asked, told_of, wanted}
-use Rattle.zst_run.specs.Receives.{Receives}
+use Rattle.zst_run.specs.LineEffects.{DoesLine, send_of, token_dataset_of, receive_of}
+use Rattle.zst_run.specs.Receives.{Receiving}
+use Rattle.zst_run.specs.Replies.{Replies}
 use Rattle.zst_run.specs.declared.send.SendRequest.{SendRequest}
 use Rattle.zst_run.specs.declared.send.SendRequest.TheVariants.{Named, Rest}
 use Rattle.zst_run.specs.Sends.{Sends}
 use Rattle.zst_run.specs.Tokens.{Tokens}
 
-pub does_send : {D : Type 0} → (state : D → DiskState) (now : ℕ) (line : Line) (ask : SendRequest) (old new : Devices D) (result : Result (Unit {0}) Refusal) → asked line ≡ Some ask
+pub does_send : {D : Type 0} → (state : D → DiskState) (now : ℕ) (line : Line) (ask : SendRequest) (old new : Devices D) (result : Result (Unit {0}) Refusal) → send_of line ≡ Some ask
     → Sends ask (state old.here) (state new.here) old.out new.out result → new.input ≡ old.input → DoesLine state now line old new result
 does_send state now (Send image from redacts snapshot) ask old new result is sends input =
     let same : Named (ask_of from redacts snapshot) ≡ ask = cc is in
@@ -33,11 +34,11 @@ does_send state now (Gen image steps) ask old new result is sends input = absurd
 does_send state now (Reclaim image) ask old new result is sends input = absurd (cc is)
 does_send state now (Replay here there) ask old new result is sends input = absurd (cc is)
 
-pub does_receive : {D : Type 0} → (state : D → DiskState) (now : ℕ) (line : Line) (ask : RecvAsk) (old new : Devices D) (result : Result (Unit {0}) Refusal) → wanted line ≡ Some ask
-    → Receives ask (state old.here) (state new.here) old.input new.input old.out new.out result → DoesLine state now line old new result
+pub does_receive : {D : Type 0} → (state : D → DiskState) (now : ℕ) (line : Line) (ask : RecvAsk) (old new : Devices D) (result : Result (Unit {0}) Refusal) → receive_of line ≡ Some ask
+    → Replies (Receiving ask (state old.here) (state new.here) old.input new.input) old.out new.out result → DoesLine state now line old new result
 does_receive state now (Receive image keeps forces origin target) ask old new result is receives =
     let same : receipt_of keeps forces origin target ≡ ask = cc is in
-    subst (λ (a : RecvAsk). Receives a (state old.here) (state new.here) old.input new.input old.out new.out result) (sym same) receives
+    subst (λ (a : RecvAsk). Replies (Receiving a (state old.here) (state new.here) old.input new.input) old.out new.out result) (sym same) receives
 does_receive state now Dump ask old new result is receives = absurd (cc is)
 does_receive state now (Create image sectors id) ask old new result is receives = absurd (cc is)
 does_receive state now (Step image command) ask old new result is receives = absurd (cc is)
@@ -50,7 +51,7 @@ does_receive state now (Gen image steps) ask old new result is receives = absurd
 does_receive state now (Reclaim image) ask old new result is receives = absurd (cc is)
 does_receive state now (Replay here there) ask old new result is receives = absurd (cc is)
 
-pub does_tell : {D : Type 0} → (state : D → DiskState) (now : ℕ) (line : Line) (dataset : List ℕ) (old new : Devices D) (result : Result (Unit {0}) Refusal) → told_of line ≡ Some dataset
+pub does_tell : {D : Type 0} → (state : D → DiskState) (now : ℕ) (line : Line) (dataset : List ℕ) (old new : Devices D) (result : Result (Unit {0}) Refusal) → token_dataset_of line ≡ Some dataset
     → Tokens dataset (state old.here) (state new.here) old.out new.out result → new.input ≡ old.input → DoesLine state now line old new result
 does_tell state now (Token image name) dataset old new result is tells input =
     let same : name ≡ dataset = cc is in

@@ -13,8 +13,8 @@ use Rattle.zst_image.specs.Reads.{Reads, Rests, new_pool}
 use Rattle.zst_image.specs.declared.create_fault.CreateFault.{CreateFault}
 use Rattle.zst_image.specs.declared.create_fault.CreateFault.TheVariants.{Exists, TooSmall, DiskFault, OutOfMemory}
 use Rattle.zst_image.specs.declared.pool_state.PoolState.{PoolState}
-use Rattle.zst_run.specs.Commands.{Creates, IsPoolRefusal, Makes, OfMaking}
-use Rattle.zst_run.specs.Replies.{Replied}
+use Rattle.zst_run.specs.Commands.{IsPoolRefusal, Makes, Making, OfMaking}
+use Rattle.zst_run.specs.Replies.{Replied, Replies}
 
 pub makes_done : (sectors id : ℕ) (here here' : DiskState) (kept : PoolState) → CreateAnswers here.size (latest here.seen) sectors (Ok kept)
     → IsNew sectors kept → ((tight : Bool) → Rests tight here' kept.body kept.dir (new_pool id)) → Makes sectors id here here' (Ok (ok_line 1 ∷ []))
@@ -47,10 +47,10 @@ refused_create here here' fault cause = record { one = (fault, refl); alive = cr
 pub creates_refused : (sectors id : ℕ) (here here' : DiskState) (out : SinkState) (fault : CreateFault)
     → (here'.honest → CreateAnswers here.size (latest here.seen) sectors (Err fault)) → RefusedLeaves here here' fault
     → ((tight : Bool) → here'.honest → Leaves here here' (λ c. ((d : List ℕ) × here.images d × (latest c ≡ latest d)) ⊎ Reads tight (new_pool id) c))
-    → HasDiskCause {T = PoolState} DiskFault here.faults here'.faults (Err fault) → Creates sectors id here here' out out (Err (create_refusal fault))
+    → HasDiskCause {T = PoolState} DiskFault here.faults here'.faults (Err fault) → Replies (Making sectors id here here') out out (Err (create_refusal fault))
 creates_refused sectors id here here' out fault answers left moments cause = record {
   answer = Err (create_refusal fault);
-  making = record {
+  does = record {
     moments = moments;
     makes = λ told. makes_refused sectors id here here' fault (answers told) left;
     refused = refused_create here here' fault cause;
@@ -63,10 +63,10 @@ creates_refused sectors id here here' out fault answers left moments cause = rec
 pub creates_made : (sectors id : ℕ) (here here' : DiskState) (out out' : SinkState) (kept : PoolState) (result : Result (Unit {0}) Refusal)
     → (here'.honest → CreateAnswers here.size (latest here.seen) sectors (Ok kept)) → IsNew sectors kept → ((tight : Bool) → here'.honest → Rests tight here' kept.body kept.dir (new_pool id))
     → ((tight : Bool) → here'.honest → Leaves here here' (λ c. ((d : List ℕ) × here.images d × (latest c ≡ latest d)) ⊎ Reads tight (new_pool id) c))
-    → here.faults ≤ here'.faults → Replied out out' (Ok (ok_line 1 ∷ [])) result → Creates sectors id here here' out out' result
+    → here.faults ≤ here'.faults → Replied out out' (Ok (ok_line 1 ∷ [])) result → Replies (Making sectors id here here') out out' result
 creates_made sectors id here here' out out' kept result answers new made moments later replied = record {
   answer = Ok (ok_line 1 ∷ []);
-  making = record {
+  does = record {
     moments = moments;
     makes = λ told. makes_done sectors id here here' kept (answers told) new (λ tight. made tight told);
     refused = tt;

@@ -36,9 +36,9 @@ use Rattle.zst_replication.specs.Outcomes.{HasNothing, HasOneMore, Progress, bas
 use Rattle.zst_replication.specs.Replicas.{AreOfStream, CutLeavesNothing, IsSendable, LeftIsKept, MatchesBase, SentIsReceived, WaitedForEach}
 use Rattle.zst_replication.specs.Replicas as replicas
 use Rattle.zst_replication.specs.Soundness.{ReceivesKeepSound}
-use Rattle.zst_run.specs.Receives.{IsOnTheWay, Keeps, ReceiveEnds, Received, Receives, Refused, Stopped, Waited}
+use Rattle.zst_run.specs.Receives.{IsOnTheWay, Keeps, ReceiveEnds, Received, Receiving, Refused, Stopped, Waited}
 use Rattle.zst_run.specs.Replication.{IsReadOf, IsReceiver, IsSender, RefusedLeavesNothing, SentSnapshotStands, SoundStaysSound, SourcesStillRemember, StopsAreProgress}
-use Rattle.zst_run.specs.Replies.{Replied}
+use Rattle.zst_run.specs.Replies.{Replied, Replies}
 use Rattle.zst_run.specs.declared.send.SendRequest.{SendRequest}
 use Rattle.zst_run.specs.declared.send.SendRequest.TheVariants.{Named}
 use Rattle.zst_run.specs.Sends.{SendEnds, Sends, start_of, to_send}
@@ -59,11 +59,11 @@ whole laws tight uber rows pool image reads = laws.0.0 pool (laws.1 tight uber r
 -- ---- what was sent and read
 
 -- a run that sends with status 0 writes the whole text
-pub text_sent : (asked : SendRequest) (from : Pool) (sent : Sent) (here here' : DiskState) (out out' : SinkState) (text : List ℕ)
-    → Reads false from here.seen → to_send asked from ≡ Ok sent → here'.honest → Sends asked here here' out out' (Ok tt) → out'.written ≡ out.written ++ text
-    → text ≡ begun_text sent (start_of asked)
-text_sent asked from sent here here' out out' text reads plan honest sends is =
-    let ends = subst (λ (planned : Result Sent PlanFault). SendEnds (start_of asked) planned here.faults here'.faults out out' (Ok tt)) plan (sends.sends from honest reads).ends in
+pub text_sent : (request : SendRequest) (from : Pool) (sent : Sent) (here here' : DiskState) (out out' : SinkState) (text : List ℕ)
+    → Reads false from here.seen → to_send request from ≡ Ok sent → here'.honest → Sends request here here' out out' (Ok tt) → out'.written ≡ out.written ++ text
+    → text ≡ begun_text sent (start_of request)
+text_sent request from sent here here' out out' text reads plan honest sends is =
+    let ends = subst (λ (planned : Result Sent PlanFault). SendEnds (start_of request) planned here.faults here'.faults out out' (Ok tt)) plan (sends.sends from honest reads).ends in
     let wrote = ends.printed.wrote in
     append_cancel_left out.written text wrote.printed (sym is ∙ wrote.appended) ∙ sym (append-nil wrote.printed) ∙ sym wrote.is
 
@@ -125,7 +125,7 @@ received_so tight ask pool pieces there' input input' out out' (Err refusal) end
 
 pub snapshot_stands : KeepsWhole → Fits → SentIsReceived → OneMoreIsKept → (here here' there there' : DiskState) → SentSnapshotStands here here' there there'
 snapshot_stands keeps fits law kept here here' there there' tight ask receive from into sent out out' other other' input input' sender honest receiver sends received piped =
-    let run = received.receiving in
+    let run = received.does in
     let text = text_sent (Named ask) from sent here here' out out' piped.0 sender.reads sender.is honest sends piped.1 in
     let of : AreOfStream run.pieces sent None =
     pieces_read (begun_text sent None) input input' run.pieces (subst (λ (t : List ℕ). IsReadOf t input input') text piped.2) run.consumed in
@@ -188,7 +188,7 @@ module _ (law : CutLeavesNothing) (left : LeftIsKept) (tight : Bool) (ask : Recv
 
 pub refused_so : KeepsWhole → CutLeavesNothing → LeftIsKept → (there there' : DiskState) → RefusedLeavesNothing there there'
 refused_so keeps law left there there' tight ask uber rows into refusal out out' input input' honest reads tells none fleeting receives disk sink =
-    let run = receives.receiving in
+    let run = receives.does in
     let waits : WaitedForEach ask into run.pieces =
     λ n below. let was = run.wanted tight uber rows into honest reads tells n below in (was.0, was.1, was.2, open_live was.1 was.3) in
     let found = answer_nothing law left tight ask into none fleeting there' run.pieces input input' out out' refusal receives.answer waits disk sink (run.ends tight uber rows into honest reads tells) receives.replied in
@@ -204,10 +204,10 @@ EachImage Holds tight there there' =
 
 pub each_image : (Holds : Pool → Type 0) (there there' : DiskState) (tight : Bool) (ask : RecvAsk) (uber : Uber) (rows : Rows) (into : Pool) (result : Result (Unit {0}) Refusal)
     (out out' : SinkState) (input input' : SourceState)
-    → there'.honest → ReadsAs tight uber rows into there.seen → TellsTarget ask rows into → (received : Receives ask there there' input input' out out' result)
-    → ((n : ℕ) → Holds (kept_of (pool_of (receives ask into (take n received.receiving.pieces))))) → EachImage Holds tight there there'
+    → there'.honest → ReadsAs tight uber rows into there.seen → TellsTarget ask rows into → (received : Replies (Receiving ask there there' input input') out out' result)
+    → ((n : ℕ) → Holds (kept_of (pool_of (receives ask into (take n received.does.pieces))))) → EachImage Holds tight there there'
 each_image Holds there there' tight ask uber rows into result out out' input input' honest reads tells received holds =
-    let run = received.receiving in
+    let run = received.does in
     let Is : List ℕ → Type 0 = λ c. there.images c ⊎ ((after : Pool) × Reads tight (kept_of after) c × Holds (kept_of after)) in
     let on_way : (c : List ℕ) → IsOnTheWay tight there ask into run.pieces c → Is c =
     λ c. ⊎_elim (λ stood. inl stood) (λ came. inr (pool_of (receives ask into (take came.0 run.pieces)), came.1, holds came.0)) in (
@@ -219,7 +219,7 @@ each_image Holds there there' tight ask uber rows into result out out' input inp
 
 pub stops_so : KeepsWhole → Fits → replicas.StopsAreProgress → (here there there' : DiskState) → StopsAreProgress here there there'
 stops_so keeps fits law here there there' tight ask receive from into sent component base result out out' input input' sender receiver begins received read =
-    let run = received.receiving in
+    let run = received.does in
     let of : AreOfStream run.pieces sent None = pieces_read (begun_text sent None) input input' run.pieces read run.consumed in
     let course = course_from component base in
     each_image (Progress receive (sent_view sent) course into) there there' tight receive receiver.uber receiver.rows into result out out' input input' receiver.honest receiver.reads receiver.tells received
@@ -234,9 +234,9 @@ stops_so keeps fits law here there there' tight ask receive from into sent compo
 pub sound_so : ReceivesKeepSound → (there there' : DiskState) → SoundStaysSound there there'
 sound_so law there there' tight ask uber rows into result out out' input input' honest reads tells named sound received =
     each_image Sound there there' tight ask uber rows into result out out' input input' honest reads tells received
-    (λ n. (law ask into (take n received.receiving.pieces) named reads.described.lawful sound).1)
+    (λ n. (law ask into (take n received.does.pieces) named reads.described.lawful sound).1)
 
 pub remembered_so : ReceivesRemember → (there there' : DiskState) → SourcesStillRemember there there'
 remembered_so law there there' tight ask uber rows into source state result out out' input input' honest reads tells named sound still received =
     each_image (λ (p : Pool). StillRemembers p source state) there there' tight ask uber rows into result out out' input input' honest reads tells received
-    (λ n. (law ask into (take n received.receiving.pieces) source state named reads.described.lawful sound still).1)
+    (λ n. (law ask into (take n received.does.pieces) source state named reads.described.lawful sound still).1)

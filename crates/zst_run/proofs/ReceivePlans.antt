@@ -1,6 +1,6 @@
 -- What a plan over the rows says of a receive, turn by turn, whatever the image.
 use Rattle.std.specs.Prelude.{Option, None, Some, Result, Ok, Err}
-use Rattle.std.proofs.Common.{◌≡◌, ℕ, ◌+◌, ◌≤◌, Bool, true, false, List, [], ◌∷◌, ◌++◌, length, refl, sym, ap, ◌∙◌, subst, arith, append_assoc, length-append}
+use Rattle.std.proofs.Common.{◌≡◌, ℕ, ◌+◌, ◌≤◌, Bool, true, false, List, [], ◌∷◌, ◌++◌, length, refl, sym, ap, ◌∙◌, subst, append_assoc}
 use Rattle.std.proofs.lemmas.List.{append-nil}
 use Rattle.zst_outside.specs.States.{SourceState, Gave}
 use Rattle.zst_dir.specs.Rows.{Rows}
@@ -12,12 +12,13 @@ use Rattle.zst_model.specs.declared.refusals.refusal.Refusal.TheVariants as refu
 use Rattle.zst_model.specs.refusals.Refusal.{refusal_of}
 use Rattle.zst_plan.specs.declared.receive.RecvAsk.{RecvAsk}
 use Rattle.zst_pool.specs.declared.fault.PoolFault.TheVariants as pools
+use Rattle.zst_reader.specs.InputReads.{stream_limit}
 use Rattle.zst_reader.specs.StandsFor.{StandsFor}
 use Rattle.zst_record.specs.Heads.{Covered}
 use Rattle.zst_record.specs.declared.head.Head.TheVariants as heads
 use Rattle.zst_stream.specs.Laws.{FrontsAgree}
 use Rattle.zst_stream.specs.Reading.{FrontOf, after, reading, reading_from, ruling}
-use Rattle.zst_recv.specs.Faults.{recv_refusal, stream_limit}
+use Rattle.zst_recv.specs.Faults.{recv_refusal}
 use Rattle.zst_recv.specs.Plans.{RefusesEach, RefusesOne, is_planned}
 use Rattle.zst_recv.specs.Stages.{is_waiting}
 use Rattle.zst_recv.specs.declared.fault.RecvFault.{RecvFault}
@@ -144,8 +145,8 @@ cut_other Ended count fault is = cc (is)
 cut_other Failed count fault is = cc (is)
 
 pub cut_plans : (rows : Rows) (kept : PoolState) (recv : Recv) (ask : RecvAsk) (text : List ℕ) (end : End) (count : ℕ) (refusal : Refusal) → recv.ask ≡ ask → refusal ≡ cut_refusal end count → PlansOn rows kept recv text → SaysOfPlan rows ask text (Err refusal)
-cut_plans rows kept recv ask text end count refusal asked is on = record {
-  planned = λ fault within refuses. absurd (on_plans rows kept recv text fault on (subst (λ (a : RecvAsk). RefusesOne rows a text fault) (sym asked) refuses));
+cut_plans rows kept recv ask text end count refusal ask_is is on = record {
+  planned = λ fault within refuses. absurd (on_plans rows kept recv text fault on (subst (λ (a : RecvAsk). RefusesOne rows a text fault) (sym ask_is) refuses));
   because = λ fault same. absurd (let told : refusal ≡ refusals.Plan fault = cc (same) in cut_other end count fault (sym is ∙ told));
 }
 
@@ -164,14 +165,14 @@ pub turn_plans : (rows : Rows) (ask : RecvAsk) (kept : PoolState) (recv : Recv) 
 turn_plans rows ask kept recv text None goes = goes
 turn_plans rows ask kept recv text (Some end) goes = goes
 
-module _ (law : FrontsAgree) (rows : Rows) (kept kept' : PoolState) (recv recv' : Recv) (text piece : List ℕ) (result : Result coded.FeedReport RecvFault) (on : PlansOn rows kept recv text) (asked : recv'.ask ≡ recv.ask)
-    (planned : (fault : PlanFault) → is_waiting recv ≡ true → (reading text).covered ≡ [] → length text + length piece ≤ stream_limit → RefusesOne kept.dir recv.ask (text ++ piece) fault → result ≡ Err (faults.Pool (pools.Plan fault))) where
+module _ (law : FrontsAgree) (rows : Rows) (kept kept' : PoolState) (recv recv' : Recv) (text piece : List ℕ) (result : Result coded.FeedReport RecvFault) (on : PlansOn rows kept recv text) (ask_is : recv'.ask ≡ recv.ask)
+    (planned : (fault : PlanFault) → is_waiting recv ≡ true → (reading text).covered ≡ [] → length (text ++ piece) ≤ stream_limit → RefusesOne kept.dir recv.ask (text ++ piece) fault → result ≡ Err (faults.Pool (pools.Plan fault))) where
   refused_so : (fault : PlanFault) → length (text ++ piece) ≤ stream_limit → RefusesOne rows recv.ask (text ++ piece) fault → result ≡ Err (faults.Pool (pools.Plan fault))
   refused_so fault within refuses =
       by_waiting (result ≡ Err (faults.Pool (pools.Plan fault))) recv
       (λ waits.
       let so = on.waits waits in
-      planned fault waits so.1 (omega (arith, within, length-append text piece)) (subst (λ (r : Rows). RefusesOne r recv.ask (text ++ piece) fault) (sym so.0) refuses))
+      planned fault waits so.1 within (subst (λ (r : Rows). RefusesOne r recv.ask (text ++ piece) fault) (sym so.0) refuses))
       (λ behind. absurd (on.passed behind piece fault refuses))
 
   -- it goes on
@@ -181,7 +182,7 @@ module _ (law : FrontsAgree) (rows : Rows) (kept kept' : PoolState) (recv recv' 
     fed = fed;
     waits = λ waits. let so = on.waits (waited waits) in (ap (λ (k : PoolState). k.dir) (stays waits) ∙ so.0, uncovered so.1 waits);
     passed = λ behind more fault refuses.
-        let asks = subst (λ (a : RecvAsk). RefusesOne rows a ((text ++ piece) ++ more) fault) asked refuses in
+        let asks = subst (λ (a : RecvAsk). RefusesOne rows a ((text ++ piece) ++ more) fault) ask_is refuses in
         by_waiting ⊥ recv
         (λ waits. by_covered ⊥ (text ++ piece) (λ none. let both = sym (still waits none) ∙ behind in cc (both))
         (λ first others covered. let so = refused_so fault fed.1.bounded (front_refused law rows recv.ask (text ++ piece) more fault first others covered asks) in cc (is, so)))

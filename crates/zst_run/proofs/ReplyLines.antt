@@ -1,5 +1,5 @@
 -- The lines of a reply, one after the other.
-use Rattle.std.specs.Prelude.{Ok, Err, codes}
+use Rattle.std.specs.Prelude.{Result, Ok, Err, codes}
 use Rattle.std.proofs.Common.{◌≡◌, ℕ, ◌+◌, ◌<◌, List, [], ◌∷◌, ◌++◌, length, get_or, take, drop, take-append-drop, refl, sym, ap, ◌∙◌, add-one, drop-cons}
 use Rattle.std.specs.Fmt.{digits}
 use Rattle.std.proofs.lemmas.Grind.{flat_map-append}
@@ -7,8 +7,9 @@ use Rattle.std.proofs.lemmas.List.{append-nil, take_more}
 use Rattle.zst_outside.specs.Printing.{Prints}
 use Rattle.zst_outside.specs.States.{SinkState, HandedOn}
 use Rattle.zst_model.specs.pools.AnswerLines.{ok_line}
+use Rattle.zst_model.specs.declared.refusals.refusal.Refusal.{Refusal}
 use Rattle.zst_model.specs.declared.refusals.refusal.Refusal.TheVariants as refusals
-use Rattle.zst_run.specs.Replies.{Replied, reply_text}
+use Rattle.zst_run.specs.Replies.{Replied, Replies, reply_text}
 
 -- a line with its line feed
 abbrev pub ended : List ℕ → List ℕ
@@ -34,6 +35,14 @@ replied_all out out' lines prints handed_on = (record { front = prints.front; wh
 pub replied_front : {E : Type 0} (out out' : SinkState) (lines : List (List ℕ)) (fault : E) → Prints {T = Unit {0}} out out' (reply_text lines) (Err fault)
     → Replied out out' (Ok lines) (Err refusals.SinkFault)
 replied_front out out' lines fault prints = (record { front = prints.front; whole = tt; fault = prints.fault }, tt, refl)
+
+-- what is refused writes nothing
+pub replies_refused : (Is : Result (List (List ℕ)) Refusal → Type 0) (out : SinkState) (refusal : Refusal) → Is (Err refusal) → Replies Is out out (Err refusal)
+replies_refused Is out refusal is = record { answer = Err refusal; does = is; replied = (refl, refl) }
+
+pub replies_lines : (Is : Result (List (List ℕ)) Refusal → Type 0) (out out' : SinkState) (lines : List (List ℕ)) (result : Result (Unit {0}) Refusal)
+    → Is (Ok lines) → Replied out out' (Ok lines) result → Replies Is out out' result
+replies_lines Is out out' lines result is replied = record { answer = Ok lines; does = is; replied = replied }
 
 -- the line of a new pool
 pub first_written : {E : Type 0} (out out' : SinkState) → Prints {E = E} out out' (codes "ok 1\n") (Ok (tt {0})) → HandedOn out' → Replied out out' (Ok (ok_line 1 ∷ [])) (Ok (tt {0}))

@@ -1,10 +1,11 @@
 -- What each piece of a send leaves, and how a send ends.
-use Rattle.std.proofs.Common.{◌≡◌, ◌≢◌, inl, inr, ⊎_elim, ℕ, ◌+◌, zero, suc, ◌<◌, ◌≤◌, Bool, true, Option, Some, None, Result, List, [], ◌∷◌, ◌++◌, length, take, drop, Ok, Err, IfErr, refl, sym, ap, ◌∙◌, subst, arith, length-append}
+use Rattle.std.proofs.Common.{◌≡◌, ◌≢◌, ◌⊎◌, inl, inr, ⊎_elim, ℕ, ◌+◌, zero, suc, ◌<◌, ◌≤◌, Bool, true, Option, Some, None, Result, List, [], ◌∷◌, ◌++◌, length, take, drop, Ok, Err, IfErr, refl, sym, ap, ◌∙◌, subst, arith, length-append}
 use Rattle.std.specs.Prelude.{Contains, IfSome, slice_index_or}
 use Rattle.std.proofs.lemmas.List.{append-nil, drop_all}
 use Rattle.zst_outside.specs.Causes.{Rose, Rose-earlier}
 use Rattle.zst_outside.specs.Images.{DiskState}
-use Rattle.zst_outside.specs.States.{SinkState}
+use Rattle.zst_outside.specs.States.{HandedOn, SinkState}
+use Rattle.zst_outside.specs.declared.disk.Disk.{Ghosts}
 use Rattle.zst_outside.specs.Printing.{Wrote, Printed, Wrote-kept, Wrote-then, Wrote-longer, Wrote-start, Printed-start, Printed-then}
 use Rattle.zst_model.specs.declared.refusals.faults.Quantity.TheVariants.{Stream}
 use Rattle.zst_model.specs.declared.refusals.plan_fault.PlanFault.{PlanFault}
@@ -20,21 +21,24 @@ use Rattle.zst_objset.specs.Damage.{DamageFact}
 use Rattle.zst_pool.specs.Damage.{IsOf}
 use Rattle.zst_pool.specs.Faults.{pool_refusal}
 use Rattle.zst_pool.specs.Queries.{stop_of}
+use Rattle.zst_block.specs.IoCalls.{Looks}
+use Rattle.zst_block.specs.IoStates.{IoState, IsHonest, disk_of, io_of}
 use Rattle.zst_block.specs.declared.fault.BlockFault.TheVariants as blocks
 use Rattle.zst_pool.specs.declared.fault.PoolFault.{PoolFault}
 use Rattle.zst_pool.specs.declared.fault.PoolFault.TheVariants as faults
+use Rattle.zst_pool.specs.declared.pool.Pool.{Pool}
 use Rattle.zst_reader.specs.InputReads.{stream_limit}
 use Rattle.zst_send.proofs.KnownPointers.{send_more}
 use Rattle.zst_send.specs.Damage.{IsDamagedSend}
-use Rattle.zst_send.specs.KnownPointers.{IsAmong}
+use Rattle.zst_send.specs.KnownPointers.{IsAmong, Knows}
 use Rattle.zst_send.specs.Sends as given
-use Rattle.zst_send.specs.Sends.{begun_text}
+use Rattle.zst_send.specs.Sends.{begun_text, sent_set}
 use Rattle.zst_send.specs.declared.send.Send.{Send}
 use Rattle.zst_tree.specs.Indices.{Blocks}
 use Rattle.zst_run.specs.Replies.{HandsOn}
 use Rattle.zst_run.specs.declared.send.SendRequest.{SendRequest}
-use Rattle.zst_run.specs.Sends.{HasSet, IsSendRefusal, OfAsked, OfGiving, RefusalEnds, SendsBy, TellsOf, TextEnds, send_damage}
-use Rattle.zst_run.specs.SendPieces.{IfUnplanned, IsOpenRefusal, OpensBy, Passed, PieceWritten, PlansOpen, Sending, WritesPiece}
+use Rattle.zst_run.specs.Sends.{HasSet, IsDamagedRequest, IsSendRefusal, OfGiving, RefusalEnds, SendsBy, TellsOf, TextEnds}
+use Rattle.zst_run.specs.SendPieces.{IfUnplanned, IsOpenRefusal, OpensBy, Passed, PieceWritten, PlansOpen, Sending, WhySendEnds, WritesPiece}
 use Rattle.zst_run.proofs.CommandLemmas.{damaged_only, disk_fault, failed_before, full_only, of_plan, plan_named}
 
 -- ---- refusals
@@ -86,17 +90,79 @@ module _ (fault : PoolFault) (out out' : SinkState) (result : Result (Unit {0}) 
       ⊎_elim (λ done. let same : pool_refusal fault ≡ refusals.Damaged sector stated found = cc (done.0, is) in told sector stated found (damaged_only fault sector stated found same))
       (λ lost. absurd (cc (lost.0, is))) hands.outcome
 
+  -- it has its cause
+  hands_refused : (old new : IoState) → Looks old new (stop_of {T = ℕ} (Err fault)) → (fault ≡ faults.Failed → ⊥) → IfErr result (IsSendRefusal OfGiving old.disk new.disk out out')
+  hands_refused old new looks alive = by result hands.outcome
+    where
+      told : (refusal : Refusal) → refusal ≡ pool_refusal fault → IsSendRefusal OfGiving old.disk new.disk out out' refusal
+      told refusal is = record {
+        pool = record {
+          one = inl (fault, is);
+          alive = λ e. alive (failed_before fault (sym is ∙ e));
+          cause = λ e. looks.cause.fault (ap (λ (f : PoolFault). stop_of {T = ℕ} (Err f)) (disk_fault fault (sym is ∙ e)));
+        };
+        never_full = λ need largest e. looks.never_full need largest (ap (λ (f : PoolFault). stop_of {T = ℕ} (Err f)) (full_only fault need largest (sym is ∙ e)));
+        cause = λ e. absurd (no_sink fault (sym is ∙ e));
+      }
+
+      lost_so : (refusal : Refusal) → refusal ≡ refusals.SinkFault → Rose out.faults out'.faults → IsSendRefusal OfGiving old.disk new.disk out out' refusal
+      lost_so refusal is rose = record {
+        pool = record { one = inr (inl is); alive = λ e. absurd (cc (is, e)); cause = λ e. absurd (cc (is, e)) };
+        never_full = λ need largest e. absurd (cc (is, e));
+        cause = λ e. rose;
+      }
+
+      by : (answer : Result (Unit {0}) Refusal) → ((answer ≡ Err (pool_refusal fault)) × (out'.faults ≡ out.faults) × HandedOn out') ⊎ ((answer ≡ Err refusals.SinkFault) × Rose out.faults out'.faults)
+          → IfErr answer (IsSendRefusal OfGiving old.disk new.disk out out')
+      by (Ok done) ends = tt
+      by (Err refusal) ends = ⊎_elim (λ done. told refusal (cc (done.0))) (λ lost. lost_so refusal (cc (lost.0)) lost.1) ends
+
+-- so a send ends whose take is refused
+module _ {D : Type 0} {g : Ghosts D} (old new : Pool D g) (send : Send) where
+  pub hands_end : (fault : PoolFault) (out out' : SinkState) (result : Result (Unit {0}) Refusal) → HandsOn out out' (Err (pool_refusal fault)) result → Looks (io_of old.io) (io_of new.io) (stop_of {T = ℕ} (Err fault))
+      → (fault ≡ faults.Failed → ⊥) → ((plan : PlanFault) → fault ≢ faults.Plan plan)
+      → ((images : List (List ℕ)) → Contains images (disk_of old.io).seen → IsHonest new.io → Knows (IsAmong images) send → IsOf (IsDamagedSend (IsAmong images) (disk_of old.io).size (sent_set send)) fault)
+      → WhySendEnds old new send out out' result
+  hands_end fault out out' result hands looks alive never damaged = record {
+    refused = hands_refused fault out out' result hands (io_of old.io) (io_of new.io) looks alive;
+    unplanned = hands_no_plan fault out out' result hands never;
+    damaged = λ images among honest knows. hands_damage fault out out' result hands (IsDamagedSend (IsAmong images) (disk_of old.io).size (sent_set send)) (damaged images among honest knows);
+  }
+
 -- ---- pieces
 
 -- a piece is refused by no plan, and tells no damage
 module _ (piece : List ℕ) (is_last : Bool) (old new : ℕ) (out out' : SinkState) where
-  pub piece_no_plan : (result : Option (Result (Unit {0}) Refusal)) → WritesPiece piece is_last old new out out' result → (plan : PlanFault) → result ≢ Some (Err (refusals.Plan plan))
-  piece_no_plan result writes plan is = subst (λ (r : Option (Result (Unit {0}) Refusal)). WritesPiece piece is_last old new out out' r) is writes
+  piece_no_plan : (result : Result (Unit {0}) Refusal) → WritesPiece piece is_last old new out out' (Some result) → (plan : PlanFault) → result ≢ Err (refusals.Plan plan)
+  piece_no_plan result writes plan is = subst (λ (r : Result (Unit {0}) Refusal). WritesPiece piece is_last old new out out' (Some r)) is writes
 
-  pub piece_no_damage : (Is : DamageFact) (result : Option (Result (Unit {0}) Refusal)) → WritesPiece piece is_last old new out out' result → IfSome result (TellsOf Is)
-  piece_no_damage Is None writes = tt
-  piece_no_damage Is (Some result) writes = λ sector stated found is.
+  piece_no_damage : (Is : DamageFact) (result : Result (Unit {0}) Refusal) → WritesPiece piece is_last old new out out' (Some result) → TellsOf Is result
+  piece_no_damage Is result writes = λ sector stated found is.
       absurd (subst (λ (r : Result (Unit {0}) Refusal). WritesPiece piece is_last old new out out' (Some r)) is writes)
+
+  -- the refusal of one that is too long, or of the output, has its cause
+  piece_refused : (here here' : DiskState) (result : Result (Unit {0}) Refusal) → WritesPiece piece is_last old new out out' (Some result) → IfErr result (IsSendRefusal OfGiving here here' out out')
+  piece_refused here here' (Ok done) writes = tt
+  piece_refused here here' (Err (refusals.Limit which number)) writes = record {
+    pool = record { one = inr (inr (let w = writes.0 in let n = writes.1 in cc (w, n))); alive = λ is. absurd (cc is); cause = λ is. absurd (cc is) };
+    never_full = λ need largest is. absurd (cc is);
+    cause = λ is. absurd (cc is);
+  }
+  piece_refused here here' (Err refusals.SinkFault) writes = record {
+    pool = record { one = inr (inl refl); alive = λ is. absurd (cc is); cause = λ is. absurd (cc is) };
+    never_full = λ need largest is. absurd (cc is);
+    cause = λ is. writes.rose;
+  }
+  piece_refused here here' (Err other) writes = absurd writes
+
+  module _ {D : Type 0} {g : Ghosts D} (before after : Pool D g) (send : Send) where
+    pub piece_ends : (result : Option (Result (Unit {0}) Refusal)) → WritesPiece piece is_last old new out out' result → IfSome result (WhySendEnds before after send out out')
+    piece_ends None writes = tt
+    piece_ends (Some result) writes = record {
+      refused = piece_refused (disk_of before.io) (disk_of after.io) result writes;
+      unplanned = piece_no_plan result writes;
+      damaged = λ images among honest knows. piece_no_damage (IsDamagedSend (IsAmong images) (disk_of before.io).size (sent_set send)) result writes;
+    }
 
 -- a piece that would go past a stream's bytes
 pub piece_too_long : (piece : List ℕ) (is_last : Bool) (old new : ℕ) (out out' : SinkState) (result : Result (Unit {0}) Refusal) → stream_limit < old + length piece
@@ -281,7 +347,7 @@ is_one seen image among = go among.0 among.1 among.2
     go (suc k) below is = absurd (omega (arith, below))
 
 -- the damage of the set of what is asked is told of that
-pub set_damage : (rows : Rows) (asked : SendRequest) (disk : DiskState) (set : ObjSet) (result : Result (Unit {0}) Refusal) → HasSet asked rows set
-    → TellsOf (IsDamagedSend (IsAmong (disk.seen ∷ [])) disk.size set) result → TellsOf (OfAsked asked rows (send_damage disk)) result
-set_damage rows asked disk set result named told = λ sector stated found is.
+pub set_damage : (rows : Rows) (request : SendRequest) (disk : DiskState) (set : ObjSet) (result : Result (Unit {0}) Refusal) → HasSet request rows set
+    → TellsOf (IsDamagedSend (IsAmong (disk.seen ∷ [])) disk.size set) result → TellsOf (IsDamagedRequest request rows disk) result
+set_damage rows request disk set result named told = λ sector stated found is.
     (set, named, send_more (IsAmong (disk.seen ∷ [])) (IsSeen disk.seen) (is_one disk.seen) disk.size set sector stated found (told sector stated found is))

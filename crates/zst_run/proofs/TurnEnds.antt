@@ -22,14 +22,14 @@ use Rattle.zst_recv.specs.Answers.{Feeds}
 use Rattle.zst_recv.specs.Faults.{IsFeedFault, recv_refusal}
 use Rattle.zst_recv.specs.ReceiveSteps.{Stage}
 use Rattle.zst_recv.specs.Stages as standing
-use Rattle.zst_recv.specs.Stages.{TellsBefore, fed_of, is_live, is_waiting}
+use Rattle.zst_recv.specs.Stages.{TellsBefore, is_waiting}
 use Rattle.zst_recv.specs.declared.fault.RecvFault.{RecvFault}
 use Rattle.zst_recv.specs.declared.fault.RecvFault.TheVariants as faults
 use Rattle.zst_recv.specs.declared.recv.FeedReport as coded
 use Rattle.zst_recv.specs.declared.recv.Recv.{Recv}
 use Rattle.zst_replication.specs.RecordCounts.{RecordsAreCounted}
 use Rattle.zst_run.specs.Receives.{piece_size}
-use Rattle.zst_run.specs.ReceiveTurns.{Fills, HasFed, HasHanded, IsInputOf, IsPieceOf, Turned, TurnLeaves, TurnReads, TurnSpends, Turns, WaitsForMore, turn_behind, with_piece}
+use Rattle.zst_run.specs.ReceiveTurns.{Fills, HasFed, HasHanded, IsInputOf, IsPieceOf, Turned, TurnReads, TurnSpends, Turns, WaitsForMore, turn_behind, with_piece}
 use Rattle.zst_run.specs.declared.receive.End.{End}
 use Rattle.zst_run.specs.declared.receive.End.TheVariants.{Ended, Failed}
 use Rattle.zst_run.specs.declared.receive.Turn.TheVariants as turns
@@ -109,13 +109,6 @@ module _ (input input' : SourceState) (room : List ℕ) (count : ℕ) (end : Opt
       says = without end fills;
     }
 
-    leaves_by : (e : Option End) → Fills input input' (length room) count e → (failed : Bool) → is_live recv.stage ≡ true → failed ≡ false → TurnLeaves now now recv recv failed (turn_behind e)
-    leaves_by None is failed live works = absurd (let full = is.0 in omega (arith, full, none, size))
-    leaves_by (Some e) is failed live works = (live, works)
-
-    pub leaves_without : (failed : Bool) → is_live recv.stage ≡ true → failed ≡ false → TurnLeaves now now recv recv failed (turn_behind end)
-    leaves_without failed live works = leaves_by end fills failed live works
-
   -- a piece was there, and was fed
   module _ (law : RecordsAreCounted) (some : count ≢ 0) (bytes : AreBytes (take count room)) (old now : DiskState) (kept kept' : PoolState) (recv recv' : Recv) (items : ℕ) (same : recv'.ask ≡ recv.ask) where
     has_some : 0 < length (take count room)
@@ -182,11 +175,3 @@ module _ (input input' : SourceState) (room : List ℕ) (count : ℕ) (end : Opt
           turned_refused law tight old now kept kept' recv recv' recv.ask pool pieces (take count room) items u has_some same items' fault known (feeds tight u.after _ u.stage honest u.rests u.tells u.fed)
           (λ need largest is. short _ u.fed.handed need largest u.fed.reads is);
     }
-
-    on_by : (e : Option End) → Fills input input' (length room) count e → (failed : Bool) → is_live recv'.stage ≡ true → failed ≡ false → fed_of recv' ≡ fed_of recv + length (take count room)
-        → TurnLeaves old now recv recv' failed (turn_behind e)
-    on_by None is failed live works fed = (live, works, (let full = is.0 in omega (arith, fed, long, full, size)))
-    on_by (Some e) is failed live works fed = (live, works)
-
-    pub leaves_on : (failed : Bool) → is_live recv'.stage ≡ true → failed ≡ false → fed_of recv' ≡ fed_of recv + length (take count room) → TurnLeaves old now recv recv' failed (turn_behind end)
-    leaves_on failed live works fed = on_by end fills failed live works fed

@@ -22,6 +22,7 @@ use Rattle.zst_pool.specs.Calls.{IsAtRest}
 use Rattle.zst_pool.specs.Faults.{pool_refusal}
 use Rattle.zst_pool.specs.declared.fault.PoolFault.{PoolFault}
 use Rattle.zst_pool.specs.declared.fault.PoolFault.TheVariants as pools
+use Rattle.zst_reader.specs.InputReads.{stream_limit}
 use Rattle.zst_record.specs.Heads.{Covered, size_of}
 use Rattle.zst_record.specs.Laws.{AreBytes}
 use Rattle.zst_record.specs.declared.head.Head.{Head}
@@ -29,11 +30,11 @@ use Rattle.zst_stream.specs.Findings.{IsFound}
 use Rattle.zst_stream.specs.Reading.{Reading, Ruling, after, last, more, reading, reading_from, refuse, ruling, wait}
 use Rattle.zst_tree.specs.Indices.{Blocks}
 use Rattle.zst_recv.specs.Answers.{FeedFault, Feeds, GoesOn, IsStopped, applied_of, is_done}
-use Rattle.zst_recv.specs.Faults.{IsFeedFault, recv_refusal, stream_limit}
+use Rattle.zst_recv.specs.Faults.{IsFeedFault, recv_refusal}
 use Rattle.zst_recv.specs.Feeds.{fed_piece, new_records, receives}
-use Rattle.zst_recv.specs.ReceiveSteps.{Stage, Waits, Lives, Ends, Fed, Goes, Stops, Work, at_stage, batch, committed, fed, left_by, pool_of, put, put_at, settled}
+use Rattle.zst_recv.specs.ReceiveSteps.{Stage, Waits, Lives, Ends, Batch, Fed, Goes, Stops, at_stage, batch_of, committed, fed, left_by, pool_of, put, put_at, settled}
 use Rattle.zst_recv.specs.Stages as standing
-use Rattle.zst_recv.specs.Stages.{IsStage, TellsBefore, TellsTarget, is_waiting, received_by, waits_at}
+use Rattle.zst_recv.specs.Stages.{IsStage, TellsBefore, TellsTarget, is_waiting, waits_at}
 use Rattle.zst_recv.specs.TakenRecords.{fault_in}
 use Rattle.zst_recv.specs.declared.fault.RecvFault.{RecvFault}
 use Rattle.zst_recv.specs.declared.fault.RecvFault.TheVariants as faults
@@ -75,14 +76,14 @@ stops_so : (keeps : Bool) (made : Result Pool Refusal) (before stage : Stage) (p
 stops_so true made before stage pool next refusal is = stops_committed made before stage pool next refusal is
 stops_so false made before stage pool next refusal is = absurd (cc is)
 
-settled_none : (before : Stage) (pool : Pool) (work : Work) (fault : Option Refusal) (next : Pool) → settled before pool work fault ≡ Goes next Waits → next ≡ pool
-settled_none before pool work None next is = commits_none work.taken work.rolls before work.stage pool next is
-settled_none before pool work (Some refusal) next is = absurd (stops_so _ (put work pool) before Waits pool next refusal is)
+settled_none : (before : Stage) (pool : Pool) (batch : Batch) (fault : Option Refusal) (next : Pool) → settled before pool batch fault ≡ Goes next Waits → next ≡ pool
+settled_none before pool batch None next is = commits_none batch.taken batch.rolls before batch.stage pool next is
+settled_none before pool batch (Some refusal) next is = absurd (stops_so _ (put batch pool) before Waits pool next refusal is)
 
 -- nothing was committed where BEGIN still isn't covered
 still_waits : (ask : RecvAsk) (text piece : List ℕ) (before : Stage) (pool next : Pool) → fed_piece ask text piece before pool ≡ Goes next Waits → next ≡ pool
 unfolding fed
-still_waits ask text piece before pool next is = settled_none before pool (batch ask pool (new_records text piece) (at_stage before)).work (fault_in ask pool text piece (at_stage before)) next is
+still_waits ask text piece before pool next is = settled_none before pool (batch_of ask pool (new_records text piece) (at_stage before)).batch (fault_in ask pool text piece (at_stage before)) next is
 
 -- it waited before
 waited_so : (text piece : List ℕ) (before : Stage) (n m : ℕ) → IsOpen before → Counts text before n → Counts (text ++ piece) Waits m → length (reading text).covered ≤ length (reading (text ++ piece)).covered → before ≡ Waits

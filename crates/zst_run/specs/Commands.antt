@@ -2,7 +2,6 @@
 use Rattle.std.specs.Prelude.{ℕ, ◌≡◌, ◌≢◌, ◌⊎◌, ◌↔◌, ◌*◌, ◌<◌, ◌≤◌, Bool, false, true, IfErr, OnErr, List, [], ◌∷◌, None, Some, Result, Ok, Err}
 use Rattle.zst_outside.specs.Causes.{Rose}
 use Rattle.zst_outside.specs.Images.{DiskState, Leaves, OnlyReads}
-use Rattle.zst_outside.specs.States.{SinkState}
 use Rattle.zst_bytes.specs.Bytes.{number_at}
 use Rattle.zst_space.specs.FreeSectors.{FreeSectors}
 use Rattle.zst_block.specs.Blocks.{SparesTaken}
@@ -33,7 +32,6 @@ use Rattle.zst_pool.specs.Damage.{TellsDamage}
 use Rattle.zst_pool.specs.Faults.{pool_refusal}
 use Rattle.zst_pool.specs.Plans.{IsLimitOf, indices_end, is_by_rows, numbers_end}
 use Rattle.zst_pool.specs.declared.fault.PoolFault.{PoolFault}
-use Rattle.zst_run.specs.Replies.{Replied}
 
 -- an image that stood before a command, or one that reads as the pool before it or as the pool after it
 abbrev pub OldOrReads : (tight : Bool) → DiskState → Pool → Result Stepped Refusal → List ℕ → Type 0
@@ -131,6 +129,18 @@ Opened now command here here' (Err refusals.OutOfMemory) =
     OnlyReads here here' ⊎ ((uber : Uber) × (rows : Rows) × Ran now command here here' (Err refusals.OutOfMemory) uber rows)
 Opened now command here here' answer = (uber : Uber) × (rows : Rows) × Ran now command here here' answer uber rows
 
+-- What an answer says of any image, where a line did nothing but read it (Idle) until the pool was opened by a body and rows (Is). E26 comes where there is
+-- no latest body, E27 where it has another version, E25 where it or its directory isn't of the layout. Any other answer comes where both are, but for E28
+-- and E32 before anything is done.
+abbrev pub SaysOfOpening : {T : Type 0} → (Idle : Type 0) → DiskState → (Is : Uber → Rows → Type 0) → Result T Refusal → Type 0
+SaysOfOpening Idle here Is (Err refusals.NoPool) = (latest here.seen ≡ None) × Idle
+SaysOfOpening Idle here Is (Err (refusals.BadVersion number)) = HasVersion here number × Idle
+SaysOfOpening Idle here Is (Err (refusals.Damaged sector stated found)) =
+    ((TellsBody here sector stated found ⊎ TellsDir here sector stated found) × Idle) ⊎ ((uber : Uber) × (rows : Rows) × Is uber rows)
+SaysOfOpening Idle here Is (Err refusals.DiskFault) = Idle ⊎ ((uber : Uber) × (rows : Rows) × Is uber rows)
+SaysOfOpening Idle here Is (Err refusals.OutOfMemory) = Idle ⊎ ((uber : Uber) × (rows : Rows) × Is uber rows)
+SaysOfOpening Idle here Is answer = (uber : Uber) × (rows : Rows) × Is uber rows
+
 -- One command on the pool of an image: at every moment, and in the end, each image stood before it, or reads as the pool
 -- before it or as what the definition makes of it, by tight object sets where it stood so. One that only answers reads the image.
 pub record Stepping (now : ℕ) (command : Command) (here here' : DiskState) (answer : Result (List (List ℕ)) Refusal) : Type 0 where
@@ -142,12 +152,6 @@ pub record Stepping (now : ℕ) (command : Command) (here here' : DiskState) (an
   pub refused : IfErr answer (IsPoolRefusal OfStepping here here')
   pub idle : commits command ≡ false → OnlyReads here here'
   pub later : here.faults ≤ here'.faults
-
--- and its lines are written
-pub record Steps (now : ℕ) (command : Command) (here here' : DiskState) (out out' : SinkState) (result : Result (Unit {0}) Refusal) : Type 0 where
-  pub answer : Result (List (List ℕ)) Refusal
-  pub stepping : Stepping now command here here' answer
-  pub replied : Replied out out' answer result
 
 -- ---- making a pool
 
@@ -173,9 +177,3 @@ pub record Making (sectors id : ℕ) (here here' : DiskState) (answer : Result (
   pub makes : here'.honest → Makes sectors id here here' answer
   pub refused : IfErr answer (IsPoolRefusal OfMaking here here')
   pub later : here.faults ≤ here'.faults
-
--- and its line is written
-pub record Creates (sectors id : ℕ) (here here' : DiskState) (out out' : SinkState) (result : Result (Unit {0}) Refusal) : Type 0 where
-  pub answer : Result (List (List ℕ)) Refusal
-  pub making : Making sectors id here here' answer
-  pub replied : Replied out out' answer result

@@ -23,9 +23,10 @@ use Rattle.zst_recv.specs.Tokens.{token_told}
 use Rattle.zst_send.specs.Sends.{begun_text}
 use Rattle.zst_stream.specs.Reading.{complete, reading}
 use Rattle.zst_token.specs.declared.token.Token.{Token}
-use Rattle.zst_run.specs.Commands.{Creates, Opens, Steps, most_of}
+use Rattle.zst_run.specs.Commands.{Making, Opens, Stepping, most_of}
 use Rattle.zst_run.specs.Dumps.{Dumps}
-use Rattle.zst_run.specs.Receives.{ArePieces, CostMore, Receives}
+use Rattle.zst_run.specs.Receives.{ArePieces, CostMore, Receiving}
+use Rattle.zst_run.specs.Replies.{Replies}
 use Rattle.zst_run.specs.Runs.{Told}
 use Rattle.zst_run.specs.declared.send.SendRequest.{SendRequest}
 use Rattle.zst_run.specs.Sends.{Sends, start_of, to_send}
@@ -49,10 +50,10 @@ DoneIsTold = (note note' : SinkState) (status : ℕ) (result : Result (Unit {0})
 -- the disk nor the output counted a fault, it is done, or no memory was left.
 abbrev pub SendsComplete : (here here' : DiskState) → Type 0
 SendsComplete here here' =
-    (asked : SendRequest) (pool : Pool) (sent : Sent) (out out' : SinkState) (result : Result (Unit {0}) Refusal)
-    → here'.honest → Reads false pool here.seen → to_send asked pool ≡ Ok sent → length (begun_text sent (start_of asked)) ≤ stream_limit
+    (request : SendRequest) (pool : Pool) (sent : Sent) (out out' : SinkState) (result : Result (Unit {0}) Refusal)
+    → here'.honest → Reads false pool here.seen → to_send request pool ≡ Ok sent → length (begun_text sent (start_of request)) ≤ stream_limit
     → NoneCounted here.faults here'.faults → NoneCounted out.faults out'.faults
-    → Sends asked here here' out out' result → DoneOrNoMemory result
+    → Sends request here here' out out' result → DoneOrNoMemory result
 
 -- ---- receives
 
@@ -86,7 +87,7 @@ ReceivesComplete here here' =
     → here'.honest → ReadsAs tight uber rows pool here.seen → TellsTarget ask rows pool
     → HasText text input input' → length text ≤ stream_limit → Takes ask pool text → HasRoom here text
     → NoneCounted here.faults here'.faults → NoneCounted input.faults input'.faults → NoneCounted out.faults out'.faults
-    → Receives ask here here' input input' out out' result → DoneOrNoMemory result
+    → Replies (Receiving ask here here' input input') out out' result → DoneOrNoMemory result
 
 -- ---- the other lines
 
@@ -97,7 +98,7 @@ StepsComplete here here' =
     (tight : Bool) (now : ℕ) (command : Command) (uber : Uber) (rows : Rows) (pool : Pool) (done : Stepped) (out out' : SinkState) (result : Result (Unit {0}) Refusal)
     → here'.honest → ReadsAs tight uber rows pool here.seen → stepped [] now command pool ≡ Ok done → most_of command rows pool ≤ uber.sectors - uber.end
     → NoneCounted here.faults here'.faults → NoneCounted out.faults out'.faults
-    → Steps now command here here' out out' result → DoneOrNoMemory result
+    → Replies (Stepping now command here here') out out' result → DoneOrNoMemory result
 
 -- A run of `create`: where no pool is there, the image has as many sectors as are asked, and no fault was counted, it is done, or no memory was left.
 abbrev pub CreatesComplete : (here here' : DiskState) → Type 0
@@ -105,7 +106,7 @@ CreatesComplete here here' =
     (sectors id : ℕ) (out out' : SinkState) (result : Result (Unit {0}) Refusal)
     → here'.honest → latest here.seen ≡ None → 512 * sectors ≤ here.size
     → NoneCounted here.faults here'.faults → NoneCounted out.faults out'.faults
-    → Creates sectors id here here' out out' result → DoneOrNoMemory result
+    → Replies (Making sectors id here here') out out' result → DoneOrNoMemory result
 
 -- A run of `token` on an image that reads as a pool: where that tells a token, and no fault was counted, it is done, or no memory was left.
 abbrev pub TokensComplete : (here here' : DiskState) → Type 0

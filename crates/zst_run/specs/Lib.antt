@@ -5,6 +5,7 @@ pub mod Completeness
 pub mod Replies
 pub mod Commands
 pub mod Devices
+pub mod LaterDisks
 pub mod LineEffects
 pub mod OpenMode
 pub mod Runs

@@ -12,10 +12,11 @@ use Rattle.zst_line.specs.declared.line.Line.TheVariants.{Dump, Create, Step, Se
 use Rattle.zst_line.specs.declared.line.LineFault.{LineFault}
 use Rattle.zst_plan.specs.declared.receive.RecvAsk.{RecvAsk}
 use Rattle.zst_script.specs.Asks.{ask_of, receipt_of}
-use Rattle.zst_run.specs.Commands.{Creates, Steps}
+use Rattle.zst_run.specs.Commands.{Making, Stepping}
 use Rattle.zst_run.specs.Devices.{Devices}
 use Rattle.zst_run.specs.Dumps.{Dumps}
-use Rattle.zst_run.specs.Receives.{IsTarget, Receives}
+use Rattle.zst_run.specs.Receives.{IsTarget, Receiving}
+use Rattle.zst_run.specs.Replies.{Replies}
 use Rattle.zst_run.specs.declared.send.SendRequest.{SendRequest}
 use Rattle.zst_run.specs.declared.send.SendRequest.TheVariants.{Named, Rest}
 use Rattle.zst_run.specs.Sends.{IsSource, Sends}
@@ -30,42 +31,38 @@ IsInRange (Receive image keeps forces origin target) = IsTarget target
 IsInRange line = Unit {0}
 
 -- what a line asks to be sent
-abbrev pub asked : Line → Option SendRequest
-asked (Send image from redacts snapshot) = Some (Named (ask_of from redacts snapshot))
-asked (Resume image token) = Some (Rest token)
-asked line = None
+abbrev pub send_of : Line → Option SendRequest
+send_of (Send image from redacts snapshot) = Some (Named (ask_of from redacts snapshot))
+send_of (Resume image token) = Some (Rest token)
+send_of line = None
 
 -- what a line asks to be received
-abbrev pub wanted : Line → Option RecvAsk
-wanted (Receive image keeps forces origin target) = Some (receipt_of keeps forces origin target)
-wanted line = None
+abbrev pub receive_of : Line → Option RecvAsk
+receive_of (Receive image keeps forces origin target) = Some (receipt_of keeps forces origin target)
+receive_of line = None
 
 -- the dataset whose token a line asks for
-abbrev pub told_of : Line → Option (List ℕ)
-told_of (Token image dataset) = Some dataset
-told_of line = None
-
--- E19: what the line asks for isn't built yet
-abbrev pub not_built : Refusal
-not_built = refusals.Plan (plans.Unsupported lacks.NotBuilt)
+abbrev pub token_dataset_of : Line → Option (List ℕ)
+token_dataset_of (Token image dataset) = Some dataset
+token_dataset_of line = None
 
 -- What a line does: `dump` reads the input and leaves the image alone, `receive` reads the input, and all others leave it alone. Those
--- that redact, check, make room or run scripts aren't built yet: they are refused, and nothing is done.
+-- that redact, check, make room or run scripts aren't built yet: they are refused (E19), and nothing is done.
 abbrev pub DoesLine : {D : Type 0} → (D → DiskState) → ℕ → Line → Devices D → Devices D → Result (Unit {0}) Refusal → Type 0
 DoesLine state now Dump old new result = Dumps old.input new.input old.out new.out result × (new.here ≡ old.here)
 DoesLine state now (Create image sectors id) old new result =
-    Creates sectors id (state old.here) (state new.here) old.out new.out result × (new.input ≡ old.input)
+    Replies (Making sectors id (state old.here) (state new.here)) old.out new.out result × (new.input ≡ old.input)
 DoesLine state now (Step image command) old new result =
-    Steps now command (state old.here) (state new.here) old.out new.out result × (new.input ≡ old.input)
+    Replies (Stepping now command (state old.here) (state new.here)) old.out new.out result × (new.input ≡ old.input)
 DoesLine state now (Send image from redacts snapshot) old new result =
     Sends (Named (ask_of from redacts snapshot)) (state old.here) (state new.here) old.out new.out result × (new.input ≡ old.input)
 DoesLine state now (Resume image token) old new result =
     Sends (Rest token) (state old.here) (state new.here) old.out new.out result × (new.input ≡ old.input)
 DoesLine state now (Receive image keeps forces origin target) old new result =
-    Receives (receipt_of keeps forces origin target) (state old.here) (state new.here) old.input new.input old.out new.out result
+    Replies (Receiving (receipt_of keeps forces origin target) (state old.here) (state new.here) old.input new.input) old.out new.out result
 DoesLine state now (Token image dataset) old new result =
     Tokens dataset (state old.here) (state new.here) old.out new.out result × (new.input ≡ old.input)
-DoesLine state now line old new result = (result ≡ Err not_built) × (new ≡ old)
+DoesLine state now line old new result = (result ≡ Err (refusals.Plan (plans.Unsupported lacks.NotBuilt))) × (new ≡ old)
 
 -- What words do: those that are no line are refused, and nothing is done.
 abbrev pub Does : {D : Type 0} → (D → DiskState) → ℕ → Result Line LineFault → Devices D → Devices D → Result (Unit {0}) Refusal → Type 0

@@ -1,10 +1,12 @@
 -- A receive that is under way, piece by piece.
-use Rattle.std.specs.Prelude.{ℕ, ◌+◌, ◌*◌, ◌-◌, ◌≡◌, ◌⊎◌, ◌<◌, ◌≤◌, Bool, true, false, IsTrue, IsSome, All, List, [], ◌∷◌, ◌++◌, length, take, Option, None, Some, Result, Ok, Err}
+use Rattle.std.specs.Prelude.{ℕ, ◌+◌, ◌*◌, ◌-◌, ◌≡◌, ◌⊎◌, ◌<◌, ◌≤◌, Bool, true, false, IsTrue, IsSome, IfErr, All, List, [], ◌∷◌, ◌++◌, length, take, Option, None, Some, Result, Ok, Err}
 use Rattle.std.specs.List.{concat}
 use Rattle.zst_outside.specs.Causes.{Rose}
 use Rattle.zst_outside.specs.Images.{DiskState, Leaves}
 use Rattle.zst_outside.specs.States.{SourceState, Gave}
+use Rattle.zst_outside.specs.declared.disk.Disk.{Ghosts}
 use Rattle.zst_block.specs.Blocks.{Has}
+use Rattle.zst_block.specs.IoStates.{IsHonest, disk_of}
 use Rattle.zst_dir.specs.Rows.{Rows}
 use Rattle.zst_model.specs.declared.refusals.plan_fault.PlanFault.{PlanFault}
 use Rattle.zst_model.specs.declared.refusals.refusal.Refusal.{Refusal}
@@ -14,28 +16,31 @@ use Rattle.zst_model.specs.declared.refusals.stream_fault.StreamFault.TheVariant
 use Rattle.zst_model.specs.pools.KeptPool.{kept_of}
 use Rattle.zst_model.specs.pools.Pool.{Pool, Partial}
 use Rattle.zst_dir.specs.Spelling.{dir_bytes}
+use Rattle.zst_image.specs.Commits.{Ready}
 use Rattle.zst_image.specs.Reads.{Reads, bound_of, free_by}
 use Rattle.zst_image.specs.declared.pool_state.PoolState.{PoolState}
 use Rattle.zst_plan.specs.declared.receive.RecvAsk.{RecvAsk}
 use Rattle.zst_pool.specs.Calls.{IsAtRest}
+use Rattle.zst_pool.specs.declared.pool.Pool.{Pool as OpenedPool}
 use Rattle.zst_record.specs.Laws.{AreBytes}
+use Rattle.zst_reader.specs.InputReads.{stream_limit}
 use Rattle.zst_reader.specs.StandsFor.{HandsOut, StandsFor}
 use Rattle.zst_record.specs.Heads.{Covered}
 use Rattle.zst_stream.specs.Findings.{IsFound}
 use Rattle.zst_stream.specs.Reading.{complete, faulty, reading, waiting}
 use Rattle.zst_recv.specs.Answers.{received_of}
-use Rattle.zst_recv.specs.Faults.{IsFeedFault, recv_refusal, stream_limit}
+use Rattle.zst_recv.specs.Faults.{IsFeedFault, recv_refusal}
 use Rattle.zst_recv.specs.Feeds.{receives, new_records}
 use Rattle.zst_recv.specs.Plans.{RefusesOne}
 use Rattle.zst_recv.specs.Costs.{PieceGrows, piece_cost}
 use Rattle.zst_recv.specs.ReceiveSteps.{Stage, Goes, Ends, pool_of}
 use Rattle.zst_recv.specs.Stages as standing
-use Rattle.zst_recv.specs.Stages.{TellsBefore, TellsTarget, fed_of, is_live, is_waiting, received_by}
+use Rattle.zst_recv.specs.Stages.{RecvFits, TellsBefore, TellsTarget, ask_of, fed_of, is_live, is_waiting, reader_of, received_by, stage_of}
 use Rattle.zst_recv.specs.declared.fault.RecvFault.{RecvFault}
 use Rattle.zst_recv.specs.declared.recv.Recv.{Recv}
 use Rattle.zst_replication.specs.RecordCounts.{Counts}
 use Rattle.zst_run.specs.Dumps.{NoFault}
-use Rattle.zst_run.specs.Receives.{ArePieces, IsOpen, ReceiveEnds, SaysOfPlan, SaysOfText, piece_size, receipt_line, CostMore, pieces_cost}
+use Rattle.zst_run.specs.Receives.{ArePieces, IsDamagedReceive, IsOpen, ReceiveEnds, SaysOfPlan, SaysOfText, piece_size, receipt_line, CostMore, pieces_cost}
 use Rattle.zst_run.specs.declared.receive.End.{End}
 use Rattle.zst_run.specs.declared.receive.End.TheVariants.{Ended, Failed}
 use Rattle.zst_run.specs.declared.receive.Receipt.{Receipt}
@@ -128,7 +133,7 @@ pub record Turned (tight : Bool) (old now : DiskState) (kept : PoolState) (recv 
 
 -- Whatever the image, the receive stands for this text
 abbrev pub HasFed : Recv → List ℕ → Type 0
-HasFed recv text = (handed : List Covered) × StandsFor recv.reader text handed
+HasFed recv text = (handed : List Covered) × StandsFor (reader_of recv) text handed
 
 -- and what a turn says of all that was fed: one that goes on stands for it, END comes where its reading is complete, and a refusal that is a fault of a stream is that of its reading.
 abbrev pub TurnReads : Recv → List ℕ → Turn → Type 0
@@ -142,7 +147,7 @@ TurnReads recv text (turns.Refused refusal) = (fault : StreamFault) → refusal 
 pub record PlansOn (rows : Rows) (kept : PoolState) (recv : Recv) (text : List ℕ) : Type 0 where
   pub fed : HasFed recv text
   pub waits : is_waiting recv ≡ true → (kept.dir ≡ rows) × ((reading text).covered ≡ [])
-  pub passed : is_waiting recv ≡ false → (more : List ℕ) (fault : PlanFault) → RefusesOne rows recv.ask (text ++ more) fault → ⊥
+  pub passed : is_waiting recv ≡ false → (more : List ℕ) (fault : PlanFault) → RefusesOne rows (ask_of recv) (text ++ more) fault → ⊥
 
 -- and of a turn, behind which all of this text was fed
 abbrev pub TurnPlans : Rows → RecvAsk → PoolState → Recv → List ℕ → Turn → Type 0
@@ -153,7 +158,7 @@ TurnPlans rows ask kept recv text (turns.Refused refusal) = SaysOfPlan rows ask 
 
 -- Whatever the image, the receive has handed out all that this text covers
 abbrev pub HasHanded : Recv → List ℕ → Type 0
-HasHanded recv text = (handed : List Covered) × HandsOut recv.reader text handed waiting
+HasHanded recv text = (handed : List Covered) × HandsOut (reader_of recv) text handed waiting
 
 -- and behind a piece more that is taken it has again, and no more is taken than it costs; where it found no room, it costs more than was free.
 abbrev pub TurnSpends : (kept kept' : PoolState) → Recv → (text piece : List ℕ) → Turn → Type 0
@@ -177,8 +182,8 @@ pub record Turns (old now : DiskState) (kept kept' : PoolState) (recv recv' : Re
   pub input_is : IsInputOf input input' turn
   pub reads : (text : List ℕ) → HasFed recv text → TurnReads recv' (text ++ piece) turn
   pub spends : (text : List ℕ) → HasHanded recv text → TurnSpends kept kept' recv' text piece turn
-  pub says : (tight : Bool) (pool : Pool) (pieces : List (List ℕ)) → now.honest → WaitsForMore tight old kept recv recv.ask pool pieces items
-      → Turned tight old now kept' recv' recv.ask pool (with_piece pieces piece) items' turn
+  pub says : (tight : Bool) (pool : Pool) (pieces : List (List ℕ)) → now.honest → WaitsForMore tight old kept recv (ask_of recv) pool pieces items
+      → Turned tight old now kept' recv' (ask_of recv) pool (with_piece pieces piece) items' turn
 
 -- a refusal of a feed, but not that the disk had failed before; that of the disk only where its count of faults rose
 pub record IsFeedRefusal (old now : DiskState) (refusal : Refusal) : Type 0 where
@@ -187,12 +192,34 @@ pub record IsFeedRefusal (old now : DiskState) (refusal : Refusal) : Type 0 wher
   pub cause : refusal ≡ refusals.DiskFault → Rose old.faults now.faults
   pub full : (need largest : ℕ) → refusal ≡ refusals.Full need largest → largest < need
 
--- Whatever the image: a receive that goes on is live, over a pool that works, and one that doesn't has its snapshot or its refusal.
-abbrev pub TurnLeaves : (old now : DiskState) → (recv recv' : Recv) → (failed : Bool) → Turn → Type 0
-TurnLeaves old now recv recv' failed turns.More = (is_live recv'.stage ≡ true) × (failed ≡ false) × (fed_of recv' ≡ fed_of recv + piece_size)
-TurnLeaves old now recv recv' failed turns.Received = IsSome (received_by recv')
-TurnLeaves old now recv recv' failed (turns.Over end) = (is_live recv'.stage ≡ true) × (failed ≡ false)
-TurnLeaves old now recv recv' failed (turns.Refused refusal) = IsFeedRefusal old now refusal
+-- a receive that goes on is live, over a pool that works, and one that doesn't has its snapshot or its refusal
+abbrev pub LivesOrEnds : (old now : DiskState) → (recv recv' : Recv) → (failed : Bool) → Turn → Type 0
+LivesOrEnds old now recv recv' failed turns.More = (is_live (stage_of recv') ≡ true) × (failed ≡ false) × (fed_of recv' ≡ fed_of recv + piece_size)
+LivesOrEnds old now recv recv' failed turns.Received = IsSome (received_by recv')
+LivesOrEnds old now recv recv' failed (turns.Over end) = (is_live (stage_of recv') ≡ true) × (failed ≡ false)
+LivesOrEnds old now recv recv' failed (turns.Refused refusal) = IsFeedRefusal old now refusal
+
+module _ {D : Type 0} {g : Ghosts D} where
+  -- a receive that can be fed: it is live, and what it keeps is in its ranges, over a pool that works and whose next commit can be made
+  pub record CanFeed (pool : OpenedPool D g) (recv : Recv) : Type 0 where
+    pub live : is_live (stage_of recv) ≡ true
+    pub fits : RecvFits pool.kept.dir recv
+    pub works : pool.io.failed ≡ false
+    pub ready : Ready (disk_of pool.io) pool.kept.body
+
+  -- What a turn leaves of a receive and its pool, whatever the image: it can be fed again where it goes on, but for a fault of the disk the next commit can
+  -- be made, and a stream has no more bytes than it may have.
+  pub record TurnLeaves (old new : OpenedPool D g) (recv recv' : Recv) (turn : Turn) : Type 0 where
+    pub ends : LivesOrEnds (disk_of old.io) (disk_of new.io) recv recv' new.io.failed turn
+    pub within : fed_of recv' ≤ stream_limit
+    pub ask : ask_of recv' ≡ ask_of recv
+    pub fits : RecvFits new.kept.dir recv'
+    pub ready : new.io.failed ≡ false → Ready (disk_of new.io) new.kept.body
+
+-- a receive that was given nothing yet
+pub record IsUnfed (recv : Recv) : Type 0 where
+  pub reads : StandsFor (reader_of recv) [] []
+  pub hands : HasHanded recv []
 
 -- Whole pieces were read and fed, and the receive waits for more.
 pub record Feeding (old now : DiskState) (kept kept' : PoolState) (recv recv' : Recv) (items : ℕ) (input input' : SourceState) : Type 0 where
@@ -203,7 +230,7 @@ pub record Feeding (old now : DiskState) (kept kept' : PoolState) (recv recv' : 
   pub reads : HasFed recv' (concat pieces)
   pub hands : HasHanded recv' (concat pieces)
   pub grew : GrewBy kept kept' pieces
-  pub says : (tight : Bool) (pool : Pool) → now.honest → WaitsForMore tight old kept recv recv.ask pool [] 0 → Turned tight old now kept' recv' recv.ask pool pieces items turns.More
+  pub says : (tight : Bool) (pool : Pool) → now.honest → WaitsForMore tight old kept recv (ask_of recv) pool [] 0 → Turned tight old now kept' recv' (ask_of recv) pool pieces items turns.More
 
 -- ---- all of them
 
@@ -211,6 +238,13 @@ pub record Feeding (old now : DiskState) (kept kept' : PoolState) (recv recv' : 
 abbrev pub IsEnd : (old now : DiskState) → (input input' : SourceState) → Refusal → Type 0
 IsEnd old now input input' refusal =
     IsFeedRefusal old now refusal ⊎ (((at : ℕ) × (refusal ≡ refusals.Stream (Truncated at))) ⊎ ((refusal ≡ refusals.SourceFault) × Rose input.faults input'.faults))
+
+module _ {D : Type 0} {g : Ghosts D} where
+  -- Why a receive for this target ends by this answer, whatever the image: each refusal has its cause, and E25 tells a damage as the refused record found it.
+  pub record WhyReceiveEnds (old new : OpenedPool D g) (target : List ℕ) (input input' : SourceState) (result : Result Receipt Refusal) : Type 0 where
+    pub refused : IfErr result (IsEnd (disk_of old.io) (disk_of new.io) input input')
+    pub damaged : (sector : ℕ) (stated found : List ℕ) → IsHonest new.io → result ≡ Err (refusals.Damaged sector stated found)
+        → IsDamagedReceive (disk_of old.io) old.kept.body target sector stated found
 
 -- what ends a receive whose input gave no more
 abbrev pub cut_refusal : End → ℕ → Refusal

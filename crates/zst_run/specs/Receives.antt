@@ -1,12 +1,11 @@
 -- What a receive reads, what it leaves of an image, and why it ends.
-use Rattle.std.specs.Prelude.{ℕ, ◌+◌, ◌-◌, ◌≡◌, ◌⊎◌, ◌<◌, ◌≤◌, Bool, IsTrue, IfErr, List, [], ◌∷◌, ◌++◌, length, take, codes, decimal, None, Result, Ok, Err}
+use Rattle.std.specs.Prelude.{ℕ, ◌+◌, ◌-◌, ◌≡◌, ◌⊎◌, ◌<◌, ◌≤◌, Bool, IsTrue, IfErr, List, [], ◌∷◌, ◌++◌, length, take, codes, decimal, Result, Ok, Err}
 use Rattle.std.specs.List.{concat}
 use Rattle.zst_outside.specs.Causes.{Rose}
 use Rattle.zst_outside.specs.Images.{DiskState, Leaves, OnlyReads}
-use Rattle.zst_outside.specs.States.{SourceState, SinkState, Gave}
+use Rattle.zst_outside.specs.States.{SourceState, Gave}
 use Rattle.zst_space.specs.FreeSectors.{FreeSectors}
 use Rattle.zst_block.specs.Blocks.{Has, KeepsBlocks, SparesTaken}
-use Rattle.zst_uber.specs.Slots.{latest}
 use Rattle.zst_uber.specs.declared.uber.Uber.{Uber}
 use Rattle.zst_model.specs.declared.refusals.faults.Quantity.TheVariants.{Stream}
 use Rattle.zst_model.specs.declared.refusals.subjects.Name.{Name}
@@ -23,25 +22,24 @@ use Rattle.zst_model.specs.refusals.Texts.{guid_text}
 use Rattle.zst_dir.specs.Rows.{Rows}
 use Rattle.zst_dir.specs.Spelling.{dir_bytes}
 use Rattle.zst_image.specs.Faults.{open_refusal}
-use Rattle.zst_image.specs.OpenAnswers.{TellsBody, TellsDir}
 use Rattle.zst_image.specs.Reads.{Reads, ReadsAs, Rests, RunsBy, bound_of, free_by, kept_rows, dir_sectors}
 use Rattle.zst_image.specs.declared.pool_state.PoolState.{PoolState}
 use Rattle.zst_image.specs.declared.open_fault.OpenFault.{OpenFault}
 use Rattle.zst_plan.specs.RecvPlan.{snapshot_name}
 use Rattle.zst_plan.specs.declared.receive.RecvAsk.{RecvAsk}
+use Rattle.zst_reader.specs.InputReads.{stream_limit}
 use Rattle.zst_stream.specs.Findings.{IsFound}
 use Rattle.zst_stream.specs.Reading.{complete, faulty, reading, waiting}
 use Rattle.zst_recv.specs.Costs.{PieceIsShort, records_cost}
-use Rattle.zst_recv.specs.Faults.{IsFeedFault, recv_refusal, stream_limit}
+use Rattle.zst_recv.specs.Faults.{IsFeedFault, recv_refusal}
 use Rattle.zst_recv.specs.Feeds.{new_records, receives}
 use Rattle.zst_recv.specs.Damage.{IsDamagedState}
 use Rattle.zst_recv.specs.Plans.{RefusesEach, RefusesOne}
 use Rattle.zst_recv.specs.ReceiveSteps.{Stage, Waits, Lives, Ends, Goes, Stops, left_by, pool_of}
 use Rattle.zst_recv.specs.Stages.{TellsTarget}
 use Rattle.zst_recv.specs.declared.fault.RecvFault.{RecvFault}
-use Rattle.zst_run.specs.Commands.{HasVersion, IsPoolRefusal, Opens}
+use Rattle.zst_run.specs.Commands.{IsPoolRefusal, Opens, SaysOfOpening}
 use Rattle.zst_run.specs.Dumps.{NoFault}
-use Rattle.zst_run.specs.Replies.{Replied}
 
 -- ---- what is asked
 
@@ -95,16 +93,12 @@ abbrev pub receipt_line : (target component : List ℕ) → (guid items : ℕ) �
 receipt_line target component guid items = concat (
     codes "received " ∷ snapshot_name target component ∷ codes " guid " ∷ guid_text guid ∷ codes " items " ∷ decimal items ∷ [])
 
--- the line of a receive of this text: of its covered records the first is BEGIN, and the last END
-abbrev pub received_line : Partial → List ℕ → List ℕ
-received_line partial text = receipt_line partial.target partial.component partial.header.to (length (reading text).covered - 2)
-
--- END was covered: the snapshot stands, and this is the line
+-- END was covered: the snapshot stands, and this is the line: of the covered records the first is BEGIN, and the last END
 pub record Received (tight : Bool) (ask : RecvAsk) (pool : Pool) (pieces : List (List ℕ)) (here' : DiskState) (lines : List (List ℕ)) : Type 0 where
   pub after : Pool
   pub partial : Partial
   pub is : receives ask pool pieces ≡ Goes after (Ends partial)
-  pub line : lines ≡ received_line partial (concat pieces) ∷ []
+  pub line : lines ≡ receipt_line partial.target partial.component partial.header.to (length (reading (concat pieces)).covered - 2) ∷ []
   pub keeps : Keeps tight here' after
 
 -- the pieces are refused so, and what that leaves stands
@@ -198,21 +192,6 @@ pub record ReceiveRan (ask : RecvAsk) (pieces : List (List ℕ)) (here : DiskSta
   pub planned : SaysOfPlan (kept_rows rows) ask (concat pieces) answer
   pub damaged : (sector : ℕ) (stated found : List ℕ) → answer ≡ Err (refusals.Damaged sector stated found) → IsDamagedReceive here uber ask.target sector stated found
 
--- What an answer says of any image. E26 comes where there is no latest body, E27 where it has another version, E25 where it
--- or its directory isn't of the layout: then nothing is written or read. Any other answer comes where both are, but for E28 and E32 before
--- anything is written or read.
-abbrev pub ReceiveOpened : RecvAsk → List (List ℕ) → DiskState → DiskState → SourceState → SourceState → Result (List (List ℕ)) Refusal → Type 0
-ReceiveOpened ask pieces here here' input input' (Err refusals.NoPool) = (latest here.seen ≡ None) × OnlyReads here here' × (input' ≡ input)
-ReceiveOpened ask pieces here here' input input' (Err (refusals.BadVersion number)) = HasVersion here number × OnlyReads here here' × (input' ≡ input)
-ReceiveOpened ask pieces here here' input input' (Err (refusals.Damaged sector stated found)) =
-    ((TellsBody here sector stated found ⊎ TellsDir here sector stated found) × OnlyReads here here' × (input' ≡ input))
-    ⊎ ((uber : Uber) × (rows : Rows) × ReceiveRan ask pieces here (Err (refusals.Damaged sector stated found)) uber rows)
-ReceiveOpened ask pieces here here' input input' (Err refusals.DiskFault) =
-    (OnlyReads here here' × (input' ≡ input)) ⊎ ((uber : Uber) × (rows : Rows) × ReceiveRan ask pieces here (Err refusals.DiskFault) uber rows)
-ReceiveOpened ask pieces here here' input input' (Err refusals.OutOfMemory) =
-    (OnlyReads here here' × (input' ≡ input)) ⊎ ((uber : Uber) × (rows : Rows) × ReceiveRan ask pieces here (Err refusals.OutOfMemory) uber rows)
-ReceiveOpened ask pieces here here' input input' answer = (uber : Uber) × (rows : Rows) × ReceiveRan ask pieces here answer uber rows
-
 -- What an answer says of the pieces that were read, whatever the image: a fault that is found in a stream is that of their reading, E20 tells the count of
 -- their bytes at the end of an input that didn't fail, and there is a line only where their reading is complete.
 pub record SaysOfText (pieces : List (List ℕ)) (input input' : SourceState) (answer : Result (List (List ℕ)) Refusal) : Type 0 where
@@ -234,7 +213,7 @@ pub record Receiving (ask : RecvAsk) (here here' : DiskState) (input input' : So
       → (c : List ℕ) → here'.images c → IsOnTheWay tight here ask pool pieces c
   pub ends : (tight : Bool) (uber : Uber) (rows : Rows) (pool : Pool) → here'.honest → ReadsAs tight uber rows pool here.seen → TellsTarget ask rows pool
       → ReceiveEnds tight ask pool pieces here' input input' answer
-  pub opened : here'.honest → ReceiveOpened ask pieces here here' input input' answer
+  pub opened : here'.honest → SaysOfOpening (OnlyReads here here' × (input' ≡ input)) here (ReceiveRan ask pieces here answer) answer
   pub text : SaysOfText pieces input input' answer
   -- whatever the image: E24 comes only where fewer sectors were free, by the body and the directory that were opened, than all pieces cost that were read
   pub cost : here'.honest → (need largest : ℕ) → answer ≡ Err (refusals.Full need largest)
@@ -242,9 +221,3 @@ pub record Receiving (ask : RecvAsk) (here here' : DiskState) (input input' : So
   pub refused : IfErr answer (IsReceiveRefusal here here' input input')
   pub later : here.faults ≤ here'.faults
   pub input_later : input.faults ≤ input'.faults
-
--- and its line is written
-pub record Receives (ask : RecvAsk) (here here' : DiskState) (input input' : SourceState) (out out' : SinkState) (result : Result (Unit {0}) Refusal) : Type 0 where
-  pub answer : Result (List (List ℕ)) Refusal
-  pub receiving : Receiving ask here here' input input' answer
-  pub replied : Replied out out' answer result

@@ -28,16 +28,17 @@ use Rattle.zst_replication.specs.Outcomes.{Course, HasNothing, HasOneMore, Progr
 use Rattle.zst_replication.specs.Resumption.{Chain, IsUnderway}
 use Rattle.zst_token.specs.Spelling.{IsToken}
 use Rattle.zst_token.specs.declared.token.Token.{Token}
-use Rattle.zst_run.specs.Receives.{Keeps, Receives}
+use Rattle.zst_run.specs.Receives.{Keeps, Receiving}
+use Rattle.zst_run.specs.Replies.{Replies}
 use Rattle.zst_run.specs.declared.send.SendRequest.{SendRequest}
 use Rattle.zst_run.specs.declared.send.SendRequest.TheVariants.{Named, Rest}
 use Rattle.zst_run.specs.Sends.{Sends, to_send}
 
 -- an image is read as this pool, and this is what a send of it that is asked so is to give, from its beginning or from a token's point; no block
 -- of the snapshot is redacted
-pub record IsSender (asked : SendRequest) (from : Pool) (sent : Sent) (here : DiskState) : Type 0 where
+pub record IsSender (request : SendRequest) (from : Pool) (sent : Sent) (here : DiskState) : Type 0 where
   pub reads : Reads false from here.seen
-  pub is : to_send asked from ≡ Ok sent
+  pub is : to_send request from ≡ Ok sent
   pub plain : IsUnredacted sent.snapshot.objects.state
 
 -- an image is read as this pool, whose sets tell the dates of its heads where the target is there; the target has no partial state, and the receiver's
@@ -95,7 +96,7 @@ abbrev pub SentSnapshotStands : (here here' there there' : DiskState) → Type 0
 SentSnapshotStands here here' there there' =
     (tight : Bool) (ask : SendAsk) (receive : RecvAsk) (from into : Pool) (sent : Sent) (out out' other other' : SinkState) (input input' : SourceState)
     → IsSender (Named ask) from sent here → here'.honest → IsReceiver tight receive into from sent there there'
-    → Sends (Named ask) here here' out out' (Ok tt) → Receives receive there there' input input' other other' (Ok tt) → IsPiped out out' input input'
+    → Sends (Named ask) here here' out out' (Ok tt) → Replies (Receiving receive there there' input input') other other' (Ok tt) → IsPiped out out' input input'
     → IsReplicated tight receive into sent there'
 
 -- Whatever is read: a run of `receive` without -s that is refused, but for a fault of the disk or of the output, leaves nothing of the receive.
@@ -103,7 +104,7 @@ abbrev pub RefusedLeavesNothing : (there there' : DiskState) → Type 0
 RefusedLeavesNothing there there' =
     (tight : Bool) (ask : RecvAsk) (uber : Uber) (rows : Rows) (into : Pool) (refusal : Refusal) (out out' : SinkState) (input input' : SourceState)
     → there'.honest → ReadsAs tight uber rows into there.seen → TellsTarget ask rows into → partial_of ask.target into ≡ None → ask.keep ≡ false
-    → Receives ask there there' input input' out out' (Err refusal) → refusal ≢ refusals.DiskFault → refusal ≢ refusals.SinkFault
+    → Replies (Receiving ask there there' input input') out out' (Err refusal) → refusal ≢ refusals.DiskFault → refusal ≢ refusals.SinkFault
     → (after : Pool) × Keeps tight there' after × HasNothing ask into (kept_of after)
 
 -- one snapshot more stands: what the view makes of the base, under the partial state's name and over its base, and the partial state is gone
@@ -120,7 +121,7 @@ abbrev pub SentRestStands : (here here' there there' : DiskState) → Type 0
 SentRestStands here here' there there' =
     (tight : Bool) (token : Token) (receive : RecvAsk) (from into : Pool) (partial : Partial) (sent also : Sent) (state : State) (out out' other other' : SinkState) (input input' : SourceState)
     → IsRestSender token from sent also here → here'.honest → IsRestReceiver tight token receive into there there' → IsUnderway sent receive.target state into partial
-    → Sends (Rest token) here here' out out' (Ok tt) → Receives receive there there' input input' other other' (Ok tt) → IsPiped out out' input input'
+    → Sends (Rest token) here here' out out' (Ok tt) → Replies (Receiving receive there there' input input') other other' (Ok tt) → IsPiped out out' input input'
     → IsCompleted tight receive into partial sent state there'
 
 -- Wherever the stream of a send is cut off, and wherever in a write the receiver stops: each image on the way, and in the end, stood before or is in the
@@ -140,7 +141,7 @@ StopsAreProgress here there there' =
     (out out' : SinkState) (input input' : SourceState)
     → IsSender (Named ask) from sent here → IsReceiver tight receive into from sent there there'
     → recv_plan receive (header_of sent) into ≡ Ok (Begins component base)
-    → Receives receive there there' input input' out out' result → IsReadOf (begun_text sent None) input input'
+    → Replies (Receiving receive there there' input input') out out' result → IsReadOf (begun_text sent None) input input'
     → AreOnTheirWay tight receive into sent (course_from component base) there there'
 
 -- So it is of the rest of a stream, which a token asked for.
@@ -149,7 +150,7 @@ RestsAreProgress here there there' =
     (tight : Bool) (token : Token) (receive : RecvAsk) (from into : Pool) (partial : Partial) (sent also : Sent) (state : State) (result : Result (Unit {0}) Refusal)
     (out out' : SinkState) (input input' : SourceState)
     → IsRestSender token from sent also here → IsRestReceiver tight token receive into there there' → IsUnderway sent receive.target state into partial
-    → Receives receive there there' input input' out out' result → IsReadOf (begun_text also (Some token.point)) input input'
+    → Replies (Receiving receive there there' input input') out out' result → IsReadOf (begun_text also (Some token.point)) input input'
     → AreOnTheirWay tight receive into sent (course_on partial state) there there'
 
 -- each image stood before, or reads as a pool to which a chain of cut and resumed receives of what is sent leads
@@ -168,13 +169,13 @@ pub record RunsAreChained (here there there' : DiskState) : Type 0 where
       (out out' : SinkState) (input input' : SourceState)
       → IsSender (Named ask) from sent here → IsReceiver tight receive into from sent there there'
       → recv_plan receive (header_of sent) into ≡ Ok (Begins component base)
-      → Receives receive there there' input input' out out' result → IsReadOf (begun_text sent None) input input'
+      → Replies (Receiving receive there there' input input') out out' result → IsReadOf (begun_text sent None) input input'
       → AreChained tight sent receive.target component base there there'
   pub next : (tight : Bool) (token : Token) (receive : RecvAsk) (from into : Pool) (sent also : Sent) (component : List ℕ) (base : Base) (result : Result (Unit {0}) Refusal)
       (out out' : SinkState) (input input' : SourceState)
       → Chain sent receive.target component base into
       → IsRestSender token from sent also here → IsRestReceiver tight token receive into there there'
-      → Receives receive there there' input input' out out' result → IsReadOf (begun_text also (Some token.point)) input input'
+      → Replies (Receiving receive there there' input input') out out' result → IsReadOf (begun_text also (Some token.point)) input input'
       → AreChained tight sent receive.target component base there there'
 
 -- And where its last run ends with status 0, one snapshot more stands: the one that was sent, with its guid, objects, contents and holes, of the first
@@ -185,7 +186,7 @@ ChainsComplete here there there' =
     (out out' : SinkState) (input input' : SourceState)
     → Chain sent receive.target component base into
     → IsRestSender token from sent also here → IsRestReceiver tight token receive into there there'
-    → Receives receive there there' input input' out out' (Ok tt) → IsReadOf (begun_text also (Some token.point)) input input'
+    → Replies (Receiving receive there there' input input') out out' (Ok tt) → IsReadOf (begun_text also (Some token.point)) input input'
     → (after : Pool) × Keeps tight there' after × HasOneMore into (kept_of after) receive.target component (base_name base) (header_of sent) sent.snapshot.objects.state
 
 -- Whatever is read: of a receive into a sound pool each image on the way, and in the end, stood before or reads as a sound pool.
@@ -196,7 +197,7 @@ abbrev pub SoundStaysSound : (there there' : DiskState) → Type 0
 SoundStaysSound there there' =
     (tight : Bool) (ask : RecvAsk) (uber : Uber) (rows : Rows) (into : Pool) (result : Result (Unit {0}) Refusal) (out out' : SinkState) (input input' : SourceState)
     → there'.honest → ReadsAs tight uber rows into there.seen → TellsTarget ask rows into → IsDataset ask.target → Sound into
-    → Receives ask there there' input input' out out' result
+    → Replies (Receiving ask there there' input input') out out' result
     → Leaves there there' (IsSoundAfter tight there) × ((c : List ℕ) → there'.images c → IsSoundAfter tight there c)
 
 -- Whatever is read: of a receive into a sound pool each image on the way, and in the end, stood before or reads as a pool in which each snapshot and
@@ -209,5 +210,5 @@ SourcesStillRemember there there' =
     (tight : Bool) (ask : RecvAsk) (uber : Uber) (rows : Rows) (into : Pool) (source : Source) (state : State)
     (result : Result (Unit {0}) Refusal) (out out' : SinkState) (input input' : SourceState)
     → there'.honest → ReadsAs tight uber rows into there.seen → TellsTarget ask rows into → IsDataset ask.target → Sound into
-    → StillRemembers into source state → Receives ask there there' input input' out out' result
+    → StillRemembers into source state → Replies (Receiving ask there there' input input') out out' result
     → Leaves there there' (StillRemembersAfter tight source state there) × ((c : List ℕ) → there'.images c → StillRemembersAfter tight source state there c)

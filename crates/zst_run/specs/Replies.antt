@@ -15,6 +15,12 @@ abbrev pub Replied : SinkState → SinkState → Result (List (List ℕ)) Refusa
 Replied out out' (Ok lines) result = Prints out out' (reply_text lines) result × OnOk result (HandedOn out') × IfErr result (λ refusal. refusal ≡ refusals.SinkFault)
 Replied out out' (Err refusal) result = (result ≡ Err refusal) × (out' ≡ out)
 
+-- What is done answers, and the lines of its answer are written.
+pub record Replies (Is : Result (List (List ℕ)) Refusal → Type 0) (out out' : SinkState) (result : Result (Unit {0}) Refusal) : Type 0 where
+  pub answer : Result (List (List ℕ)) Refusal
+  pub does : Is answer
+  pub replied : Replied out out' answer result
+
 -- What waited was handed on and the answer stands, or that failed and is the answer (E30).
 pub record HandsOn (out out' : SinkState) (answer result : Result (Unit {0}) Refusal) : Type 0 where
   pub written : out'.written ≡ out.written

@@ -1,8 +1,11 @@
 -- A send that is under way, piece by piece.
-use Rattle.std.specs.Prelude.{ℕ, ◌+◌, ◌≡◌, ◌⊎◌, ◌<◌, ◌≤◌, Bool, true, false, List, [], length, Option, None, Some, Result, Ok, Err}
+use Rattle.std.specs.Prelude.{ℕ, ◌+◌, ◌≡◌, ◌≢◌, ◌⊎◌, ◌<◌, ◌≤◌, Bool, true, false, Contains, IfErr, List, [], length, Option, None, Some, Result, Ok, Err}
 use Rattle.zst_outside.specs.Causes.{Rose}
 use Rattle.zst_outside.specs.Printing.{Printed, Wrote}
 use Rattle.zst_outside.specs.States.{SinkState, HandedOn}
+use Rattle.zst_outside.specs.declared.disk.Disk.{Ghosts}
+use Rattle.zst_block.specs.IoStates.{IsHonest, disk_of}
+use Rattle.zst_dir.specs.Rows.{Rows}
 use Rattle.zst_model.specs.declared.refusals.faults.Quantity.TheVariants.{Stream}
 use Rattle.zst_model.specs.declared.refusals.plan_fault.PlanFault.{PlanFault}
 use Rattle.zst_model.specs.declared.refusals.refusal.Refusal.{Refusal}
@@ -10,12 +13,16 @@ use Rattle.zst_model.specs.declared.refusals.refusal.Refusal.TheVariants as refu
 use Rattle.zst_model.specs.declared.sends.header.Point.{Point}
 use Rattle.zst_model.specs.refusals.Refusal.{refusal_of}
 use Rattle.zst_model.specs.sends.Headers.{Sent}
+use Rattle.zst_pool.specs.declared.pool.Pool.{Pool}
 use Rattle.zst_reader.specs.InputReads.{stream_limit}
+use Rattle.zst_send.specs.Damage.{IsDamagedSend}
+use Rattle.zst_send.specs.KnownPointers.{IsAmong, Knows}
 use Rattle.zst_send.specs.Sends as given
-use Rattle.zst_send.specs.Sends.{begun_text}
+use Rattle.zst_send.specs.Sends.{SendFits, begun_text, sent_set}
 use Rattle.zst_send.specs.declared.send.Send.{Send}
 use Rattle.zst_tree.specs.Indices.{Blocks}
-use Rattle.zst_run.specs.Sends.{IsOut, SendsBy}
+use Rattle.zst_run.specs.declared.send.SendRequest.{SendRequest}
+use Rattle.zst_run.specs.Sends.{HasSet, IsOut, IsSendRefusal, OfGiving, SendsBy, TellsOf}
 
 -- ---- opening
 
@@ -37,6 +44,13 @@ PlansOpen planned (Err refusal) =
     ((fault : PlanFault) × (planned ≡ Err fault) × (refusal ≡ refusal_of fault))
     ⊎ ((sent : Sent) × (planned ≡ Ok sent) × (refusal ≡ refusals.OutOfMemory))
 
+-- a send was opened for a request over these rows: it has the object set that is requested, it keeps no pointer yet that wouldn't stand in whatever
+-- images, and what it keeps is in its ranges
+pub record IsOpenedFor (request : SendRequest) (rows : Rows) (send : Send) : Type 0 where
+  pub set : HasSet request rows (sent_set send)
+  pub knows : (images : List (List ℕ)) → Knows (IsAmong images) send
+  pub fits : SendFits send
+
 -- where its plan refuses a send, that is its answer, and nothing is written
 abbrev pub IfUnplanned : Result Sent PlanFault → SinkState → SinkState → Result (Unit {0}) Refusal → Type 0
 IfUnplanned (Ok sent) out out' result = Unit {0}
@@ -56,6 +70,29 @@ pub record Sending (has : Blocks) (start : Option Point) (sent : Sent) (send : S
 abbrev pub Passed : Blocks → Option Point → Sent → Send → (before after : ℕ) → SinkState → SinkState → ℕ → Option (Result (Unit {0}) Refusal) → Type 0
 Passed has start sent send before after out out' count None = Sending has start sent send out out' count
 Passed has start sent send before after out out' count (Some result) = SendsBy start (Ok sent) before after out out' result
+
+module _ {D : Type 0} {g : Ghosts D} where
+  -- a send that gives pieces: there is room for some bytes, what it keeps is in its ranges, and its pool works
+  pub record GivesPieces (pool : Pool D g) (send : Send) (bytes : List ℕ) : Type 0 where
+    pub room : 0 < length bytes
+    pub fits : SendFits send
+    pub works : pool.io.failed ≡ false
+
+  -- What a piece leaves of a send and its pool, whatever the image: its object set stays, its pointers still stand in images that they stood in, what
+  -- it keeps is in its ranges, and where it goes on the pool works.
+  pub record PieceLeaves (old new : Pool D g) (send send' : Send) (result : Option (Result (Unit {0}) Refusal)) : Type 0 where
+    pub set : sent_set send' ≡ sent_set send
+    pub knows : (images : List (List ℕ)) → Contains images (disk_of old.io).seen → IsHonest new.io → Knows (IsAmong images) send → Knows (IsAmong images) send'
+    pub fits : SendFits send'
+    pub works : result ≡ None → new.io.failed ≡ false
+
+  -- Why a send ends by this answer, whatever the image: each refusal has its cause, and none is of a plan; E25 tells a damage of its object set, in
+  -- images that its pointers stand in, of which one is what the disk reads.
+  pub record WhySendEnds (old new : Pool D g) (send : Send) (out out' : SinkState) (answer : Result (Unit {0}) Refusal) : Type 0 where
+    pub refused : IfErr answer (IsSendRefusal OfGiving (disk_of old.io) (disk_of new.io) out out')
+    pub unplanned : (fault : PlanFault) → answer ≢ Err (refusals.Plan fault)
+    pub damaged : (images : List (List ℕ)) → Contains images (disk_of old.io).seen → IsHonest new.io → Knows (IsAmong images) send
+        → TellsOf (IsDamagedSend (IsAmong images) (disk_of old.io).size (sent_set send)) answer
 
 -- where it goes on, bytes were given, and no more than a stream may have
 abbrev pub Advances : (old new : ℕ) → Option (Result (Unit {0}) Refusal) → Type 0

@@ -4,7 +4,6 @@ use Rattle.zst_outside.specs.Causes.{Rose}
 use Rattle.zst_outside.specs.Images.{DiskState, OnlyReads}
 use Rattle.zst_outside.specs.Printing.{Printed, Wrote}
 use Rattle.zst_outside.specs.States.{SinkState, HandedOn}
-use Rattle.zst_uber.specs.Slots.{latest}
 use Rattle.zst_uber.specs.declared.uber.Uber.{Uber}
 use Rattle.zst_model.specs.declared.refusals.faults.Quantity.TheVariants.{Stream}
 use Rattle.zst_model.specs.declared.refusals.subjects.Name.{Name}
@@ -21,7 +20,6 @@ use Rattle.zst_tree.specs.declared.tree.ObjSet.{ObjSet}
 use Rattle.zst_objset.specs.Damage.{DamageFact}
 use Rattle.zst_dir.specs.Rows.{Rows}
 use Rattle.zst_image.specs.Faults.{open_refusal}
-use Rattle.zst_image.specs.OpenAnswers.{TellsBody, TellsDir}
 use Rattle.zst_image.specs.Reads.{IsNamedBy, Reads, kept_rows}
 use Rattle.zst_image.specs.declared.open_fault.OpenFault.{OpenFault}
 use Rattle.zst_pool.specs.Lookups.{set_named}
@@ -31,10 +29,9 @@ use Rattle.zst_reader.specs.InputReads.{stream_limit}
 use Rattle.zst_send.specs.Damage.{IsDamagedSend}
 use Rattle.zst_send.specs.Openings.{opening, set_with, to_resume}
 use Rattle.zst_send.specs.Sends.{begun_text}
-use Rattle.zst_token.specs.declared.token.Token.{Token}
 use Rattle.zst_run.specs.declared.send.SendRequest.{SendRequest}
 use Rattle.zst_run.specs.declared.send.SendRequest.TheVariants.{Named, Rest}
-use Rattle.zst_run.specs.Commands.{HasVersion, IsPoolRefusal, Opens}
+use Rattle.zst_run.specs.Commands.{IsPoolRefusal, Opens, SaysOfOpening}
 
 -- ---- what is asked
 
@@ -58,9 +55,9 @@ abbrev pub HasSet : SendRequest → Rows → ObjSet → Type 0
 HasSet (Named ask) rows set = set_named (names.Snapshot ask.snap) rows ≡ Some set
 HasSet (Rest token) rows set = set_with token.to rows ≡ Some set
 
--- a damage of such an object set
-abbrev pub OfAsked : SendRequest → Rows → (ObjSet → DamageFact) → DamageFact
-OfAsked asked rows Is sector stated found = (set : ObjSet) × HasSet asked rows set × Is set sector stated found
+-- a damage that a send of such an object set may tell, as the disk had it
+abbrev pub IsDamagedRequest : SendRequest → Rows → DiskState → DamageFact
+IsDamagedRequest request rows disk sector stated found = (set : ObjSet) × HasSet request rows set × IsDamagedSend (IsSeen disk.seen) disk.size set sector stated found
 
 -- ---- how a send of a pool ends
 
@@ -113,10 +110,6 @@ pub record SendsBy (start : Option Point) (planned : Result Sent PlanFault) (bef
 
 -- ---- sending from an image
 
--- what a send of this object set may tell as damaged, as the disk had it
-abbrev pub send_damage : DiskState → ObjSet → DamageFact
-send_damage disk set = IsDamagedSend (IsSeen disk.seen) disk.size set
-
 -- E25 comes only of such a damage
 abbrev pub TellsOf : DamageFact → Result (Unit {0}) Refusal → Type 0
 TellsOf Is result = (sector : ℕ) (stated found : List ℕ) → result ≡ Err (refusals.Damaged sector stated found) → Is sector stated found
@@ -125,26 +118,13 @@ TellsOf Is result = (sector : ℕ) (stated found : List ℕ) → result ≡ Err 
 -- tells alone: E3, E6, E7 and E19 come exactly where the definition refuses the plan of a pool that the body and the rows name,
 -- whatever its object sets hold, and then nothing is written. E25 comes only of a block of the asked snapshot's own object set, or,
 -- where a token asks, of that of the first snapshot with its to guid.
-pub record SendRan (asked : SendRequest) (here : DiskState) (out out' : SinkState) (result : Result (Unit {0}) Refusal) (uber : Uber) (rows : Rows) : Type 0 where
+pub record SendRan (request : SendRequest) (here : DiskState) (out out' : SinkState) (result : Result (Unit {0}) Refusal) (uber : Uber) (rows : Rows) : Type 0 where
   pub opens : Opens here uber rows
-  pub planned : (pool : Pool) (fault : PlanFault) → IsNamedBy uber (kept_rows rows) pool → to_send asked pool ≡ Err fault
+  pub planned : (pool : Pool) (fault : PlanFault) → IsNamedBy uber (kept_rows rows) pool → to_send request pool ≡ Err fault
       → (result ≡ Err (refusal_of fault)) × (out' ≡ out)
   pub because : (pool : Pool) (fault : PlanFault) → IsNamedBy uber (kept_rows rows) pool → result ≡ Err (refusals.Plan fault)
-      → to_send asked pool ≡ Err fault
-  pub damaged : TellsOf (OfAsked asked (kept_rows rows) (send_damage here)) result
-
--- What an answer says of any image. E26 comes where there is no latest body, E27 where it has another version, E25 where it
--- or its directory isn't of the layout: then nothing is written. Any other answer comes where both are, but for E28 and E32
--- before anything is written.
-abbrev pub SendOpened : SendRequest → DiskState → SinkState → SinkState → Result (Unit {0}) Refusal → Type 0
-SendOpened asked here out out' (Err refusals.NoPool) = (latest here.seen ≡ None) × (out' ≡ out)
-SendOpened asked here out out' (Err (refusals.BadVersion number)) = HasVersion here number × (out' ≡ out)
-SendOpened asked here out out' (Err (refusals.Damaged sector stated found)) =
-    ((TellsBody here sector stated found ⊎ TellsDir here sector stated found) × (out' ≡ out))
-    ⊎ ((uber : Uber) × (rows : Rows) × SendRan asked here out out' (Err (refusals.Damaged sector stated found)) uber rows)
-SendOpened asked here out out' (Err refusals.DiskFault) = (out' ≡ out) ⊎ ((uber : Uber) × (rows : Rows) × SendRan asked here out out' (Err refusals.DiskFault) uber rows)
-SendOpened asked here out out' (Err refusals.OutOfMemory) = (out' ≡ out) ⊎ ((uber : Uber) × (rows : Rows) × SendRan asked here out out' (Err refusals.OutOfMemory) uber rows)
-SendOpened asked here out out' answer = (uber : Uber) × (rows : Rows) × SendRan asked here out out' answer uber rows
+      → to_send request pool ≡ Err fault
+  pub damaged : TellsOf (IsDamagedRequest request (kept_rows rows) here) result
 
 -- a refusal of a pool that was opened, E30, or E23 of a stream; and one of opening the pool
 abbrev pub OfGiving : Refusal → Type 0
@@ -160,10 +140,10 @@ pub record IsSendRefusal (Is : Refusal → Type 0) (here here' : DiskState) (out
   pub cause : refusal ≡ refusals.SinkFault → Rose out.faults out'.faults
 
 -- A send of what is asked, from an image, which is only read. Of a pool a front of the text of its plan is written.
-pub record Sends (asked : SendRequest) (here here' : DiskState) (out out' : SinkState) (result : Result (Unit {0}) Refusal) : Type 0 where
+pub record Sends (request : SendRequest) (here here' : DiskState) (out out' : SinkState) (result : Result (Unit {0}) Refusal) : Type 0 where
   pub reads : OnlyReads here here'
-  pub sends : (pool : Pool) → here'.honest → Reads false pool here.seen → SendsBy (start_of asked) (to_send asked pool) here.faults here'.faults out out' result
-  pub opened : here'.honest → SendOpened asked here out out' result
+  pub sends : (pool : Pool) → here'.honest → Reads false pool here.seen → SendsBy (start_of request) (to_send request pool) here.faults here'.faults out out' result
+  pub opened : here'.honest → SaysOfOpening (out' ≡ out) here (SendRan request here out out' result) result
   pub refused : IfErr result (IsSendRefusal OfSending here here' out out')
   pub later : here.faults ≤ here'.faults
 
@@ -171,13 +151,13 @@ pub record Sends (asked : SendRequest) (here here' : DiskState) (out out' : Sink
 
 -- a pool that reads of an image as this send was asked, from its beginning or from a point, with what is sent of it
 pub record SendsOf (sent : Sent) (start : Option Point) (here here' : DiskState) (out out' : SinkState) (result : Result (Unit {0}) Refusal) : Type 0 where
-  pub asked : SendRequest
-  pub begins : start_of asked ≡ start
+  pub request : SendRequest
+  pub begins : start_of request ≡ start
   pub pool : Pool
   pub honest : here'.honest
   pub reads : Reads false pool here.seen
-  pub is : to_send asked pool ≡ Ok sent
-  pub sends : Sends asked here here' out out' result
+  pub is : to_send request pool ≡ Ok sent
+  pub sends : Sends request here here' out out' result
 
 -- two outputs got bytes of which those of one are a front of those of the other
 pub record WroteAlike (out out' into into' : SinkState) : Type 0 where

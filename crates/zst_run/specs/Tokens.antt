@@ -1,5 +1,6 @@
 -- What the line `token` tells of a pool.
-use Rattle.std.specs.Prelude.{ℕ, ◌≡◌, ◌⊎◌, ◌≤◌, IfErr, List, [], ◌∷◌, None, Result, Ok, Err, false}
+use Rattle.std.specs.Prelude.{ℕ, ◌≡◌, ◌⊎◌, ◌≤◌, IfErr, List, [], ◌∷◌, None, Result, Err, false}
+use Rattle.std.specs.Result.{result_map_both}
 use Rattle.zst_outside.specs.Images.{DiskState, OnlyReads}
 use Rattle.zst_outside.specs.States.{SinkState}
 use Rattle.zst_uber.specs.Slots.{latest}
@@ -21,22 +22,17 @@ use Rattle.zst_token.specs.declared.token.Token.{Token}
 use Rattle.zst_run.specs.Commands.{HasVersion, IsPoolRefusal, Opens}
 use Rattle.zst_run.specs.Replies.{Replied}
 
--- what a pool tells, with its fault as a refusal
-abbrev pub as_answer : Result Token PlanFault → Result Token Refusal
-as_answer (Ok token) = Ok token
-as_answer (Err fault) = Err (refusal_of fault)
-
--- the answer is what the pool tells, unless the disk failed or no memory was left
+-- the answer is what the pool tells, its fault as a refusal, unless the disk failed or no memory was left
 abbrev pub AnswersBy : Result Token PlanFault → Result Token Refusal → Type 0
 AnswersBy told (Err refusals.DiskFault) = Unit {0}
 AnswersBy told (Err refusals.OutOfMemory) = Unit {0}
-AnswersBy told answer = answer ≡ as_answer told
+AnswersBy told answer = answer ≡ result_map_both (λ token. token) refusal_of told
 
 -- An answer of a pool that was opened by this body and these rows, whether or not the image reads as a pool: each pool that they
 -- name tells this, whatever its object sets hold.
 pub record TokenRan (dataset : List ℕ) (here : DiskState) (answer : Result Token Refusal) (uber : Uber) (rows : Rows) : Type 0 where
   pub opens : Opens here uber rows
-  pub told : (pool : Pool) → IsNamedBy uber (kept_rows rows) pool → answer ≡ as_answer (token_told dataset pool)
+  pub told : (pool : Pool) → IsNamedBy uber (kept_rows rows) pool → answer ≡ result_map_both (λ token. token) refusal_of (token_told dataset pool)
 
 -- What an answer says of any image. E26 comes where there is no latest body, E27 where it has another version, E25 where it
 -- or its directory isn't of the layout. A token or E14 comes where both are.
@@ -60,13 +56,8 @@ pub record TellsToken (dataset : List ℕ) (here here' : DiskState) (answer : Re
   pub refused : IfErr answer (IsPoolRefusal (OfToken dataset) here here')
   pub later : here.faults ≤ here'.faults
 
--- a token's text is the one line of an answer
-abbrev pub token_lines : Result Token Refusal → Result (List (List ℕ)) Refusal
-token_lines (Ok token) = Ok (token_text token ∷ [])
-token_lines (Err refusal) = Err refusal
-
--- and that line is written
+-- and its text is written as the one line of the reply
 pub record Tokens (dataset : List ℕ) (here here' : DiskState) (out out' : SinkState) (result : Result (Unit {0}) Refusal) : Type 0 where
   pub answer : Result Token Refusal
   pub tells : TellsToken dataset here here' answer
-  pub replied : Replied out out' (token_lines answer) result
+  pub replied : Replied out out' (result_map_both (λ token. token_text token ∷ []) (λ refusal. refusal) answer) result

@@ -1,7 +1,8 @@
 // The lines that work on the pool of an image: it is opened, one command runs, and its reply is written.
 ghost use Rattle.std.specs.Prelude.{◌≤◌, ◌<◌, ◌^◌};
 ghost use Rattle.zst_model.specs.pools.Step.{IsCommand};
-ghost use Rattle.zst_run.specs.Commands.{Creates, Stepping, Steps};
+ghost use Rattle.zst_run.specs.Commands.{Making, Stepping};
+ghost use Rattle.zst_run.specs.Replies.{Replies};
 
 use crate::reply::{print_line, print_reply};
 use std::alloc::Global;
@@ -21,7 +22,7 @@ pub(crate) fn create_pool<D: Disk, K: Sink>(
 ) -> Result<(), Refusal>
     requires sectors { (128 ≤ sectors) × (sectors ≤ 2 ^ 31) }
     requires id { (0 < id) × (id < 2 ^ 31) }
-    ensures { Creates sectors id (D.state here.old) (D.state here.new) (K.state out.old) (K.state out.new) result }
+    ensures { Replies (Making sectors id (D.state here.old) (D.state here.new)) (K.state out.old) (K.state out.new) result }
 {
     PoolState::create(alloc, here, sectors, id)?;
     match print_line(b"ok 1", out) {
@@ -62,7 +63,7 @@ pub(crate) fn step_pool<D: Disk, K: Sink>(
     out: &mut K,
 ) -> Result<(), Refusal>
     requires command { IsCommand command }
-    ensures { Steps now command (D.state here.old) (D.state here.new) (K.state out.old) (K.state out.new) result }
+    ensures { Replies (Stepping now command (D.state here.old) (D.state here.new)) (K.state out.old) (K.state out.new) result }
 {
     let reply = step_image(alloc, here, now, command)?;
     match print_reply(&reply, out) {

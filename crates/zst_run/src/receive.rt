@@ -1,26 +1,25 @@
 // The line that receives a snapshot: its stream is read piece by piece, and each piece is one commit of the image.
-ghost use Rattle.std.specs.Prelude.{◌≡◌, ◌++◌, ◌∷◌, ◌≤◌, ℕ, Bool, List, [], Err, IfErr, IsSome, OnOk, Option, Some, codes, false, length, take, true};
+ghost use Rattle.std.specs.Prelude.{◌≡◌, ◌++◌, ◌∷◌, ◌≤◌, ℕ, Bool, List, [], Err, IsSome, OnOk, Option, Some, codes, false, length, take, true};
 ghost use Rattle.zst_outside.specs.Printing.{Prints};
 ghost use Rattle.zst_outside.specs.States.{Gave, HandedOn};
 ghost use Rattle.zst_space.specs.FreeSectors.{FreeSectors};
 ghost use Rattle.zst_block.specs.Blocks.{Has, KeepsBlocks};
-ghost use Rattle.zst_block.specs.IoStates.{IsHonest, disk_of};
+ghost use Rattle.zst_block.specs.IoStates.{IsHonest, disk_of, io_of};
 ghost use Rattle.zst_image.specs.Commits.{Ready};
 ghost use Rattle.zst_image.specs.Reads.{free_by};
 ghost use Rattle.zst_model.specs.pools.Pool.{Pool as Plain};
 ghost use Rattle.zst_plan.specs.RecvPlan.{snapshot_name};
 ghost use Rattle.zst_pool.specs.Calls.{IsAtRest};
-ghost use Rattle.zst_reader.specs.StandsFor.{StandsFor};
 ghost use Rattle.zst_record.specs.Laws.{AreBytes};
 ghost use Rattle.zst_recv.specs.Damage.{IsDamagedFeed};
-ghost use Rattle.zst_recv.specs.Faults.{stream_limit};
 ghost use Rattle.zst_recv.specs.ReceiveSteps.{Stage, left_by};
-ghost use Rattle.zst_recv.specs.Stages.{Receives as HasTaken, RecvFits, fed_of, is_live, received_by};
+ghost use Rattle.zst_recv.specs.Stages.{Receives as HasTaken, RecvFits, ask_of, fed_of, is_live, received_by, stage_of};
 ghost use Rattle.zst_dir.specs.Rows.{Rows};
 ghost use Rattle.zst_script.specs.Asks.{receipt_of, snapshot_of, target_of};
-ghost use Rattle.zst_run.specs.Receives.{IsDamagedReceive, IsTarget, Receives, Receiving, SaysOfPlan, piece_size};
-ghost use Rattle.zst_run.specs.Replies.{reply_text};
-ghost use Rattle.zst_run.specs.ReceiveTurns.{Fed, Fills, IsEnd, IsReady, PlansOn, TurnLeaves, TurnPlans, Turns, WaitsForMore, cut_refusal, line_of, told, turn_behind, HasHanded};
+ghost use Rattle.zst_run.specs.LaterDisks.{IsLater};
+ghost use Rattle.zst_run.specs.Receives.{IsTarget, Receiving, SaysOfPlan, piece_size};
+ghost use Rattle.zst_run.specs.Replies.{Replies, reply_text};
+ghost use Rattle.zst_run.specs.ReceiveTurns.{CanFeed, Fed, Fills, IsReady, IsUnfed, PlansOn, TurnLeaves, TurnPlans, Turns, WaitsForMore, WhyReceiveEnds, cut_refusal, line_of, told, turn_behind};
 
 use itoa::Buffer;
 use std::alloc::Global;
@@ -159,29 +158,19 @@ fn feed_piece<D: Disk, S: Source>(
     items: &mut u64,
     input: &mut S,
 ) -> Turn
-    requires live { is_live recv.old.stage ≡ true }
-    requires recv { RecvFits pool.old.kept.dir recv.old }
-    requires works { pool.old.io.failed ≡ false }
-    requires ready { Ready (disk_of pool.old.io) pool.old.kept.body }
+    requires can_feed { CanFeed pool.old recv.old }
     requires room { length room.old ≡ piece_size }
     ensures turns { Turns (disk_of pool.old.io) (disk_of pool.new.io) pool.old.kept pool.new.kept recv.old recv.new items.old items.new (S.state input.old) (S.state input.new) result }
     // Whatever the image, the plan over the rows at the start says whether BEGIN is refused.
-    ensures plans { (rows : Rows) (text piece : List ℕ) → Gave (S.state input.old) (S.state input.new) piece → PlansOn rows pool.old.kept recv.old text → TurnPlans rows recv.old.ask pool.new.kept recv.new (text ++ piece) result }
+    ensures plans { (rows : Rows) (text piece : List ℕ) → Gave (S.state input.old) (S.state input.new) piece → PlansOn rows pool.old.kept recv.old text → TurnPlans rows (ask_of recv.old) pool.new.kept recv.new (text ++ piece) result }
     // One that goes on leaves each block that was there, and E25 tells a damage of the set as the refused record found it.
     ensures blocks { result ≡ Turn.More → KeepsBlocks (disk_of pool.old.io).seen (free_by pool.old.kept.body) (disk_of pool.new.io).seen (free_by pool.new.kept.body) }
     ensures damaged { (sector : ℕ) (stated found : List ℕ) → IsHonest pool.new.io → result ≡ Turn.Refused (Refusal.Damaged sector stated found)
-        → IsDamagedFeed (disk_of pool.old.io) (free_by pool.old.kept.body) pool.old.kept.dir recv.old.ask.target sector stated found }
-    // A receive that goes on is live over a pool that works; each piece before it was whole, and a stream has no more bytes than it may have.
-    ensures leaves { TurnLeaves (disk_of pool.old.io) (disk_of pool.new.io) recv.old recv.new pool.new.io.failed result }
-    ensures within { fed_of recv.new ≤ stream_limit }
-    ensures ask { recv.new.ask ≡ recv.old.ask }
-    ensures recv { RecvFits pool.new.kept.dir recv.new }
-    ensures ready { pool.new.io.failed ≡ false → Ready (disk_of pool.new.io) pool.new.kept.body }
+        → IsDamagedFeed (disk_of pool.old.io) (free_by pool.old.kept.body) pool.old.kept.dir (ask_of recv.old).target sector stated found }
+    ensures leaves { TurnLeaves pool.old pool.new recv.old recv.new result }
     ensures room { length room.new ≡ length room.old }
-    ensures later { (disk_of pool.old.io).faults ≤ (disk_of pool.new.io).faults }
+    ensures later { IsLater (io_of pool.old.io) (io_of pool.new.io) }
     ensures input_later { (S.state input.old).faults ≤ (S.state input.new).faults }
-    ensures honest { IsHonest pool.new.io → IsHonest pool.old.io }
-    ensures same { pool.new.io.disk.ghost_name ≡ pool.old.io.disk.ghost_name }
 {
     records_are_counted();
     fronts_agree();
@@ -203,13 +192,12 @@ fn feed_piece<D: Disk, S: Source>(
 
 // Ends a receive whose input gave no more.
 fn cut<D: Disk>(pool: &mut Pool<'_, D>, recv: Recv, end: End) -> Refusal
-    requires live { is_live recv.stage ≡ true }
+    requires live { is_live (stage_of recv) ≡ true }
     requires recv { RecvFits pool.old.kept.dir recv }
     ensures is { result ≡ cut_refusal end (fed_of recv) }
     ensures rests { (tight : Bool) (bound : Option ℕ) (running : Plain) (image : List ℕ) (space : FreeSectors) (stage : Stage) (text : List ℕ) → IsAtRest tight (disk_of pool.old.io) pool.old.kept running
         → HasTaken bound (Has image space) recv text stage → IsAtRest tight (disk_of pool.new.io) pool.new.kept (left_by stage running) }
-    ensures disk { pool.new.io.disk.now ≡ pool.old.io.disk.now }
-    ensures same { pool.new.io.disk.ghost_name ≡ pool.old.io.disk.ghost_name }
+    ensures io { pool.new.io ≡ pool.old.io }
 {
     match (recv.cut(pool), end) {
         (Err(fault), End::Ended) => Refusal::from(fault),
@@ -245,22 +233,14 @@ fn feed_all<D: Disk, S: Source>(
     room: &mut [u8],
     input: &mut S,
 ) -> Result<Receipt, Refusal>
-    requires live { is_live recv.stage ≡ true }
-    requires recv { RecvFits pool.old.kept.dir recv }
-    requires reads { StandsFor recv.reader [] [] }
-    requires hands { HasHanded recv [] }
-    requires works { pool.old.io.failed ≡ false }
-    requires ready { Ready (disk_of pool.old.io) pool.old.kept.body }
+    requires can_feed { CanFeed pool.old recv }
+    requires unfed { IsUnfed recv }
     requires room { length room.old ≡ piece_size }
-    ensures plans { (rows : Rows) (text : List ℕ) → Gave (S.state input.old) (S.state input.new) text → PlansOn rows pool.old.kept recv [] → SaysOfPlan rows recv.ask text (told result) }
-    ensures damaged { (sector : ℕ) (stated found : List ℕ) → IsHonest pool.new.io → result ≡ Err (Refusal.Damaged sector stated found)
-        → IsDamagedReceive (disk_of pool.old.io) pool.old.kept.body recv.ask.target sector stated found }
-    ensures fed { Fed (λ tight start. WaitsForMore tight (disk_of pool.old.io) pool.old.kept recv recv.ask start [] 0) pool.old.kept (disk_of pool.old.io) (disk_of pool.new.io) recv.ask (S.state input.old) (S.state input.new) (told result) }
-    ensures refused { IfErr result (IsEnd (disk_of pool.old.io) (disk_of pool.new.io) (S.state input.old) (S.state input.new)) }
-    ensures later { (disk_of pool.old.io).faults ≤ (disk_of pool.new.io).faults }
+    ensures plans { (rows : Rows) (text : List ℕ) → Gave (S.state input.old) (S.state input.new) text → PlansOn rows pool.old.kept recv [] → SaysOfPlan rows (ask_of recv) text (told result) }
+    ensures fed { Fed (λ tight start. WaitsForMore tight (disk_of pool.old.io) pool.old.kept recv (ask_of recv) start [] 0) pool.old.kept (disk_of pool.old.io) (disk_of pool.new.io) (ask_of recv) (S.state input.old) (S.state input.new) (told result) }
+    ensures why { WhyReceiveEnds pool.old pool.new (ask_of recv).target (S.state input.old) (S.state input.new) result }
+    ensures later { IsLater (io_of pool.old.io) (io_of pool.new.io) }
     ensures input_later { (S.state input.old).faults ≤ (S.state input.new).faults }
-    ensures honest { IsHonest pool.new.io → IsHonest pool.old.io }
-    ensures same { pool.new.io.disk.ghost_name ≡ pool.old.io.disk.ghost_name }
 {
     let mut items = 0;
     'pieces: loop {
@@ -283,14 +263,10 @@ fn receive_into<D: Disk, S: Source>(
     requires works { pool.old.io.failed ≡ false }
     requires ready { Ready (disk_of pool.old.io) pool.old.kept.body }
     ensures plans { (text : List ℕ) → Gave (S.state input.old) (S.state input.new) text → SaysOfPlan pool.old.kept.dir ask text (told result) }
-    ensures damaged { (sector : ℕ) (stated found : List ℕ) → IsHonest pool.new.io → result ≡ Err (Refusal.Damaged sector stated found)
-        → IsDamagedReceive (disk_of pool.old.io) pool.old.kept.body ask.target sector stated found }
     ensures fed { Fed (λ tight. IsReady ask tight (disk_of pool.old.io) pool.old.kept) pool.old.kept (disk_of pool.old.io) (disk_of pool.new.io) ask (S.state input.old) (S.state input.new) (told result) }
-    ensures refused { IfErr result (IsEnd (disk_of pool.old.io) (disk_of pool.new.io) (S.state input.old) (S.state input.new)) }
-    ensures later { (disk_of pool.old.io).faults ≤ (disk_of pool.new.io).faults }
+    ensures why { WhyReceiveEnds pool.old pool.new ask.target (S.state input.old) (S.state input.new) result }
+    ensures later { IsLater (io_of pool.old.io) (io_of pool.new.io) }
     ensures input_later { (S.state input.old).faults ≤ (S.state input.new).faults }
-    ensures honest { IsHonest pool.new.io → IsHonest pool.old.io }
-    ensures same { pool.new.io.disk.ghost_name ≡ pool.old.io.disk.ghost_name }
 {
     let Ok(mut room) = vec![in alloc; 0; PIECE] else {
         return Err(Refusal::OutOfMemory);
@@ -368,7 +344,7 @@ pub(crate) fn receive<D: Disk, S: Source, K: Sink>(
     input: &mut S,
     out: &mut K,
 ) -> Result<(), Refusal>
-    ensures { Receives ask (D.state here.old) (D.state here.new) (S.state input.old) (S.state input.new) (K.state out.old) (K.state out.new) result }
+    ensures { Replies (Receiving ask (D.state here.old) (D.state here.new) (S.state input.old) (S.state input.new)) (K.state out.old) (K.state out.new) result }
 {
     let receipt = receive_image(alloc, here, ask, input)?;
     match print_receipt(&receipt, out) {

@@ -1,6 +1,6 @@
 ghost use Rattle.std.specs.Prelude.{◌≡◌, None, map, string_bytes};
 ghost use Rattle.zst_run.specs.Devices.{devices};
-ghost use Rattle.zst_run.specs.LineEffects.{DoesLine, IsInRange, asked, told_of, wanted};
+ghost use Rattle.zst_run.specs.LineEffects.{DoesLine, IsInRange, receive_of, send_of, token_dataset_of};
 ghost use Rattle.zst_run.specs.Runs.{DoesWords, Runs};
 
 use crate::dump::dump;
@@ -56,8 +56,8 @@ fn run_words<D: Disk, S: Source, K: Sink>(
         (devices here.old (S.state input.old) (K.state out.old)) (devices here.new (S.state input.new) (K.state out.new)) result }
 {
     let line = parse(alloc, words)?;
-    match asked(&line) {
-        Some(asked) => send(alloc, here, &asked, out),
+    match send_of(&line) {
+        Some(request) => send(alloc, here, &request, out),
         None => run_unsent(alloc, line, now, here, input, out),
     }
 }
@@ -72,11 +72,11 @@ fn run_unsent<D: Disk, S: Source, K: Sink>(
     out: &mut K,
 ) -> Result<(), Refusal>
     requires range { IsInRange line }
-    requires other { asked line ≡ None }
+    requires no_send { send_of line ≡ None }
     ensures { DoesLine D.state now line
         (devices here.old (S.state input.old) (K.state out.old)) (devices here.new (S.state input.new) (K.state out.new)) result }
 {
-    match wanted(&line) {
+    match receive_of(&line) {
         Some(ask) => receive(alloc, here, ask, input, out),
         None => run_here(alloc, line, now, here, input, out),
     }
@@ -92,21 +92,21 @@ fn run_here<D: Disk, S: Source, K: Sink>(
     out: &mut K,
 ) -> Result<(), Refusal>
     requires range { IsInRange line }
-    requires other { asked line ≡ None }
-    requires unwanted { wanted line ≡ None }
+    requires no_send { send_of line ≡ None }
+    requires no_receive { receive_of line ≡ None }
     ensures { DoesLine D.state now line
         (devices here.old (S.state input.old) (K.state out.old)) (devices here.new (S.state input.new) (K.state out.new)) result }
 {
-    match told_of(&line) {
+    match token_dataset_of(&line) {
         Some(dataset) => tell_token(alloc, here, &dataset, out),
         None => run_line(alloc, line, now, here, input, out),
     }
 }
 
 /// What a line asks to be sent.
-fn asked(line: &Line) -> Option<SendRequest>
+fn send_of(line: &Line) -> Option<SendRequest>
     requires { IsInRange line.now }
-    ensures { result ≡ asked line.now }
+    ensures { result ≡ send_of line.now }
 {
     match line {
         Line::Send {
@@ -121,9 +121,9 @@ fn asked(line: &Line) -> Option<SendRequest>
 }
 
 /// What a line asks to be received.
-fn wanted(line: &Line) -> Option<RecvAsk>
+fn receive_of(line: &Line) -> Option<RecvAsk>
     requires { IsInRange line.now }
-    ensures { result ≡ wanted line.now }
+    ensures { result ≡ receive_of line.now }
 {
     match line {
         Line::Receive {
@@ -138,8 +138,8 @@ fn wanted(line: &Line) -> Option<RecvAsk>
 }
 
 /// The dataset whose token a line asks for.
-fn told_of(line: &Line) -> Option<DatasetName>
-    ensures { result ≡ told_of line.now }
+fn token_dataset_of(line: &Line) -> Option<DatasetName>
+    ensures { result ≡ token_dataset_of line.now }
 {
     match line {
         Line::Token { dataset, .. } => Some(dataset.duplicate()),
@@ -157,9 +157,9 @@ fn run_line<D: Disk, S: Source, K: Sink>(
     out: &mut K,
 ) -> Result<(), Refusal>
     requires range { IsInRange line }
-    requires other { asked line ≡ None }
-    requires unwanted { wanted line ≡ None }
-    requires untold { told_of line ≡ None }
+    requires no_send { send_of line ≡ None }
+    requires no_receive { receive_of line ≡ None }
+    requires no_token { token_dataset_of line ≡ None }
     ensures { DoesLine D.state now line
         (devices here.old (S.state input.old) (K.state out.old)) (devices here.new (S.state input.new) (K.state out.new)) result }
 {

@@ -1,11 +1,11 @@
 // The lines that send a snapshot, or the rest of it that a token tells: the stream is written piece by piece, as it is read of the image.
-ghost use Rattle.std.specs.Prelude.{Option, ◌≡◌, ◌==◌, ◌≢◌, ◌≤◌, ◌<◌, ℕ, Contains, List, false, length, IfErr, IfOk, IfSome, None, Some, Ok, Err};
+ghost use Rattle.std.specs.Prelude.{Option, ◌≡◌, ◌==◌, ◌≤◌, ℕ, List, false, length, IfErr, IfOk, IfSome, MatchResult, None, Some, Ok, Err};
 ghost use Rattle.std.specs.List.{position};
 ghost use Rattle.zst_outside.specs.Images.{OnlyReads};
 ghost use Rattle.zst_outside.specs.States.{SinkState};
 ghost use Rattle.zst_space.specs.FreeSectors.{FreeSectors};
 ghost use Rattle.zst_block.specs.Blocks.{Has};
-ghost use Rattle.zst_block.specs.IoStates.{IsHonest, blocks_of, disk_of};
+ghost use Rattle.zst_block.specs.IoStates.{IsHonest, blocks_of, disk_of, io_of};
 ghost use Rattle.zst_dir.specs.RowNames.{AreNamed};
 ghost use Rattle.zst_image.specs.Reads.{RunsBy};
 ghost use Rattle.zst_model.specs.pools.Pool.{Pool as Plain};
@@ -15,14 +15,12 @@ ghost use Rattle.zst_model.specs.sends.Headers.{Sent};
 ghost use Rattle.zst_plan.specs.Places.{AnswerAlike};
 ghost use Rattle.zst_plan.specs.Plans.{IsInside, IsPlanOf};
 ghost use Rattle.zst_reader.specs.InputReads.{stream_limit};
-ghost use Rattle.zst_send.specs.Damage.{IsDamagedSend};
-ghost use Rattle.zst_send.specs.KnownPointers.{IsAmong, Knows};
 ghost use Rattle.zst_send.specs.Openings.{opening, rest_of};
-ghost use Rattle.zst_send.specs.Sends.{SendFits, sent_set};
 ghost use Rattle.zst_script.specs.Asks.{ask_of, source_of};
 ghost use Rattle.zst_run.specs.declared.send.SendRequest.TheVariants.{Named, Rest};
-ghost use Rattle.zst_run.specs.Sends.{HasSet, IsSendRefusal, IsSource, OfAsked, OfGiving, Sends, SendsBy, SentAlike, TellsOf, send_damage, start_of, to_send};
-ghost use Rattle.zst_run.specs.SendPieces.{Advances, IfUnplanned, IsOpenRefusal, OpensBy, Passed, PlansOpen, Sending, WritesPiece};
+ghost use Rattle.zst_run.specs.LaterDisks.{IsLater};
+ghost use Rattle.zst_run.specs.Sends.{IsDamagedRequest, IsSendRefusal, IsSource, OfGiving, Sends, SendsBy, SentAlike, TellsOf, start_of, to_send};
+ghost use Rattle.zst_run.specs.SendPieces.{Advances, GivesPieces, IfUnplanned, IsOpenRefusal, IsOpenedFor, OpensBy, Passed, PieceLeaves, PlansOpen, Sending, WhySendEnds, WritesPiece};
 
 use crate::reply::hand_on;
 use std::alloc::Global;
@@ -130,26 +128,17 @@ fn pass_piece<D: Disk, K: Sink>(
     room: &mut [u8],
     out: &mut K,
 ) -> Option<Result<(), Refusal>>
-    requires room { 0 < length room.old }
-    requires send { SendFits send.old }
-    requires works { pool.old.io.failed ≡ false }
+    requires gives { GivesPieces pool.old send.old room.old }
     requires within { count.old ≤ stream_limit }
     ensures passed { (start : Option Point) (sent : Sent) (begun : SinkState) → IsHonest pool.new.io → Sending (blocks_of pool.old.io) start sent send.old begun (K.state out.old) count.old
         → Passed (blocks_of pool.new.io) start sent send.new (disk_of pool.old.io).faults (disk_of pool.new.io).faults begun (K.state out.new) count.new result }
     ensures advances { Advances count.old count.new result }
-    ensures refused { IfSome result (λ answer. IfErr answer (IsSendRefusal OfGiving (disk_of pool.old.io) (disk_of pool.new.io) (K.state out.old) (K.state out.new))) }
-    ensures unplanned { (fault : PlanFault) → result ≢ Some (Err (Refusal.Plan fault)) }
-    ensures set { sent_set send.new ≡ sent_set send.old }
-    ensures knows { (images : List (List ℕ)) → Contains images (disk_of pool.old.io).seen → IsHonest pool.new.io → Knows (IsAmong images) send.old → Knows (IsAmong images) send.new }
-    ensures damaged { (images : List (List ℕ)) → Contains images (disk_of pool.old.io).seen → IsHonest pool.new.io → Knows (IsAmong images) send.old
-        → IfSome result (TellsOf (IsDamagedSend (IsAmong images) (disk_of pool.old.io).size (sent_set send.old))) }
+    ensures why { IfSome result (WhySendEnds pool.old pool.new send.old (K.state out.old) (K.state out.new)) }
+    ensures leaves { PieceLeaves pool.old pool.new send.old send.new result }
     ensures room { length room.new ≡ length room.old }
-    ensures send { SendFits send.new }
-    ensures works { result ≡ None → pool.new.io.failed ≡ false }
     ensures reads { OnlyReads (disk_of pool.old.io) (disk_of pool.new.io) }
-    ensures later { (disk_of pool.old.io).faults ≤ (disk_of pool.new.io).faults }
+    ensures later { IsLater (io_of pool.old.io) (io_of pool.new.io) }
     ensures out_later { (K.state out.old).faults ≤ (K.state out.new).faults }
-    ensures same { pool.new.io.disk.ghost_name ≡ pool.old.io.disk.ghost_name }
 {
     match send.take(pool, room) {
         Ok(taken) => {
@@ -167,18 +156,12 @@ fn pass_all<D: Disk, K: Sink>(
     room: &mut [u8],
     out: &mut K,
 ) -> Result<(), Refusal>
-    requires room { 0 < length room.old }
-    requires send { SendFits send }
-    requires works { pool.old.io.failed ≡ false }
+    requires { GivesPieces pool.old send room.old }
     ensures sends { (start : Option Point) (sent : Sent) → IsHonest pool.new.io → Sending (blocks_of pool.old.io) start sent send (K.state out.old) (K.state out.old) 0
         → SendsBy start (Ok sent) (disk_of pool.old.io).faults (disk_of pool.new.io).faults (K.state out.old) (K.state out.new) result }
-    ensures unplanned { (fault : PlanFault) → result ≢ Err (Refusal.Plan fault) }
-    ensures damaged { (images : List (List ℕ)) → Contains images (disk_of pool.old.io).seen → IsHonest pool.new.io → Knows (IsAmong images) send
-        → TellsOf (IsDamagedSend (IsAmong images) (disk_of pool.old.io).size (sent_set send)) result }
-    ensures refused { IfErr result (IsSendRefusal OfGiving (disk_of pool.old.io) (disk_of pool.new.io) (K.state out.old) (K.state out.new)) }
+    ensures why { WhySendEnds pool.old pool.new send (K.state out.old) (K.state out.new) result }
     ensures reads { OnlyReads (disk_of pool.old.io) (disk_of pool.new.io) }
-    ensures later { (disk_of pool.old.io).faults ≤ (disk_of pool.new.io).faults }
-    ensures same { pool.new.io.disk.ghost_name ≡ pool.old.io.disk.ghost_name }
+    ensures later { IsLater (io_of pool.old.io) (io_of pool.new.io) }
 {
     let mut count = 0;
     'pieces: loop {
@@ -198,14 +181,8 @@ fn open_named<D: Disk>(
     requires { pool.old.io.failed ≡ false }
     ensures opens { (image : List ℕ) (space : FreeSectors) (running : Plain) → RunsBy None (Has image space) pool.old.kept.dir running → OpensBy (Has image space) None (opening ask.now running) result }
     ensures planned { (running : Plain) → AreNamed pool.old.kept.dir running → PlansOpen (opening ask.now running) result }
-    ensures set { IfOk result (λ send. HasSet (Named ask.now) pool.old.kept.dir (sent_set send)) }
-    ensures knows { (images : List (List ℕ)) → IfOk result (Knows (IsAmong images)) }
-    ensures fits { IfOk result SendFits }
-    ensures refused { IfErr result IsOpenRefusal }
-    ensures disk { pool.new.io.disk.now ≡ pool.old.io.disk.now }
-    ensures space { pool.new.io.space ≡ pool.old.io.space }
-    ensures failed { pool.new.io.failed ≡ pool.old.io.failed }
-    ensures same { pool.new.io.disk.ghost_name ≡ pool.old.io.disk.ghost_name }
+    ensures answers { MatchResult result (IsOpenedFor (Named ask.now) pool.old.kept.dir) IsOpenRefusal }
+    ensures pool { pool.new ≡ pool.old }
 {
     match Send::open(pool, alloc, ask) {
         Ok(send) => Ok(send),
@@ -232,14 +209,8 @@ fn open_rest<D: Disk>(alloc: Global, pool: &mut Pool<'_, D>, token: &Token) -> R
     ensures opens { (image : List ℕ) (space : FreeSectors) (running : Plain) → RunsBy None (Has image space) pool.old.kept.dir running
         → OpensBy (Has image space) (Some token.now.point) (to_send (Rest token.now) running) result }
     ensures planned { (running : Plain) → AreNamed pool.old.kept.dir running → PlansOpen (to_send (Rest token.now) running) result }
-    ensures set { IfOk result (λ send. HasSet (Rest token.now) pool.old.kept.dir (sent_set send)) }
-    ensures knows { (images : List (List ℕ)) → IfOk result (Knows (IsAmong images)) }
-    ensures fits { IfOk result SendFits }
-    ensures refused { IfErr result IsOpenRefusal }
-    ensures disk { pool.new.io.disk.now ≡ pool.old.io.disk.now }
-    ensures space { pool.new.io.space ≡ pool.old.io.space }
-    ensures failed { pool.new.io.failed ≡ pool.old.io.failed }
-    ensures same { pool.new.io.disk.ghost_name ≡ pool.old.io.disk.ghost_name }
+    ensures answers { MatchResult result (IsOpenedFor (Rest token.now) pool.old.kept.dir) IsOpenRefusal }
+    ensures pool { pool.new ≡ pool.old }
 {
     let plan = rest_plan(&pool.kept.dir, token)?;
     match Send::resume(pool, alloc, &plan, token.point) {
@@ -253,22 +224,16 @@ fn open_rest<D: Disk>(alloc: Global, pool: &mut Pool<'_, D>, token: &Token) -> R
 fn open<D: Disk>(
     alloc: Global,
     pool: &mut Pool<'_, D>,
-    asked: &SendRequest,
+    request: &SendRequest,
 ) -> Result<Send, Refusal>
     requires { pool.old.io.failed ≡ false }
     ensures opens { (image : List ℕ) (space : FreeSectors) (running : Plain) → RunsBy None (Has image space) pool.old.kept.dir running
-        → OpensBy (Has image space) (start_of asked.now) (to_send asked.now running) result }
-    ensures planned { (running : Plain) → AreNamed pool.old.kept.dir running → PlansOpen (to_send asked.now running) result }
-    ensures set { IfOk result (λ send. HasSet asked.now pool.old.kept.dir (sent_set send)) }
-    ensures knows { (images : List (List ℕ)) → IfOk result (Knows (IsAmong images)) }
-    ensures fits { IfOk result SendFits }
-    ensures refused { IfErr result IsOpenRefusal }
-    ensures disk { pool.new.io.disk.now ≡ pool.old.io.disk.now }
-    ensures space { pool.new.io.space ≡ pool.old.io.space }
-    ensures failed { pool.new.io.failed ≡ pool.old.io.failed }
-    ensures same { pool.new.io.disk.ghost_name ≡ pool.old.io.disk.ghost_name }
+        → OpensBy (Has image space) (start_of request.now) (to_send request.now running) result }
+    ensures planned { (running : Plain) → AreNamed pool.old.kept.dir running → PlansOpen (to_send request.now running) result }
+    ensures answers { MatchResult result (IsOpenedFor request.now pool.old.kept.dir) IsOpenRefusal }
+    ensures pool { pool.new ≡ pool.old }
 {
-    match asked {
+    match request {
         SendRequest::Named(ask) => open_named(alloc, pool, ask),
         SendRequest::Rest(token) => open_rest(alloc, pool, token),
     }
@@ -278,21 +243,20 @@ fn open<D: Disk>(
 fn send_from<D: Disk, K: Sink>(
     alloc: Global,
     pool: &mut Pool<'_, D>,
-    asked: &SendRequest,
+    request: &SendRequest,
     out: &mut K,
 ) -> Result<(), Refusal>
     requires works { pool.old.io.failed ≡ false }
     ensures sends { (running : Plain) → IsHonest pool.new.io → RunsBy None (blocks_of pool.old.io) pool.old.kept.dir running
-        → SendsBy (start_of asked.now) (to_send asked.now running) (disk_of pool.old.io).faults (disk_of pool.new.io).faults (K.state out.old) (K.state out.new) result }
-    ensures planned { (running : Plain) → AreNamed pool.old.kept.dir running → IfUnplanned (to_send asked.now running) (K.state out.old) (K.state out.new) result }
-    ensures because { (running : Plain) (fault : PlanFault) → AreNamed pool.old.kept.dir running → result ≡ Err (Refusal.Plan fault) → to_send asked.now running ≡ Err fault }
-    ensures damaged { IsHonest pool.new.io → TellsOf (OfAsked asked.now pool.old.kept.dir (send_damage (disk_of pool.old.io))) result }
+        → SendsBy (start_of request.now) (to_send request.now running) (disk_of pool.old.io).faults (disk_of pool.new.io).faults (K.state out.old) (K.state out.new) result }
+    ensures planned { (running : Plain) → AreNamed pool.old.kept.dir running → IfUnplanned (to_send request.now running) (K.state out.old) (K.state out.new) result }
+    ensures because { (running : Plain) (fault : PlanFault) → AreNamed pool.old.kept.dir running → result ≡ Err (Refusal.Plan fault) → to_send request.now running ≡ Err fault }
+    ensures damaged { IsHonest pool.new.io → TellsOf (IsDamagedRequest request.now pool.old.kept.dir (disk_of pool.old.io)) result }
     ensures refused { IfErr result (IsSendRefusal OfGiving (disk_of pool.old.io) (disk_of pool.new.io) (K.state out.old) (K.state out.new)) }
     ensures reads { OnlyReads (disk_of pool.old.io) (disk_of pool.new.io) }
-    ensures later { (disk_of pool.old.io).faults ≤ (disk_of pool.new.io).faults }
-    ensures same { pool.new.io.disk.ghost_name ≡ pool.old.io.disk.ghost_name }
+    ensures later { IsLater (io_of pool.old.io) (io_of pool.new.io) }
 {
-    let send = open(alloc, pool, asked)?;
+    let send = open(alloc, pool, request)?;
     let Ok(mut room) = vec![in alloc; 0; PIECE] else {
         return Err(Refusal::OutOfMemory);
     };
@@ -303,14 +267,14 @@ fn send_from<D: Disk, K: Sink>(
 pub(crate) fn send<D: Disk, K: Sink>(
     alloc: Global,
     here: &mut D,
-    asked: &SendRequest,
+    request: &SendRequest,
     out: &mut K,
 ) -> Result<(), Refusal>
-    ensures { Sends asked.now (D.state here.old) (D.state here.new) (K.state out.old) (K.state out.new) result }
+    ensures { Sends request.now (D.state here.old) (D.state here.new) (K.state out.old) (K.state out.new) result }
 {
     let kept = PoolState::open(alloc, here)?;
     let mut pool = Pool::new(alloc, here, kept);
-    let result = send_from(alloc, &mut pool, asked, out);
+    let result = send_from(alloc, &mut pool, request, out);
     // Only of a disk that was given back is it known what stands on it.
     pool.into_disk();
     result

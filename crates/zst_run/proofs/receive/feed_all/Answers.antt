@@ -1,10 +1,11 @@
 use Rattle.std.specs.List.{concat}
-use Rattle.std.proofs.Common.{ℕ, List, [], ◌∷◌, ◌++◌, Ok, Err, refl, sym, ap, ◌∙◌, subst, arith}
+use Rattle.std.proofs.Common.{ℕ, List, [], ◌∷◌, ◌++◌, Ok, Err, inl, refl, sym, ap, ◌∙◌, subst, arith}
 use Rattle.zst_plan.specs.declared.receive.RecvAsk.{RecvAsk}
 use Rattle.zst_recv.specs.Stages.{fed_of}
 use Rattle.zst_pool.specs.Calls.{IsAtRest}
 use Rattle.zst_recv.specs.ReceiveSteps.{left_by}
-use Rattle.zst_run.proofs.ReceiveLemmas.{cut_fed, cut_refused, fed_none, more_fed, received_fed, refused_fed, rose_behind}
+use Rattle.zst_run.proofs.LaterDisks.{later_io, later_none, later_then}
+use Rattle.zst_run.proofs.ReceiveLemmas.{cut_fed, cut_refused, fed_none, more_fed, received_fed, refused_earlier, refused_fed, rose_behind}
 use Rattle.zst_run.specs.Receives.{SaysOfPlan}
 use Rattle.zst_run.specs.ReceiveTurns.{PlansOn, line_of, told, Fed, WaitsForMore}
 use Rattle.zst_image.specs.Reads.{free_by}
@@ -17,19 +18,14 @@ use Rattle.zst_run.proofs.receive.feed_all.Goals as goal
 
 pub pieces-init : goal.pieces-init
 pieces-init g c = record {
-  feeding = fed_none _ _ _ _ c.requires.reads c.requires.hands;
+  feeding = fed_none _ _ _ _ c.requires.unfed.reads c.requires.unfed.hands;
   plans = λ rows text gave on. subst (λ (t : List ℕ). PlansOn rows c.args.pool.now.kept c.args.recv t) (sym (gave_none (g.S.Source.state c.args.input.now) text gave)) on;
   blocks = λ ptr bytes has. has;
-  live = c.requires.live;
-  recv = c.requires.recv;
-  works = c.requires.works;
-  ready = c.requires.ready;
+  can_feed = c.requires.can_feed;
   room = c.requires.room;
   ask = refl;
-  later = omega arith;
+  later = later_none _;
   input_later = omega arith;
-  honest = λ told. told;
-  same = refl;
 }
 
 pub pieces-preserved : goal.pieces-preserved
@@ -37,55 +33,55 @@ pieces-preserved g c =
     let i = c.pieces.invariant in
     let e = c.in-More.ensures in
     record {
-      feeding = more_fed _ _ _ _ _ _ _ _ _ _ _ _ _ _ i.feeding i.ask e.honest e.turns;
+      feeding = more_fed _ _ _ _ _ _ _ _ _ _ _ _ _ _ i.feeding i.ask e.later.honest e.turns;
       plans = λ rows text gave on.
           let front = concat i.feeding.pieces in
           let is = so_far (g.S.Source.state c.args.input.now) (g.S.Source.state c.pieces.input) (g.S.Source.state c.feed_piece.new.input) front e.turns.piece text i.feeding.consumed e.turns.gave gave in
           subst (λ (t : List ℕ). PlansOn rows c.feed_piece.new.pool.kept c.feed_piece.new.recv t) (sym is) (e.plans rows front e.turns.piece e.turns.gave (i.plans rows front i.feeding.consumed on));
       blocks = λ ptr bytes has. c.feed_piece.ensures.blocks c.in-More.is ptr bytes (i.blocks ptr bytes has);
-      live = e.leaves.0;
-      recv = e.recv;
-      works = e.leaves.1;
-      ready = e.ready e.leaves.1;
+      can_feed = record { live = e.leaves.ends.0; fits = e.leaves.fits; works = e.leaves.ends.1; ready = e.leaves.ready e.leaves.ends.1 };
       room = e.room ∙ i.room;
-      ask = e.ask ∙ i.ask;
-      later = let first = i.later in let next = e.later in omega arith;
+      ask = e.leaves.ask ∙ i.ask;
+      later = later_then _ _ _ i.later e.later;
       input_later = let first = i.input_later in let next = e.input_later in omega arith;
-      honest = λ told. i.honest (e.honest told);
-      same = e.same ∙ i.same;
     }
+
+pub pieces-smaller : goal.pieces-smaller
+pieces-smaller g c =
+    let leaves = c.in-More.ensures.leaves in
+    let more = leaves.ends.2 in
+    let within = leaves.within in
+    omega arith
+
+pub made_receipt-requires : goal.made_receipt-requires
+made_receipt-requires g c = c.in-Received.ensures.leaves.ends
+
+pub cut-requires : goal.cut-requires
+cut-requires g c = let leaves = c.in-Over.ensures.leaves in record { live = leaves.ends.0; recv = leaves.fits }
 
 pub returns-in-Received-clause-fed : goal.returns-in-Received-clause-fed
 returns-in-Received-clause-fed g c =
     let i = c.pieces.invariant in
     let e = c.in-Received.ensures in
-    received_fed _ _ _ _ _ _ _ _ _ _ _ _ _ _ i.feeding i.ask e.honest e.turns c.made_receipt.result c.made_receipt.ensures.snapshot c.made_receipt.ensures.items
+    received_fed _ _ _ _ _ _ _ _ _ _ _ _ _ _ i.feeding i.ask e.later.honest e.turns c.made_receipt.result c.made_receipt.ensures.snapshot c.made_receipt.ensures.items
 
 pub returns-in-Over-clause-fed : goal.returns-in-Over-clause-fed
 returns-in-Over-clause-fed g c =
     let i = c.pieces.invariant in
     let e = c.in-Over.ensures in
     let cut = c.cut.ensures in
+    let disk = ap (λ (io : _). io.disk.now) cut.io in
     subst (λ d. Fed (λ tight pool. WaitsForMore tight (g.D.Disk.state c.args.pool.now.io.disk.now) c.args.pool.now.kept c.args.recv c.args.recv.ask pool [] 0) c.args.pool.now.kept
-    (g.D.Disk.state c.args.pool.now.io.disk.now) (g.D.Disk.state d) c.args.recv.ask (g.S.Source.state c.args.input.now) (g.S.Source.state c.feed_piece.new.input) (told (Err c.cut.result))) (sym cut.disk)
-    (cut_fed _ _ _ _ _ _ _ _ _ _ _ _ _ _ i.feeding i.ask e.honest c.cut.new.pool.kept
-    (λ tight bound running image space stage text rests has. subst (λ d. IsAtRest tight (g.D.Disk.state d) c.cut.new.pool.kept (left_by stage running)) cut.disk (cut.rests tight bound running image space stage text rests has))
+    (g.D.Disk.state c.args.pool.now.io.disk.now) (g.D.Disk.state d) c.args.recv.ask (g.S.Source.state c.args.input.now) (g.S.Source.state c.feed_piece.new.input) (told (Err c.cut.result))) (sym disk)
+    (cut_fed _ _ _ _ _ _ _ _ _ _ _ _ _ _ i.feeding i.ask e.later.honest c.cut.new.pool.kept
+    (λ tight bound running image space stage text rests has. subst (λ d. IsAtRest tight (g.D.Disk.state d) c.cut.new.pool.kept (left_by stage running)) disk (cut.rests tight bound running image space stage text rests has))
     c.in-Over.end c.cut.result e.turns cut.is)
-
-pub returns-in-Over-clause-refused : goal.returns-in-Over-clause-refused
-returns-in-Over-clause-refused g c =
-    let i = c.pieces.invariant in
-    let e = c.in-Over.ensures in
-    let start = g.S.Source.state c.args.input.now in
-    let now = g.S.Source.state c.feed_piece.new.input in
-    cut_refused (g.D.Disk.state c.args.pool.now.io.disk.now) (g.D.Disk.state c.cut.new.pool.io.disk.now) start now c.in-Over.end (fed_of c.feed_piece.new.recv) c.cut.result c.cut.ensures.is
-    (rose_behind start (g.S.Source.state c.pieces.input) now c.in-Over.end i.input_later e.turns.input_is)
 
 pub returns-in-Refused-clause-fed : goal.returns-in-Refused-clause-fed
 returns-in-Refused-clause-fed g c =
     let i = c.pieces.invariant in
     let e = c.in-Refused.ensures in
-    refused_fed _ _ _ _ _ _ _ _ _ _ _ _ _ _ i.feeding i.ask e.honest c.in-Refused.refusal e.turns
+    refused_fed _ _ _ _ _ _ _ _ _ _ _ _ _ _ i.feeding i.ask e.later.honest c.in-Refused.refusal e.turns
 
 pub returns-in-Received-clause-plans : goal.returns-in-Received-clause-plans
 returns-in-Received-clause-plans g c = λ rows text gave on.
@@ -106,7 +102,7 @@ returns-in-Over-clause-plans g c = λ rows text gave on.
     let is = so_far (g.S.Source.state c.args.input.now) (g.S.Source.state c.pieces.input) (g.S.Source.state c.feed_piece.new.input) front e.turns.piece text i.feeding.consumed e.turns.gave gave in
     let turn = e.plans rows front e.turns.piece e.turns.gave (i.plans rows front i.feeding.consumed on) in
     subst (λ (t : List ℕ). SaysOfPlan rows c.args.recv.ask t (Err c.cut.result)) (sym is)
-    (cut_plans rows c.feed_piece.new.pool.kept c.feed_piece.new.recv c.args.recv.ask (front ++ e.turns.piece) c.in-Over.end (fed_of c.feed_piece.new.recv) c.cut.result (e.ask ∙ i.ask) c.cut.ensures.is turn)
+    (cut_plans rows c.feed_piece.new.pool.kept c.feed_piece.new.recv c.args.recv.ask (front ++ e.turns.piece) c.in-Over.end (fed_of c.feed_piece.new.recv) c.cut.result (e.leaves.ask ∙ i.ask) c.cut.ensures.is turn)
 
 pub returns-in-Refused-clause-plans : goal.returns-in-Refused-clause-plans
 returns-in-Refused-clause-plans g c = λ rows text gave on.
@@ -118,18 +114,41 @@ returns-in-Refused-clause-plans g c = λ rows text gave on.
     subst (λ (t : List ℕ). SaysOfPlan rows c.args.recv.ask t (Err c.in-Refused.refusal)) (sym is)
     (subst (λ (a : RecvAsk). SaysOfPlan rows a (front ++ e.turns.piece) (Err c.in-Refused.refusal)) i.ask turn)
 
-pub returns-in-Received-clause-damaged : goal.returns-in-Received-clause-damaged
-returns-in-Received-clause-damaged g c = λ sector stated found honest is. absurd (cc is)
+pub returns-in-Received-clause-why : goal.returns-in-Received-clause-why
+returns-in-Received-clause-why g c = record { refused = tt; damaged = λ sector stated found honest is. absurd (cc is) }
 
-pub returns-in-Over-clause-damaged : goal.returns-in-Over-clause-damaged
-returns-in-Over-clause-damaged g c = λ sector stated found honest is.
-    absurd (cut_undamaged c.in-Over.end (fed_of c.feed_piece.new.recv) sector stated found (sym c.cut.ensures.is ∙ err_refused c.cut.result _ is))
+pub returns-in-Over-clause-why : goal.returns-in-Over-clause-why
+returns-in-Over-clause-why g c =
+    let start = g.S.Source.state c.args.input.now in
+    let now = g.S.Source.state c.feed_piece.new.input in
+    let count = fed_of c.feed_piece.new.recv in
+    let is = c.cut.ensures.is in
+    record {
+      refused =
+          cut_refused (g.D.Disk.state c.args.pool.now.io.disk.now) (g.D.Disk.state c.cut.new.pool.io.disk.now) start now c.in-Over.end count c.cut.result is
+          (rose_behind start (g.S.Source.state c.pieces.input) now c.in-Over.end c.pieces.invariant.input_later c.in-Over.ensures.turns.input_is);
+      damaged = λ sector stated found honest same. absurd (cut_undamaged c.in-Over.end count sector stated found (sym is ∙ err_refused c.cut.result _ same));
+    }
 
-pub returns-in-Refused-clause-damaged : goal.returns-in-Refused-clause-damaged
-returns-in-Refused-clause-damaged g c = λ sector stated found honest is.
+pub returns-in-Refused-clause-why : goal.returns-in-Refused-clause-why
+returns-in-Refused-clause-why g c =
     let i = c.pieces.invariant in
+    let e = c.in-Refused.ensures in
     let old = g.D.Disk.state c.pieces.pool.io.disk.now in
     let kept = c.pieces.pool.kept in
-    damaged_behind (g.D.Disk.state c.args.pool.now.io.disk.now) old c.args.pool.now.kept.body kept c.args.recv.ask.target sector stated found i.blocks
-    (subst (λ (a : RecvAsk). IsDamagedFeed old (free_by kept.body) kept.dir a.target sector stated found) i.ask
-    (c.in-Refused.ensures.damaged sector stated found honest (ap (λ (r : Refusal). turns.Refused r) (err_refused c.in-Refused.refusal _ is))))
+    record {
+      refused = inl (refused_earlier _ old _ c.in-Refused.refusal i.later.faults e.leaves.ends);
+      damaged = λ sector stated found honest is.
+          damaged_behind (g.D.Disk.state c.args.pool.now.io.disk.now) old c.args.pool.now.kept.body kept c.args.recv.ask.target sector stated found i.blocks
+          (subst (λ (a : RecvAsk). IsDamagedFeed old (free_by kept.body) kept.dir a.target sector stated found) i.ask
+          (e.damaged sector stated found honest (ap (λ (r : Refusal). turns.Refused r) (err_refused c.in-Refused.refusal _ is))));
+    }
+
+pub returns-in-Received-clause-later : goal.returns-in-Received-clause-later
+returns-in-Received-clause-later g c = later_then _ _ _ c.pieces.invariant.later c.in-Received.ensures.later
+
+pub returns-in-Over-clause-later : goal.returns-in-Over-clause-later
+returns-in-Over-clause-later g c = later_io _ _ _ c.cut.ensures.io (later_then _ _ _ c.pieces.invariant.later c.in-Over.ensures.later)
+
+pub returns-in-Refused-clause-later : goal.returns-in-Refused-clause-later
+returns-in-Refused-clause-later g c = later_then _ _ _ c.pieces.invariant.later c.in-Refused.ensures.later

@@ -9,7 +9,9 @@ use Rattle.zst_run.specs.ReceiveTurns.{TurnPlans, turn_behind}
 use Rattle.zst_run.specs.declared.receive.Turn.TheVariants as turns
 use Rattle.zst_model.specs.declared.refusals.refusal.Refusal.TheVariants as refusals
 use Rattle.zst_run.proofs.ReceiveDamage.{damaged_only, never_refused, turn_refused}
-use Rattle.zst_run.proofs.LiveReceives.{leaves_on}
+use Rattle.zst_run.proofs.LaterDisks.{later_none}
+use Rattle.zst_run.proofs.LiveReceives.{fed_within, lives_on, lives_without}
+use Rattle.zst_run.proofs.ReceiveLemmas.{feed_refused}
 use Rattle.zst_run.proofs.ReceivePlans.{ends_plans, gave_one, goes_plans, none_plans, refused_plans, turn_plans}
 use Rattle.zst_run.proofs.receive.feed_piece.Goals as goal
 
@@ -25,19 +27,21 @@ returns-then-fed-clause-turns g c =
     let e = c.in-Ok.ensures in
     let bytes = All-take (λ (byte : ℕ). byte < 256) p.result.count p.new.room p.ensures.bytes in
     turns_received _ _ p.new.room p.result.count p.result.end p.ensures.within (p.ensures.room ∙ c.requires.room) p.ensures.gave p.ensures.fills c.records_are_counted.ensures (λ is. c.if-piece-eq0.false is) bytes
-    _ _ _ _ _ _ _ e.ask c.in-Ok.fed _ (let adds = c.saturating_add.ensures in omega (arith, adds)) (λ tight running text stage honest rests tells fed. e.feeds tight running text stage honest c.requires.works rests tells fed) c.if-fed.true
-    (λ text handed stands. e.whole text handed stands c.if-fed.true)
+    _ _ _ _ _ _ _ e.receive.ask c.in-Ok.fed _ (let adds = c.saturating_add.ensures in omega (arith, adds)) (λ tight running text stage honest rests tells fed. e.feeds tight running text stage honest c.requires.can_feed.works rests tells fed) c.if-fed.true
+    (λ text handed stands. (e.texts c.requires.can_feed.works text handed stands).whole c.requires.can_feed.live (e.receive.live ∙ ap not c.if-fed.true))
 
 pub returns-else-fed-clause-turns : goal.returns-else-fed-clause-turns
 returns-else-fed-clause-turns g c =
     let p = c.read_piece-piece in
     let e = c.in-Ok.ensures in
     let bytes = All-take (λ (byte : ℕ). byte < 256) p.result.count p.new.room p.ensures.bytes in
+    let live = e.receive.live ∙ ap not c.if-fed.false in
     rw c.turn_behind-in-Ok.ensures
     (turns_on _ _ p.new.room p.result.count p.result.end p.ensures.within (p.ensures.room ∙ c.requires.room) p.ensures.gave p.ensures.fills c.records_are_counted.ensures (λ is. c.if-piece-eq0.false is) bytes
-    _ _ _ _ _ _ _ e.ask c.in-Ok.fed _ (let adds = c.saturating_add.ensures in omega (arith, adds)) (λ tight running text stage honest rests tells fed. e.feeds tight running text stage honest c.requires.works rests tells fed) c.if-fed.false
-    e.waits (λ text handed stands. e.stands text handed stands c.if-fed.false)
-    (λ text has. (e.hands_out text has.0 has.1 c.if-fed.false, grows_behind c.args.recv.now text (take p.result.count p.new.room) _ _ has (e.grows text has.0 has.1.stands))))
+    _ _ _ _ _ _ _ e.receive.ask c.in-Ok.fed _ (let adds = c.saturating_add.ensures in omega (arith, adds)) (λ tight running text stage honest rests tells fed. e.feeds tight running text stage honest c.requires.can_feed.works rests tells fed) c.if-fed.false
+    e.waits (λ text handed stands. (e.texts c.requires.can_feed.works text handed stands).stands live)
+    (λ text has.
+    ((e.texts c.requires.can_feed.works text has.0 has.1.stands).hands_out live has.1.whole, grows_behind c.args.recv.now text (take p.result.count p.new.room) _ _ has (e.costs text has.0 has.1.stands).grows)))
 
 pub returns-in-Err-clause-turns : goal.returns-in-Err-clause-turns
 returns-in-Err-clause-turns g c =
@@ -46,11 +50,11 @@ returns-in-Err-clause-turns g c =
     let bytes = All-take (λ (byte : ℕ). byte < 256) p.result.count p.new.room p.ensures.bytes in
     rw c.from.ensures
     (turns_refused _ _ p.new.room p.result.count p.result.end p.ensures.within (p.ensures.room ∙ c.requires.room) p.ensures.gave p.ensures.fills c.records_are_counted.ensures (λ is. c.if-piece-eq0.false is) bytes
-    _ _ _ _ _ _ _ e.ask _ c.in-Err.fault (e.known c.requires.works) (λ tight running text stage honest rests tells fed. e.feeds tight running text stage honest c.requires.works rests tells fed)
-    (λ text handed told stands is. e.stream text handed told stands (ap (λ (f : RecvFault). Err f) is))
+    _ _ _ _ _ _ _ e.receive.ask _ c.in-Err.fault (e.pool.known c.requires.can_feed.works) (λ tight running text stage honest rests tells fed. e.feeds tight running text stage honest c.requires.can_feed.works rests tells fed)
+    (λ text handed told stands is. (e.texts c.requires.can_feed.works text handed stands).stream told (ap (λ (f : RecvFault). Err f) is))
     (λ text handed need largest hands is.
     let full = ap (λ (f : RecvFault). Err f) is in
-    short_behind c.args.recv.now.reader text (take p.result.count p.new.room) handed _ _ _ need largest hands (e.stays need largest full) (e.short text handed need largest hands.stands full)))
+    short_behind c.args.recv.now.reader text (take p.result.count p.new.room) handed _ _ _ need largest hands (e.pool.stays need largest full) ((e.costs text handed hands.stands).short need largest full)))
 
 pub returns-then-piece-eq0-clause-plans : goal.returns-then-piece-eq0-clause-plans
 returns-then-piece-eq0-clause-plans g c = λ rows text piece gave on.
@@ -75,7 +79,7 @@ returns-then-fed-clause-plans g c = λ rows text piece gave on.
     let one : piece ≡ given = gave_one old new piece given gave p.ensures.gave in
     let e = c.in-Ok.ensures in
     subst (λ (q : List ℕ). TurnPlans rows recv.ask c.feed.new.pool.kept c.feed.new.self (text ++ q) turns.Received) (sym one)
-    (ends_plans c.fronts_agree.ensures rows kept c.feed.new.pool.kept recv c.feed.new.self text given (Ok c.in-Ok.fed) on e.ask (λ fault waits none within refuses. e.planned text on.fed.0 fault c.requires.works waits on.fed.1 none within refuses) c.in-Ok.fed refl)
+    (ends_plans c.fronts_agree.ensures rows kept c.feed.new.pool.kept recv c.feed.new.self text given (Ok c.in-Ok.fed) on e.receive.ask (e.texts c.requires.can_feed.works text on.fed.0 on.fed.1).planned c.in-Ok.fed refl)
 
 pub returns-else-fed-clause-plans : goal.returns-else-fed-clause-plans
 returns-else-fed-clause-plans g c = λ rows text piece gave on.
@@ -87,11 +91,12 @@ returns-else-fed-clause-plans g c = λ rows text piece gave on.
     let kept = c.args.pool.now.kept in
     let one : piece ≡ given = gave_one old new piece given gave p.ensures.gave in
     let e = c.in-Ok.ensures in
+    let t = e.texts c.requires.can_feed.works text on.fed.0 on.fed.1 in
     rw c.turn_behind-in-Ok.ensures
     (subst (λ (q : List ℕ). TurnPlans rows recv.ask c.feed.new.pool.kept c.feed.new.self (text ++ q) (turn_behind p.result.end)) (sym one)
     (turn_plans rows recv.ask c.feed.new.pool.kept c.feed.new.self (text ++ given) p.result.end
-    (goes_plans c.fronts_agree.ensures rows kept c.feed.new.pool.kept recv c.feed.new.self text given (Ok c.in-Ok.fed) on e.ask (λ fault waits none within refuses. e.planned text on.fed.0 fault c.requires.works waits on.fed.1 none within refuses) c.in-Ok.fed refl
-    (e.stands text on.fed.0 on.fed.1 c.if-fed.false) e.waits e.waited (λ none waits. e.uncovered text on.fed.0 on.fed.1 none waits) (λ waits none. e.still text on.fed.0 waits on.fed.1 none))))
+    (goes_plans c.fronts_agree.ensures rows kept c.feed.new.pool.kept recv c.feed.new.self text given (Ok c.in-Ok.fed) on e.receive.ask t.planned c.in-Ok.fed refl
+    (t.stands (e.receive.live ∙ ap not c.if-fed.false)) e.waits e.receive.waited t.uncovered t.still)))
 
 pub returns-in-Err-clause-plans : goal.returns-in-Err-clause-plans
 returns-in-Err-clause-plans g c = λ rows text piece gave on.
@@ -103,9 +108,10 @@ returns-in-Err-clause-plans g c = λ rows text piece gave on.
     let kept = c.args.pool.now.kept in
     let one : piece ≡ given = gave_one old new piece given gave p.ensures.gave in
     let e = c.in-Err.ensures in
+    let t = e.texts c.requires.can_feed.works text on.fed.0 on.fed.1 in
     rw c.from.ensures
     (subst (λ (q : List ℕ). TurnPlans rows recv.ask c.feed.new.pool.kept c.feed.new.self (text ++ q) (turns.Refused (recv_refusal c.in-Err.fault))) (sym one)
-    (refused_plans c.fronts_agree.ensures rows kept c.feed.new.pool.kept recv c.feed.new.self text given (Err c.in-Err.fault) on e.ask (λ fault waits none within refuses. e.planned text on.fed.0 fault c.requires.works waits on.fed.1 none within refuses) c.in-Err.fault refl (λ told kind is. e.because text on.fed.0 told c.requires.works on.fed.1 kind is)))
+    (refused_plans c.fronts_agree.ensures rows kept c.feed.new.pool.kept recv c.feed.new.self text given (Err c.in-Err.fault) on e.receive.ask t.planned c.in-Err.fault refl t.because))
 
 pub returns-then-piece-eq0-clause-blocks : goal.returns-then-piece-eq0-clause-blocks
 returns-then-piece-eq0-clause-blocks g c = λ more ptr bytes has. has
@@ -115,7 +121,7 @@ returns-then-piece-eq0-clause-damaged g c = λ sector stated found honest is.
     absurd (never_refused c.read_piece-piece.result.end (refusals.Damaged sector stated found) (sym c.turn_behind.ensures ∙ is))
 
 pub returns-else-fed-clause-blocks : goal.returns-else-fed-clause-blocks
-returns-else-fed-clause-blocks g c = λ more. c.in-Ok.ensures.blocks c.if-fed.false
+returns-else-fed-clause-blocks g c = λ more. c.in-Ok.ensures.pool.blocks (ap not c.if-fed.false)
 
 pub returns-else-fed-clause-damaged : goal.returns-else-fed-clause-damaged
 returns-else-fed-clause-damaged g c = λ sector stated found honest is.
@@ -123,13 +129,70 @@ returns-else-fed-clause-damaged g c = λ sector stated found honest is.
 
 pub returns-in-Err-clause-damaged : goal.returns-in-Err-clause-damaged
 returns-in-Err-clause-damaged g c = λ sector stated found honest is.
-    c.in-Err.ensures.damaged sector stated found honest c.requires.works
+    c.in-Err.ensures.damaged sector stated found honest c.requires.can_feed.works
     (ap (λ (f : RecvFault). Err f) (damaged_only c.in-Err.fault sector stated found (sym c.from.ensures ∙ turn_refused c.from.result (refusals.Damaged sector stated found) is)))
+
+pub returns-then-piece-eq0-clause-leaves : goal.returns-then-piece-eq0-clause-leaves
+returns-then-piece-eq0-clause-leaves g c =
+    let p = c.read_piece-piece in
+    let can = c.requires.can_feed in
+    let disk = g.D.Disk.state c.args.pool.now.io.disk.now in
+    record {
+      ends =
+          rw c.turn_behind.ensures
+          (lives_without disk disk c.args.recv.now c.args.pool.now.io.failed (g.S.Source.state c.args.input.now) (g.S.Source.state p.new.input) p.new.room p.result.count p.result.end c.if-piece-eq0.true
+          (p.ensures.room ∙ c.requires.room) p.ensures.fills can.live can.works);
+      within = fed_within _ _ can.fits;
+      ask = refl;
+      fits = can.fits;
+      ready = λ works. can.ready;
+    }
+
+pub returns-then-fed-clause-leaves : goal.returns-then-fed-clause-leaves
+returns-then-fed-clause-leaves g c =
+    let e = c.in-Ok.ensures in record { ends = e.receive.received c.if-fed.true; within = e.receive.within; ask = e.receive.ask; fits = e.receive.fits; ready = e.pool.ready }
 
 pub returns-else-fed-clause-leaves : goal.returns-else-fed-clause-leaves
 returns-else-fed-clause-leaves g c =
     let p = c.read_piece-piece in
     let e = c.in-Ok.ensures in
-    rw c.turn_behind-in-Ok.ensures
-    (leaves_on (g.D.Disk.state c.args.pool.now.io.disk.now) (g.D.Disk.state c.feed.new.pool.io.disk.now) c.args.recv.now c.feed.new.self c.feed.new.pool.io.failed (g.S.Source.state c.args.input.now) (g.S.Source.state p.new.input) p.new.room p.result.count p.result.end p.ensures.within (p.ensures.room ∙ c.requires.room) p.ensures.fills
-    (e.live ∙ ap not c.if-fed.false) (e.failed ∙ ap (λ (b : Bool). b || false) c.requires.works) (e.fed c.if-fed.false))
+    let goes = ap not c.if-fed.false in
+    record {
+      ends =
+          rw c.turn_behind-in-Ok.ensures
+          (lives_on (g.D.Disk.state c.args.pool.now.io.disk.now) (g.D.Disk.state c.feed.new.pool.io.disk.now) c.args.recv.now c.feed.new.self c.feed.new.pool.io.failed (g.S.Source.state c.args.input.now)
+          (g.S.Source.state p.new.input) p.new.room p.result.count p.result.end p.ensures.within (p.ensures.room ∙ c.requires.room) p.ensures.fills (e.receive.live ∙ goes)
+          (e.pool.failed ∙ ap (λ (b : Bool). b || false) c.requires.can_feed.works) (e.receive.fed goes));
+      within = e.receive.within;
+      ask = e.receive.ask;
+      fits = e.receive.fits;
+      ready = e.pool.ready;
+    }
+
+pub returns-in-Err-clause-leaves : goal.returns-in-Err-clause-leaves
+returns-in-Err-clause-leaves g c =
+    let e = c.in-Err.ensures in
+    let can = c.requires.can_feed in
+    let has = can.fits.reads in
+    record {
+      ends =
+          rw c.from.ensures
+          (feed_refused (g.D.Disk.state c.args.pool.now.io.disk.now) (g.D.Disk.state c.feed.new.pool.io.disk.now) c.in-Err.fault (e.pool.known can.works) e.pool.cause
+          (λ need largest is. ((e.costs has.text has.handed has.stands).short need largest (ap (λ (f : RecvFault). Err f) is)).shorter));
+      within = e.receive.within;
+      ask = e.receive.ask;
+      fits = e.receive.fits;
+      ready = e.pool.ready;
+    }
+
+pub returns-then-piece-eq0-clause-later : goal.returns-then-piece-eq0-clause-later
+returns-then-piece-eq0-clause-later g c = later_none _
+
+pub returns-then-fed-clause-later : goal.returns-then-fed-clause-later
+returns-then-fed-clause-later g c = let e = c.in-Ok.ensures.pool in record { faults = e.cause.later; honest = e.honest; same = e.same }
+
+pub returns-else-fed-clause-later : goal.returns-else-fed-clause-later
+returns-else-fed-clause-later g c = let e = c.in-Ok.ensures.pool in record { faults = e.cause.later; honest = e.honest; same = e.same }
+
+pub returns-in-Err-clause-later : goal.returns-in-Err-clause-later
+returns-in-Err-clause-later g c = let e = c.in-Err.ensures.pool in record { faults = e.cause.later; honest = e.honest; same = e.same }

@@ -1,4 +1,4 @@
-use Rattle.std.proofs.Common.{rules, subst, sym}
+use Rattle.std.proofs.Common.{subst, sym, ◌∙◌}
 use Rattle.std.proofs.lemmas.Result.{err_from_is_err_and}
 use Rattle.zst_run.specs.Receives.{Receiving}
 use Rattle.zst_run.specs.ReceiveTurns.{told}
@@ -15,12 +15,12 @@ returns-in_err-kept g c =
 pub returns : goal.returns
 returns g c =
     subst (λ d. Receiving c.args.ask (g.D.Disk.state c.args.here.now) (g.D.Disk.state d) (g.S.Source.state c.args.input.now) (g.S.Source.state c.receive_into-result.new.input) (told c.receive_into-result.result))
-    (first_of (cc, search rules))
+    (sym c.into_disk.ensures.disk ∙ sym (c.here-1.given.1 (sym (c.into_disk.ensures.same ∙ (c.receive_into-result.ensures.later.same ∙ c.new-pool.ensures.same)))))
     (let e = c.in_ok-kept.ensures in
     let n = c.new-pool.ensures in
     let r = c.receive_into-result.ensures in
     opened c.args.ask (g.D.Disk.state c.args.here.now) (g.D.Disk.state c.new-pool.result.io.disk.now) (g.D.Disk.state c.receive_into-result.new.pool.io.disk.now) (g.S.Source.state c.args.input.now)
     (g.S.Source.state c.receive_into-result.new.input) c.in_ok-kept.kept c.receive_into-result.result (rw (sym n.disk) at e.there) (rw (sym n.disk) at e.answer) (rw (sym n.disk) at e.reads) (rw (sym n.disk) at e.rests)
     (λ tight rows pool rests same. c.opened_is_at_rest.ensures.rests tight c.new-pool.result.io.disk.now c.in_ok-kept.kept rows pool rests same) (rw (sym n.disk) at e.cause.later)
-    r.honest (rw (n.kept) at r.fed) (rw (n.kept) at r.plans) (rw (n.kept) at r.damaged) (g.met.D.Disk.only_now c.args.here.now) (g.met.D.Disk.counts_now c.receive_into-result.new.pool.io.disk.now)
-    r.refused r.later r.input_later)
+    r.later.honest (rw (n.kept) at r.fed) (rw (n.kept) at r.plans) (rw (n.kept) at r.why.damaged) (g.met.D.Disk.only_now c.args.here.now) (g.met.D.Disk.counts_now c.receive_into-result.new.pool.io.disk.now)
+    r.why.refused r.later.faults r.input_later)

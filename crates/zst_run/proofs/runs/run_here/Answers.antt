@@ -3,7 +3,7 @@ use Rattle.zst_run.proofs.LineEffects.{does_tell}
 use Rattle.zst_run.proofs.runs.run_here.Goals as goal
 
 pub run_line-requires : goal.run_line-requires
-run_line-requires g c = record { range = c.requires.range; other = c.requires.other; unwanted = c.requires.unwanted; untold = sym c.in-None.ensures }
+run_line-requires g c = record { range = c.requires.range; no_send = c.requires.no_send; no_receive = c.requires.no_receive; no_token = sym c.in-None.ensures }
 
 pub returns-in-Some : goal.returns-in-Some
 returns-in-Some g c = does_tell g.D.Disk.state c.args.now c.args.line c.in-Some.dataset _ _ _ (sym c.in-Some.ensures) c.tell_token.ensures refl

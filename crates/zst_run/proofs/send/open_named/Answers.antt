@@ -22,3 +22,6 @@ pub returns-in-Err-Plan-clause-planned : goal.returns-in-Err-Plan-clause-planned
 returns-in-Err-Plan-clause-planned g c = λ running named.
     let e = rw c.in-Err-Plan.field-0-is at c.in-Err-Plan.ensures.planned in
     inl (c.in-Err-Plan.fault, e running c.requires named, c.from.ensures)
+
+pub returns-in-Ok-clause-answers : goal.returns-in-Ok-clause-answers
+returns-in-Ok-clause-answers g c = let e = c.in-Ok.ensures in record { set = e.set; knows = e.knows; fits = e.fits }

@@ -32,3 +32,6 @@ returns-in-Err-Plan-clause-opens g c = λ image space running runs.
     let e = rw c.in-Err-Plan.field-0-is at c.in-Err-Plan.ensures.resumes in
     let o = e image space running s.0 c.requires runs s.2 in
     rw (then_built s.0 (rest_of c.args.token.now running) s.1 ∙ o, c.from.ensures) (inl refl)
+
+pub returns-in-Ok-clause-answers : goal.returns-in-Ok-clause-answers
+returns-in-Ok-clause-answers g c = let e = c.in-Ok.ensures in record { set = e.set c.args.token.now.to c.in_ok-plan.ensures.to; knows = e.knows; fits = e.fits }

@@ -1,4 +1,4 @@
-use Rattle.std.proofs.Common.{rules, subst, sym, ◌∙◌}
+use Rattle.std.proofs.Common.{subst, sym, ◌∙◌}
 use Rattle.std.specs.Prelude.{None}
 use Rattle.std.proofs.lemmas.Result.{err_from_is_err_and}
 use Rattle.zst_block.specs.Blocks.{Has}
@@ -18,9 +18,9 @@ returns g c =
     let e = c.in_ok-kept.ensures in
     let n = c.new-pool.ensures in
     let s = c.send_from-result.ensures in
-    let sends = opened c.args.asked.now (g.D.Disk.state c.args.here.now) (g.D.Disk.state c.new-pool.result.io.disk.now) (g.D.Disk.state c.send_from-result.new.pool.io.disk.now)
+    let sends = opened c.args.request.now (g.D.Disk.state c.args.here.now) (g.D.Disk.state c.new-pool.result.io.disk.now) (g.D.Disk.state c.send_from-result.new.pool.io.disk.now)
     (g.K.Sink.state c.args.out.now) (g.K.Sink.state c.send_from-result.new.out) c.in_ok-kept.kept c.send_from-result.result (rw (sym n.disk) at e.there) (rw (sym n.disk) at e.answer) (rw (sym n.disk) at e.reads) (rw (sym n.disk) at e.cause.later)
-    s.reads s.later (λ pool told runs.
+    s.reads s.later.faults (λ pool told runs.
     let opened : RunsBy None (Has (g.D.Disk.state c.new-pool.result.io.disk.now).seen c.new-pool.result.io.space) c.new-pool.result.kept.dir pool = rw (n.space, n.kept) runs in
     s.sends pool told opened) s.refused
     (record {
@@ -28,5 +28,5 @@ returns g c =
       because = λ pool fault named is. s.because pool fault (rw (n.kept) named) is;
       damaged = λ told. rw (n.kept) at (s.damaged told);
     }) in
-    subst (λ d. Sends c.args.asked.now (g.D.Disk.state c.args.here.now) (g.D.Disk.state d) (g.K.Sink.state c.args.out.now) (g.K.Sink.state c.send_from-result.new.out) c.send_from-result.result)
-    (sym c.into_disk.ensures.disk ∙ sym (c.here-1.given.1 (sym (c.into_disk.ensures.same ∙ (s.same ∙ n.same))))) sends
+    subst (λ d. Sends c.args.request.now (g.D.Disk.state c.args.here.now) (g.D.Disk.state d) (g.K.Sink.state c.args.out.now) (g.K.Sink.state c.send_from-result.new.out) c.send_from-result.result)
+    (sym c.into_disk.ensures.disk ∙ sym (c.here-1.given.1 (sym (c.into_disk.ensures.same ∙ (s.later.same ∙ n.same))))) sends
