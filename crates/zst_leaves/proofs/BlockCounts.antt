@@ -4,7 +4,7 @@ use Rattle.std.proofs.lemmas.Bool.{cases_lt}
 use Rattle.zst_tree.specs.Indices.{span}
 use Rattle.zst_leaves.specs.Leaves.{blocks_for, bytes_below, leaves_for, part, part_length, sum_below}
 use Rattle.zst_leaves.proofs.TextParts.{length-part}
-use Rattle.zst_leaves.proofs.Span.{span-pos, span-suc, span_zero}
+use Rattle.zst_tree.proofs.Span.{span-pos, span-suc, span_zero}
 
 -- how many blocks the first parts of a text of so many bytes take, each below a pointer at this level
 abbrev pub blocks_before : ℕ → ℕ → ℕ → ℕ

@@ -7,7 +7,7 @@ use Rattle.zst_tree.specs.Indices.{Blocks, child}
 use Rattle.zst_leaves.specs.Leaves.{Appends, BlocksBefore, IsOver, LeavesBelow, bytes_below, part, part_length}
 use Rattle.zst_leaves.proofs.LeavesLaws.{none_of, over_below}
 use Rattle.zst_leaves.proofs.TextParts.{part_before, part_last, part_none}
-use Rattle.zst_leaves.proofs.Span.{span-over}
+use Rattle.zst_tree.proofs.Span.{span-over}
 
 -- the first pointers' parts of a text with so many bytes were appended, and stand below them
 pub record Gathered (has : Blocks) (level : ℕ) (node : List ℕ) (long count : ℕ) (old new : List ℕ) : Type 0 where

@@ -15,7 +15,7 @@ use Rattle.zst_tree.specs.Indices.{Blocks, IsNoDamage, child}
 use Rattle.zst_leaves.specs.Leaves.{Appends, HasLeaves, IsLeaf, LeavesBelow, bytes_below, part}
 use Rattle.zst_leaves.proofs.LeavesLaws.{LeavesBelow-grows, leaf_below, none_of}
 use Rattle.zst_leaves.proofs.TextParts.{length-part, parts_same}
-use Rattle.zst_leaves.proofs.Span.{span-suc}
+use Rattle.zst_tree.proofs.Span.{span-suc}
 
 -- a block that is there isn't damaged
 pub block_fault : (bytes read : List ℕ) (fault : BlockFault) → GivesBlock bytes read (Err fault) → IsNoDamage fault

@@ -3,7 +3,7 @@ use Rattle.std.proofs.Common.{◌≡◌, inl, inr, ℕ, zero, suc, ◌-◌, ◌<
 use Rattle.std.proofs.lemmas.Bool.{cases_lt}
 use Rattle.zst_tree.specs.Indices.{span}
 use Rattle.zst_leaves.specs.Leaves.{IsLeast, bytes_below}
-use Rattle.zst_leaves.proofs.Span.{span-suc, span_zero}
+use Rattle.zst_tree.proofs.Span.{span-suc, span_zero}
 
 pub span_one : span 1 ≡ 128
 unfolding span

@@ -1,6 +1,5 @@
 pub mod TakenBlocks
-pub mod Span
-pub mod KeptBlocks
+pub mod WrittenBlocks
 pub mod LevelCounts
 pub mod TextParts
 pub mod BlockCounts

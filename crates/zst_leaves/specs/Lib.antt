@@ -1,2 +1,3 @@
 pub mod Damage
 pub mod Leaves
+pub mod WrittenLeaves

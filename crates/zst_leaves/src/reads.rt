@@ -2,7 +2,8 @@
 ghost use Rattle.std.specs.Prelude.{◌≡◌, ◌↔◌, ◌+◌, ◌/◌, ◌<◌, ◌≤◌, ℕ, List, [], All, IsTrue, IfErr, IfOk, OnOk, Vec, length};
 ghost use Rattle.zst_block.specs.ReadAnswers.{GivesBlock};
 ghost use Rattle.zst_block.specs.IoStates.{IsHonest, blocks_of, disk_of, io_of};
-ghost use Rattle.zst_block.specs.IoCalls.{Looks, stop_of};
+ghost use Rattle.zst_block.specs.IoCalls.{stop_of};
+ghost use Rattle.zst_tree.specs.Steps.{LooksAtMost};
 ghost use Rattle.zst_leaves.specs.Damage.{Names, TellsBelow, TellsPtr, TellsText};
 ghost use Rattle.zst_leaves.specs.Leaves.{Appends, BlocksBefore, GivesText, HasLeaves, LeavesBelow, StandsBefore, TellsNone, blocks_for, bytes_below, leaves_for, stop_of_leaves};
 
@@ -31,8 +32,7 @@ fn load_named<D: Disk>(io: &mut Io<'_, D>, kind: u8, level: u8, ptr: Ptr) -> Res
     ensures there { (bytes : List ℕ) → IsHonest io.new → ptr.kind ≡ kind → ptr.level ≡ level → blocks_of io.old ptr bytes → length bytes ≡ 8192 → GivesBlock bytes io.new.node result }
     ensures damaged { IsHonest io.new → IfErr result (TellsPtr (disk_of io.old).seen (disk_of io.old).size (¬ Names kind level io.old.space.end ptr) ptr) }
     ensures long { OnOk result (length io.new.node ≡ 8192) }
-    ensures looks { Looks (io_of io.old) (io_of io.new) (stop_of result) }
-    ensures calls { (disk_of io.new).calls ≤ (disk_of io.old).calls + 1 }
+    ensures looks { LooksAtMost 1 (io_of io.old) (io_of io.new) (stop_of result) }
 {
     if ptr.kind != kind || ptr.level != level || !stands_before(&ptr, io.space.end()) {
         return Err(BlockFault::of_layout(&ptr));
@@ -59,8 +59,7 @@ fn read_leaf<D: Disk>(
     ensures only { IsHonest io.new → OnOk result (Appends (BlocksBefore io.old.space.end (disk_of io.old).seen) 0 ptr count text.old.items text.new.items) }
     ensures damaged { IsHonest io.new → TellsBelow io.old.space.end (disk_of io.old).seen (disk_of io.old).size 0 ptr count result }
     ensures long { OnOk result (length text.new.items ≡ length text.old.items + count) }
-    ensures looks { Looks (io_of io.old) (io_of io.new) (stop_of_leaves result) }
-    ensures calls { (disk_of io.new).calls ≤ (disk_of io.old).calls + 1 }
+    ensures looks { LooksAtMost 1 (io_of io.old) (io_of io.new) (stop_of_leaves result) }
 {
     load_named(io, 1, 0, ptr)?;
     let (front, rest) = io.node.as_slice().split_at(count as usize);
@@ -85,8 +84,7 @@ fn read_below<D: Disk>(
     ensures only { IsHonest io.new → OnOk result (Appends (BlocksBefore io.old.space.end (disk_of io.old).seen) level ptr count text.old.items text.new.items) }
     ensures damaged { IsHonest io.new → TellsBelow io.old.space.end (disk_of io.old).seen (disk_of io.old).size level ptr count result }
     ensures long { OnOk result (length text.new.items ≡ length text.old.items + count) }
-    ensures looks { Looks (io_of io.old) (io_of io.new) (stop_of_leaves result) }
-    ensures calls { (disk_of io.new).calls ≤ (disk_of io.old).calls + blocks_for level count }
+    ensures looks { LooksAtMost (blocks_for level count) (io_of io.old) (io_of io.new) (stop_of_leaves result) }
 {
     if count == 0 {
         return if ptr == Ptr::hole(0) {
@@ -128,8 +126,7 @@ pub fn read_leaves<D: Disk>(
     ensures damaged { IsHonest io.new → TellsText io.old.space.end (disk_of io.old).seen (disk_of io.old).size levels root count result }
 
     // It only reads, each block once.
-    ensures looks { Looks (io_of io.old) (io_of io.new) (stop_of_leaves result) }
-    ensures calls { (disk_of io.new).calls ≤ (disk_of io.old).calls + (leaves_for count + leaves_for count / 127 + 3) }
+    ensures looks { LooksAtMost (leaves_for count + leaves_for count / 127 + 3) (io_of io.old) (io_of io.new) (stop_of_leaves result) }
 {
     if !is_least(levels, count) {
         return Err(LeavesFault::Block(BlockFault::of_layout(&root)));

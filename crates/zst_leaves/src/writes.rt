@@ -1,10 +1,10 @@
 // A text is written into leaves.
 ghost use Rattle.std.specs.Prelude.{◌≡◌, ◌+◌, ◌*◌, ◌/◌, ◌^◌, ◌<◌, ◌≤◌, ℕ, List, IfOk, OnOk, length};
 ghost use Rattle.zst_space.specs.FreeSectors.{room};
-ghost use Rattle.zst_space.specs.TakenExtents.{without, without_blocks};
 ghost use Rattle.zst_block.specs.IoCalls.{Works, stop_of};
 ghost use Rattle.zst_block.specs.IoStates.{blocks_of, disk_of, io_of};
-ghost use Rattle.zst_leaves.specs.Leaves.{HasLeaves, IsLeaf, IsOver, LeavesBelow, Numbered, blocks_for, bytes_below, leaves_for};
+ghost use Rattle.zst_leaves.specs.Leaves.{IsLeaf, IsOver, LeavesBelow, Numbered, blocks_for, bytes_below, leaves_for};
+ghost use Rattle.zst_leaves.specs.WrittenLeaves.{WritesBlocks, WritesLeaves};
 ghost use Rattle.zst_leaves.specs.declared.sizes.TheConstants.{MOST_BYTES};
 
 use crate::sizes::{levels_for, part_of};
@@ -17,11 +17,8 @@ use zst_tree::{Tree, put_child};
 fn write_leaf<D: Disk>(io: &mut Io<'_, D>, bytes: &[u8], number: u64) -> Result<Ptr, BlockFault>
     requires room { length bytes.now ≤ 8192 }
     ensures leaf { IfOk result (λ ptr. IsLeaf (Numbered number (blocks_of io.new)) ptr bytes.now) }
-    ensures works { Works 16 16 (io_of io.old) (io_of io.new) (stop_of result) }
+    ensures written { WritesBlocks 1 (io_of io.old) (io_of io.new) result }
     ensures takes { OnOk result (room io.new.space + 16 ≡ room io.old.space) }
-    ensures after { OnOk result (io.new.space ≡ without io.old.space 16) }
-    ensures never_damaged { (sector : ℕ) (stated found : List ℕ) → ¬ (result ≡ Err (BlockFault.Damaged sector stated found)) }
-    ensures calls { (disk_of io.new).calls ≤ (disk_of io.old).calls + 1 }
 {
     let mut leaf = [0; 8192];
     put_bytes(&mut leaf, 0, bytes);
@@ -31,10 +28,7 @@ fn write_leaf<D: Disk>(io: &mut Io<'_, D>, bytes: &[u8], number: u64) -> Result<
 // Writes the node, of pointers to what has this number, into free sectors.
 fn save_over<D: Disk>(io: &mut Io<'_, D>, level: u8, number: u64) -> Result<Ptr, BlockFault>
     ensures over { IfOk result (λ ptr. IsOver (Numbered number (blocks_of io.new)) level ptr io.old.node) }
-    ensures after { OnOk result (io.new.space ≡ without io.old.space 16) }
-    ensures works { Works 16 16 (io_of io.old) (io_of io.new) (stop_of result) }
-    ensures never_damaged { (sector : ℕ) (stated found : List ℕ) → ¬ (result ≡ Err (BlockFault.Damaged sector stated found)) }
-    ensures calls { (disk_of io.new).calls ≤ (disk_of io.old).calls + 1 }
+    ensures written { WritesBlocks 1 (io_of io.old) (io_of io.new) result }
 {
     let ptr = save(io, level, number)?;
     Ok(Ptr { kind: 3, ..ptr })
@@ -50,11 +44,8 @@ fn write_below<D: Disk>(
     requires level { level ≤ 3 }
     requires room { length bytes.now ≤ bytes_below level }
     ensures below { IfOk result (λ ptr. LeavesBelow (Numbered number (blocks_of io.new)) level ptr bytes.now) }
-    ensures works { Works (16 * blocks_for level (length bytes.now)) 16 (io_of io.old) (io_of io.new) (stop_of result) }
-    ensures after { OnOk result (io.new.space ≡ without_blocks (blocks_for level (length bytes.now)) io.old.space) }
+    ensures written { WritesBlocks (blocks_for level (length bytes.now)) (io_of io.old) (io_of io.new) result }
     ensures one_leaf { level ≡ 0 → 0 < length bytes.now → OnOk result (room io.new.space + 16 ≡ room io.old.space) }
-    ensures never_damaged { (sector : ℕ) (stated found : List ℕ) → ¬ (result ≡ Err (BlockFault.Damaged sector stated found)) }
-    ensures calls { (disk_of io.new).calls ≤ (disk_of io.old).calls + blocks_for level (length bytes.now) }
 {
     if bytes.is_empty() {
         return Ok(Ptr::hole(0));
@@ -81,12 +72,8 @@ pub fn write_leaves<D: Disk>(
     requires some { 0 < length bytes.now }
     requires small { length bytes.now ≤ MOST_BYTES }
 
-    // Each pointer to a leaf or a node has the number.
-    ensures there { IfOk result (λ tree. HasLeaves (blocks_of io.new) tree.levels tree.root bytes.now) }
-    ensures numbered { IfOk result (λ tree. HasLeaves (Numbered number (blocks_of io.new)) tree.levels tree.root bytes.now) }
-    ensures past { IfOk result (λ tree. tree.past ≡ 0) }
-    // What is taken are so many blocks in turn.
-    ensures after { IfOk result (λ tree. io.new.space ≡ without_blocks (blocks_for tree.levels (length bytes.now)) io.old.space) }
+    // The text stands there, by pointers with the number, and what is taken are so many blocks in turn.
+    ensures written { IfOk result (WritesLeaves number (blocks_of io.new) bytes.now io.old.space io.new.space) }
 
     // Free sectors alone are written: 16 for each leaf and for each node above.
     ensures works { Works (16 * (leaves_for (length bytes.now) + leaves_for (length bytes.now) / 127 + 3)) 16 (io_of io.old) (io_of io.new) (stop_of result) }

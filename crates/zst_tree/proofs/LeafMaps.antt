@@ -1,5 +1,5 @@
 -- A map with leaves, and the trees that stand for it.
-use Rattle.std.proofs.Common.{◌≡◌, ◌≢◌, ◌⊎◌, ⊎_elim, ℕ, zero, suc, ◌+◌, ◌-◌, ◌*◌, ◌%◌, length, drop, get_or, ap, ◌^◌, ◌<◌, ◌≤◌, ◌==◌, if◌then◌else◌, List, [], ◌∷◌, refl, ◌∙◌, sym, subst, arith}
+use Rattle.std.proofs.Common.{◌≡◌, ◌≢◌, ⊎_elim, ℕ, zero, suc, ◌+◌, ◌-◌, ◌*◌, ◌%◌, length, drop, get_or, ap, ◌^◌, ◌<◌, ◌≤◌, List, [], ◌∷◌, refl, ◌∙◌, sym, subst, arith}
 use Rattle.std.proofs.lemmas.Bool.{cases_lt}
 use Rattle.std.proofs.lemmas.List.{drop_more}
 use Rattle.std.proofs.lemmas.List.Elements.{All-get_or}
@@ -8,7 +8,7 @@ use Rattle.std.specs.Prelude.{All}
 use Rattle.zst_block.specs.Ptr.{hole_of}
 use Rattle.zst_block.specs.declared.ptr.Ptr.{Ptr}
 use Rattle.zst_tree.specs.declared.leaf_puts.Leaf.{Leaf}
-use Rattle.zst_tree.specs.Indices.{Blocks, Map, SameBeside, Subtree, Stands, TreeIs, span}
+use Rattle.zst_tree.specs.Indices.{Blocks, Map, SameBeside, Subtree, TreeIs, span}
 use Rattle.zst_tree.specs.Changes.{Parts, PutsChild}
 use Rattle.zst_tree.specs.Leaves.{IsOf, with_leaf, with_leaves}
 use Rattle.zst_tree.proofs.BuiltSubtrees.{one_below}

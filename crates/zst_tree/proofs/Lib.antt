@@ -20,3 +20,5 @@ pub mod TreeDates
 pub mod LaterDamage
 pub mod ChangedTrees
 pub mod LeafMaps
+pub mod StepLooks
+pub mod RangeChanges

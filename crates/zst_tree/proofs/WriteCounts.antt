@@ -75,6 +75,10 @@ digits_same part a b c d lb ld e = ⊎_elim
     (λ r. ⊎_elim (λ same. (same, let m : a * part ≡ c * part = ap (λ n. n * part) same in omega arith))
     (λ h. let m : (c + 1) * part ≤ a * part = mul-le-mul_right part (omega arith) in absurd (omega arith)) r) (sides a c)
 
+pub digits_order : (part a b c d : ℕ) → d < part → a * part + b ≤ c * part + d → a ≤ c
+digits_order part a b c d ld le = ⊎_elim (λ h. omega arith) (λ r. ⊎_elim (λ same. omega arith)
+    (λ h. let m : (c + 1) * part ≤ a * part = mul-le-mul_right part (omega arith) in absurd (omega arith)) r) (sides a c)
+
 pub part_level : (level first below : ℕ) → first < below → below ≤ span level → (first ≡ 0 → below < span level) → 0 < level
 part_level zero first below some le part = let z : first ≡ 0 = omega (arith, span_zero) in absurd (omega (arith, span_zero, part z))
 part_level (suc level) first below some le part = omega arith

@@ -4,6 +4,7 @@ use Rattle.zst_block.specs.Ptr.{is_flat}
 use Rattle.zst_block.specs.declared.ptr.Ptr.{Ptr}
 use Rattle.zst_tree.specs.Damage.{NamesNode}
 use Rattle.zst_tree.specs.Indices.{Blocks, Map, HasPointers, IsSpelled, Subtree, child, span}
+use Rattle.zst_tree.specs.declared.puts.Ends.{Ends}
 use Rattle.zst_tree.specs.declared.tree.Tree.{Tree}
 
 -- at this place the block has this pointer
@@ -38,6 +39,15 @@ unfoldable pub most : ℕ → ℕ → ℕ → ℕ
 most level first below = if (first == 0) && (below == span level) then 0
     else if ((first == 0) || (below == span level)) || (below == first + 1) then level
     else 2 * level - 1
+
+-- a range below a pointer, by the children in which it begins and ends and the offsets below these: to change both ends writes no more nodes than to change the range
+pub record SplitsRange (level from until : ℕ) (ends : Ends) : Type 0 where
+  pub order : (ends.low ≤ ends.high) × (ends.high < 128)
+  pub first : (ends.low * span (level - 1) + ends.first ≡ from) × (ends.first < span (level - 1))
+  pub below : (ends.high * span (level - 1) + ends.below ≡ until) × (0 < ends.below) × (ends.below ≤ span (level - 1))
+  pub single : until ≡ from + 1 → (ends.low ≡ ends.high) × (ends.below ≡ ends.first + 1)
+  pub one : ends.low ≡ ends.high → (ends.first < ends.below) × (1 + most (level - 1) ends.first ends.below ≤ most level from until)
+  pub two : ends.low < ends.high → 1 + (most (level - 1) ends.first (span (level - 1)) + most (level - 1) 0 ends.below) ≤ most level from until
 
 -- what stands in place of a pointer where a range below it gets this leaf: the leaf, where it stands for all, or a node
 abbrev pub IsPutRoot : ℕ → Ptr → Ptr → Type 0

@@ -7,3 +7,5 @@ pub mod LateIndices
 pub mod PathAnswer
 pub mod Sets
 pub mod Leaves
+pub mod Steps
+pub mod RangeChanges

@@ -3,12 +3,13 @@ ghost use Rattle.std.specs.Prelude.{◌+◌, ◌-◌, ◌*◌, ◌^◌, ◌<◌,
 ghost use Rattle.zst_space.specs.FreeSectors.{FreeSectors};
 ghost use Rattle.zst_block.specs.Blocks.{Has};
 ghost use Rattle.zst_block.specs.IoStates.{IsHonest, blocks_of, disk_of, io_of};
-ghost use Rattle.zst_block.specs.IoCalls.{Looks, stop_of};
+ghost use Rattle.zst_block.specs.IoCalls.{stop_of};
 ghost use Rattle.zst_tree.specs.Changes.{Parts};
 ghost use Rattle.zst_tree.specs.Damage.{IsBelow, IsSeen, NamesDamage, SumsUp};
 ghost use Rattle.zst_tree.specs.Indices.{Delivers, Map, Subtree, child, span};
 ghost use Rattle.zst_tree.specs.LateIndices.{HasLater, IsFirst, Quiet, ReachesLater};
 ghost use Rattle.zst_tree.specs.PathAnswer.{HangsOn, IfThere, IsChild, IsInside};
+ghost use Rattle.zst_tree.specs.Steps.{LooksInSteps};
 
 use crate::nodes::{child_at, load_counted};
 use crate::path_answer::{Branch, PathAnswer, nearer, stands_throughout};
@@ -72,9 +73,7 @@ pub(crate) fn along<D: Disk, L: Ledger>(
     ensures late { IfOk result (IfThere (λ beside. number < beside.ptr.number)) }
     ensures below { IsHonest io.new → IfOk result (IfThere (λ beside. IsBelow (IsSeen (disk_of io.old).seen) (disk_of io.old).size (SumsUp (IsSeen (disk_of io.old).seen)) level ptr (IsSeen (disk_of io.old).seen) beside.level beside.ptr)) }
     ensures damaged { IsHonest io.new → NamesDamage (IsSeen (disk_of io.old).seen) (disk_of io.old).size (SumsUp (IsSeen (disk_of io.old).seen)) level ptr result }
-    ensures looks { Looks (io_of io.old) (io_of io.new) (stop_of result) }
-    ensures steps { (steps.old ≤ steps.new) × (steps.new ≤ steps.old + level) }
-    ensures calls { (disk_of io.new).calls + steps.old ≤ (disk_of io.old).calls + steps.new }
+    ensures looks { LooksInSteps level (io_of io.old) (io_of io.new) (stop_of result) steps.old steps.new }
 {
     if ptr.number <= number {
         return Ok(PathAnswer::Nothing);
@@ -106,9 +105,7 @@ pub(crate) fn first_in<D: Disk, L: Ledger>(
         Delivers (IsFirst map base (base + span level) number) result }
     ensures range { IfOk result (λ found. (base ≤ found) × (found < base + span level)) }
     ensures damaged { number < ptr.number → IsHonest io.new → NamesDamage (IsSeen (disk_of io.old).seen) (disk_of io.old).size (SumsUp (IsSeen (disk_of io.old).seen)) level ptr result }
-    ensures looks { Looks (io_of io.old) (io_of io.new) (stop_of result) }
-    ensures steps { (steps.old ≤ steps.new) × (steps.new ≤ steps.old + level) }
-    ensures calls { (disk_of io.new).calls + steps.old ≤ (disk_of io.old).calls + steps.new }
+    ensures looks { LooksInSteps level (io_of io.old) (io_of io.new) (stop_of result) steps.old steps.new }
 {
     if stands_throughout(level, &ptr) {
         return Ok(base);

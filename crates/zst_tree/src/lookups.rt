@@ -1,10 +1,11 @@
 //! The leaf of an index.
 ghost use Rattle.std.specs.Prelude.{◌+◌, ◌<◌, ◌≤◌, ℕ, IfOk};
 ghost use Rattle.zst_block.specs.IoStates.{IsHonest, blocks_of, disk_of, io_of};
-ghost use Rattle.zst_block.specs.IoCalls.{Looks, stop_of};
+ghost use Rattle.zst_block.specs.IoCalls.{stop_of};
 ghost use Rattle.zst_tree.specs.Damage.{HangsBelow, IsSeen, MayHave, NamesDamage, NamesNode};
 ghost use Rattle.zst_tree.specs.Lookups.{Finds};
 ghost use Rattle.zst_tree.specs.Indices.{Delivers, Map, Subtree, span};
+ghost use Rattle.zst_tree.specs.Steps.{LooksInSteps};
 
 use crate::nodes::{child_at, load_counted};
 use crate::spans::{place_of, span_of};
@@ -28,9 +29,7 @@ pub(crate) fn find_in<D: Disk, L: Ledger>(
     ensures range { IfOk result (λ found. (0 < found.1) × (offset + found.1 ≤ span level)) }
     ensures hangs { IsHonest io.new → IfOk result (λ found. HangsBelow (MayHave (IsSeen (disk_of io.old).seen)) level ptr found.0) }
     ensures damaged { IsHonest io.new → NamesDamage (IsSeen (disk_of io.old).seen) (disk_of io.old).size NamesNode level ptr result }
-    ensures looks { Looks (io_of io.old) (io_of io.new) (stop_of result) }
-    ensures steps { (steps.old ≤ steps.new) × (steps.new ≤ steps.old + level) }
-    ensures calls { (disk_of io.new).calls + steps.old ≤ (disk_of io.old).calls + steps.new }
+    ensures looks { LooksInSteps level (io_of io.old) (io_of io.new) (stop_of result) steps.old steps.new }
 {
     if level == 0 {
         return Ok((ptr, 1));

@@ -4,10 +4,11 @@ ghost use Rattle.zst_block.specs.Blocks.{IsBlock};
 ghost use Rattle.zst_block.specs.IoStates.{IsHonest, blocks_of, disk_of, io_of};
 ghost use Rattle.zst_block.specs.Ptr.{is_flat};
 ghost use Rattle.zst_block.specs.ReadAnswers.{GivesBlock};
-ghost use Rattle.zst_block.specs.IoCalls.{Looks, TellsDamage, stop_of};
+ghost use Rattle.zst_block.specs.IoCalls.{TellsDamage, stop_of};
 ghost use Rattle.zst_tree.specs.Changes.{Parts};
 ghost use Rattle.zst_tree.specs.Damage.{IsSeen, NamesDamage, NamesNode};
 ghost use Rattle.zst_tree.specs.Indices.{Delivers, IsNode, Map, Subtree, child};
+ghost use Rattle.zst_tree.specs.Steps.{LooksAtMost, LooksInSteps};
 
 use crate::steps::{Steps, tick};
 use std::sync::ledger::Ledger;
@@ -34,8 +35,7 @@ pub fn load_node<D: Disk>(io: &mut Io<'_, D>, level: u8, ptr: Ptr) -> Result<(),
     ensures damaged { IsHonest io.new → TellsDamage (disk_of io.old).seen (disk_of io.old).size ptr result }
     ensures names { 0 < level → is_flat ptr ≡ false → IsHonest io.new → NamesDamage (IsSeen (disk_of io.old).seen) (disk_of io.old).size NamesNode level ptr result }
     ensures long { OnOk result (length io.new.node ≡ 8192) }
-    ensures looks { Looks (io_of io.old) (io_of io.new) (stop_of result) }
-    ensures calls { (disk_of io.new).calls ≤ (disk_of io.old).calls + 1 }
+    ensures looks { LooksAtMost 1 (io_of io.old) (io_of io.new) (stop_of result) }
 {
     if !is_node(level, &ptr) {
         return Err(BlockFault::of_layout(&ptr));
@@ -64,9 +64,8 @@ pub(crate) fn load_counted<D: Disk, L: Ledger>(
     ensures damaged { IsHonest io.new → TellsDamage (disk_of io.old).seen (disk_of io.old).size ptr result }
     ensures names { 0 < level → is_flat ptr ≡ false → IsHonest io.new → NamesDamage (IsSeen (disk_of io.old).seen) (disk_of io.old).size NamesNode level ptr result }
     ensures long { OnOk result (length io.new.node ≡ 8192) }
-    ensures looks { Looks (io_of io.old) (io_of io.new) (stop_of result) }
+    ensures looks { LooksInSteps 1 (io_of io.old) (io_of io.new) (stop_of result) steps.old steps.new }
     ensures steps { steps.new ≡ steps.old + 1 }
-    ensures calls { (disk_of io.new).calls ≤ (disk_of io.old).calls + 1 }
 {
     tick(steps);
     load_node(io, level, ptr)

@@ -4,12 +4,13 @@ ghost use Rattle.zst_space.specs.FreeSectors.{FreeSectors};
 ghost use Rattle.zst_block.specs.Blocks.{Has};
 ghost use Rattle.zst_block.specs.IoStates.{IsHonest, blocks_of, disk_of, io_of};
 ghost use Rattle.zst_block.specs.Ptr.{is_present};
-ghost use Rattle.zst_block.specs.IoCalls.{Looks, stop_of};
+ghost use Rattle.zst_block.specs.IoCalls.{stop_of};
 ghost use Rattle.zst_tree.specs.Damage.{IsBelow, IsSeen, NamesDamage, SumsUp};
 ghost use Rattle.zst_tree.specs.PresentIndices.{Empty, HasPresent, IsLast, ReachesEarlier};
 ghost use Rattle.zst_tree.specs.Changes.{Parts};
 ghost use Rattle.zst_tree.specs.Indices.{Delivers, Map, Subtree, child, span};
 ghost use Rattle.zst_tree.specs.PathAnswer.{HangsOn, IfThere, IsChild, IsInside};
+ghost use Rattle.zst_tree.specs.Steps.{LooksAtMost};
 
 use crate::nodes::{child_at, load_node};
 use crate::path_answer::{Branch, PathAnswer, nearer, stands_throughout};
@@ -73,8 +74,7 @@ pub(crate) fn back_along<D: Disk>(
     ensures present { IfOk result (IfThere (λ beside. is_present beside.ptr ≡ true)) }
     ensures below { IsHonest io.new → IfOk result (IfThere (λ beside. IsBelow (IsSeen (disk_of io.old).seen) (disk_of io.old).size (SumsUp (IsSeen (disk_of io.old).seen)) level ptr (IsSeen (disk_of io.old).seen) beside.level beside.ptr)) }
     ensures damaged { IsHonest io.new → NamesDamage (IsSeen (disk_of io.old).seen) (disk_of io.old).size (SumsUp (IsSeen (disk_of io.old).seen)) level ptr result }
-    ensures looks { Looks (io_of io.old) (io_of io.new) (stop_of result) }
-    ensures calls { (disk_of io.new).calls ≤ (disk_of io.old).calls + level }
+    ensures looks { LooksAtMost level (io_of io.old) (io_of io.new) (stop_of result) }
 {
     if !ptr.is_present() {
         return Ok(PathAnswer::Nothing);
@@ -104,8 +104,7 @@ pub(crate) fn last_in<D: Disk>(
         Delivers (IsLast map base (base + span level)) result }
     ensures range { IfOk result (λ found. (base ≤ found) × (found < base + span level)) }
     ensures damaged { is_present ptr ≡ true → IsHonest io.new → NamesDamage (IsSeen (disk_of io.old).seen) (disk_of io.old).size (SumsUp (IsSeen (disk_of io.old).seen)) level ptr result }
-    ensures looks { Looks (io_of io.old) (io_of io.new) (stop_of result) }
-    ensures calls { (disk_of io.new).calls ≤ (disk_of io.old).calls + level }
+    ensures looks { LooksAtMost level (io_of io.old) (io_of io.new) (stop_of result) }
 {
     if stands_throughout(level, &ptr) {
         return Ok(base + (span_of(level) - 1));

@@ -8,7 +8,7 @@ ghost use Rattle.zst_block.specs.IoCalls.{Looks, Works, stop_of};
 ghost use Rattle.zst_block.specs.declared.ptr.Ptr.{Ptr};
 ghost use Rattle.zst_tree.specs.Damage.{HangsBelow, IsBelow, IsWithin, MayHave, NamesDamage, NamesNode};
 ghost use Rattle.zst_tree.specs.Indices.{Map, child, span, greatest, kind_over, Same, Subtree, SameBeside, Changed, Delivers};
-ghost use Rattle.zst_tree.specs.Changes.{PutsChild, FillsChildren, IsPutRoot, Parts, most};
+ghost use Rattle.zst_tree.specs.Changes.{PutsChild, FillsChildren, IsPutRoot, Parts, SplitsRange, most};
 
 use crate::nodes::{child_at, load_node};
 use crate::spans::{place_of, span_of};
@@ -190,12 +190,7 @@ fn ends_of(level: u8, first: u64, below: u64) -> Ends
     requires some { first < below }
     requires below { below ≤ span level }
     requires part { (first ≡ 0) → below < span level }
-    ensures order { (result.low ≤ result.high) × (result.high < 128) }
-    ensures first { (result.low * span (level - 1) + result.first ≡ first) × (result.first < span (level - 1)) }
-    ensures below { (result.high * span (level - 1) + result.below ≡ below) × (0 < result.below) × (result.below ≤ span (level - 1)) }
-    ensures single { below ≡ first + 1 → (result.low ≡ result.high) × (result.below ≡ result.first + 1) }
-    ensures one { result.low ≡ result.high → (result.first < result.below) × (1 + most (level - 1) result.first result.below ≤ most level first below) }
-    ensures two { result.low < result.high → 1 + (most (level - 1) result.first (span (level - 1)) + most (level - 1) 0 result.below) ≤ most level first below }
+    ensures { SplitsRange level first below result }
 {
     let left = place_of(level, first);
     let right = place_of(level, below - 1);

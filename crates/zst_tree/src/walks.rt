@@ -1,11 +1,12 @@
 //! What reads a tree.
 ghost use Rattle.std.specs.Prelude.{◌≡◌, ◌⊎◌, ◌+◌, ◌-◌, ◌*◌, ◌^◌, ◌<◌, ◌≤◌, ℕ, IfOk, IfSome, MatchOption};
 ghost use Rattle.zst_block.specs.IoStates.{IsHonest, blocks_of, disk_of, io_of};
-ghost use Rattle.zst_block.specs.IoCalls.{Looks, stop_of};
+ghost use Rattle.zst_block.specs.IoCalls.{stop_of};
 ghost use Rattle.zst_tree.specs.Damage.{IsSeen, NamesDamage, SumsUp};
 ghost use Rattle.zst_tree.specs.PresentIndices.{FindsLast};
 ghost use Rattle.zst_tree.specs.Indices.{Delivers, Map, Subtree, span};
 ghost use Rattle.zst_tree.specs.LateIndices.{FindsFirst};
+ghost use Rattle.zst_tree.specs.Steps.{LooksAtMost, LooksInSteps};
 
 use crate::late_indices::{along, first_in};
 use crate::lookups::find_in;
@@ -33,9 +34,7 @@ fn first_from<D: Disk, L: Ledger>(
         Delivers (FindsFirst map index (span levels) number) result }
     ensures range { IfOk result (λ found. IfSome found (λ first. (index ≤ first) × (first < span levels))) }
     ensures damaged { IsHonest io.new → NamesDamage (IsSeen (disk_of io.old).seen) (disk_of io.old).size (SumsUp (IsSeen (disk_of io.old).seen)) levels root result }
-    ensures looks { Looks (io_of io.old) (io_of io.new) (stop_of result) }
-    ensures steps { (steps.old ≤ steps.new) × (steps.new ≤ steps.old + (2 * levels - 1)) }
-    ensures calls { (disk_of io.new).calls + steps.old ≤ (disk_of io.old).calls + steps.new }
+    ensures looks { LooksInSteps (2 * levels - 1) (io_of io.old) (io_of io.new) (stop_of result) steps.old steps.new }
 {
     if index >= span_of(levels) {
         return Ok(None);
@@ -68,8 +67,7 @@ fn last_to<D: Disk>(
         Delivers (FindsLast map 0 (index + 1)) result }
     ensures range { IfOk result (λ found. IfSome found (λ last. last ≤ index)) }
     ensures damaged { IsHonest io.new → NamesDamage (IsSeen (disk_of io.old).seen) (disk_of io.old).size (SumsUp (IsSeen (disk_of io.old).seen)) levels root result }
-    ensures looks { Looks (io_of io.old) (io_of io.new) (stop_of result) }
-    ensures calls { (disk_of io.new).calls ≤ (disk_of io.old).calls + (2 * levels - 1) }
+    ensures looks { LooksAtMost (2 * levels - 1) (io_of io.old) (io_of io.new) (stop_of result) }
 {
     match back_along(io, levels, root, 0, index)? {
         PathAnswer::Nothing => Ok(None),
@@ -80,12 +78,13 @@ fn last_to<D: Disk>(
 
 impl Tree {
     ghost use Rattle.std.specs.Prelude.{◌≡◌, ◌+◌, ◌^◌, ◌<◌, ◌≤◌, ℕ, IfOk, IfSome};
-    ghost use Rattle.zst_block.specs.IoCalls.{Looks, stop_of};
+    ghost use Rattle.zst_block.specs.IoCalls.{stop_of};
     ghost use Rattle.zst_tree.specs.Damage.{HangsIn, IsSeen, MayHave, NamesDamage, NamesNode, SumsUp};
     ghost use Rattle.zst_tree.specs.PresentIndices.{FindsLast};
     ghost use Rattle.zst_tree.specs.Lookups.{FindsIn, Shows};
     ghost use Rattle.zst_tree.specs.Indices.{Delivers, Map, TreeIs};
     ghost use Rattle.zst_tree.specs.LateIndices.{FindsFirst};
+    ghost use Rattle.zst_tree.specs.Steps.{LooksAtMost, LooksInSteps};
 
     /// The pointer of an index, and of how many from it on it is that: 1 for a leaf with a block,
     /// what is left of its span for a hole or a redacted pointer, and past the span of the tree
@@ -109,9 +108,7 @@ impl Tree {
         ensures damaged { IsHonest io.new → NamesDamage (IsSeen (disk_of io.old).seen) (disk_of io.old).size NamesNode self.now.levels self.now.root result }
 
         // It only reads, a block each step.
-        ensures looks { Looks (io_of io.old) (io_of io.new) (stop_of result) }
-        ensures steps { (steps.old ≤ steps.new) × (steps.new ≤ steps.old + 7) }
-        ensures calls { (disk_of io.new).calls + steps.old ≤ (disk_of io.old).calls + steps.new }
+        ensures looks { LooksInSteps 7 (io_of io.old) (io_of io.new) (stop_of result) steps.old steps.new }
     {
         if index >= span_of(self.levels) {
             return Ok((Ptr::hole(self.past), TREE_INDEX_BOUND - index));
@@ -139,9 +136,7 @@ impl Tree {
         ensures damaged { IsHonest io.new → NamesDamage (IsSeen (disk_of io.old).seen) (disk_of io.old).size (SumsUp (IsSeen (disk_of io.old).seen)) self.now.levels self.now.root result }
 
         // It only reads, a block each step.
-        ensures looks { Looks (io_of io.old) (io_of io.new) (stop_of result) }
-        ensures steps { (steps.old ≤ steps.new) × (steps.new ≤ steps.old + 13) }
-        ensures calls { (disk_of io.new).calls + steps.old ≤ (disk_of io.old).calls + steps.new }
+        ensures looks { LooksInSteps 13 (io_of io.old) (io_of io.new) (stop_of result) steps.old steps.new }
     {
         match first_from(io, self.levels, self.root, index, number, steps)? {
             Some(found) => Ok(limited(found, below)),
@@ -166,8 +161,7 @@ impl Tree {
         ensures damaged { IsHonest io.new → NamesDamage (IsSeen (disk_of io.old).seen) (disk_of io.old).size (SumsUp (IsSeen (disk_of io.old).seen)) self.now.levels self.now.root result }
 
         // It only reads, and little.
-        ensures looks { Looks (io_of io.old) (io_of io.new) (stop_of result) }
-        ensures calls { (disk_of io.new).calls ≤ (disk_of io.old).calls + 14 }
+        ensures looks { LooksAtMost 14 (io_of io.old) (io_of io.new) (stop_of result) }
     {
         let end = index.min(span_of(self.levels));
         if end == 0 {

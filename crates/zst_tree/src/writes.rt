@@ -6,8 +6,9 @@ ghost use Rattle.zst_block.specs.IoStates.{IsHonest, blocks_of, disk_of, io_of, 
 ghost use Rattle.zst_block.specs.IoCalls.{Works, stop_of};
 ghost use Rattle.zst_block.specs.declared.ptr.Ptr.{Ptr};
 ghost use Rattle.zst_tree.specs.Damage.{IsWithin, NamesDamage, NamesNode};
-ghost use Rattle.zst_tree.specs.Indices.{Map, span, Subtree, Changed, Delivers, Stands, TreeIs, Puts};
-ghost use Rattle.zst_tree.specs.Changes.{IsPutRoot, PutsRoot, TreeDatedUpTo, most};
+ghost use Rattle.zst_tree.specs.Indices.{Map, span, Subtree, Changed, Delivers, Stands, TreeIs};
+ghost use Rattle.zst_tree.specs.Changes.{IsPutRoot, TreeDatedUpTo, most};
+ghost use Rattle.zst_tree.specs.RangeChanges.{PutsRange};
 
 use crate::puts::{close, fill, put_child, put_in};
 use crate::spans::{TREE_INDEX_BOUND, span_of};
@@ -80,14 +81,8 @@ fn put_range<D: Disk>(
     requires below { below ≤ 2 ^ 44 }
     requires leaf { (is_flat leaf ≡ true) ⊎ (below ≡ first + 1) }
     requires lawful { is_lawful leaf ≡ true }
-    ensures puts { (map put : Map) → IsHonest io.new → TreeIs (blocks_of io.old) tree.old map → Puts map put first below leaf → Delivers (λ done. TreeIs (blocks_of io.new) tree.new put) result }
-    ensures damaged { IsHonest io.new → NamesDamage (IsSparedBy io.old) (disk_of io.old).size NamesNode tree.old.levels tree.old.root result }
-    ensures kept { OnErr result (tree.new ≡ tree.old) }
-    ensures levels { tree.new.levels ≤ 7 }
-    ensures root { PutsRoot tree.old leaf tree.new }
+    ensures changes { PutsRange io.old io.new tree.old tree.new first below leaf 320 result }
     ensures dated { (bound : ℕ) (map : Map) → IsHonest io.new → TreeIs (blocks_of io.old) tree.old map → TreeDatedUpTo bound tree.old → leaf.number ≤ bound → OnOk result (TreeDatedUpTo bound tree.new) }
-    ensures within { IsHonest io.new → OnOk result (IsWithin (IsSparedBy io.old) (disk_of io.old).size tree.old.levels tree.old.root leaf (IsSparedBy io.new) tree.new.levels tree.new.root) }
-    ensures works { Works 320 16 (io_of io.old) (io_of io.new) (stop_of result) }
     ensures one { below ≡ first + 1 → Works 224 16 (io_of io.old) (io_of io.new) (stop_of result) }
 {
     let grown = grow_to(io, *tree, below)?;
@@ -105,14 +100,8 @@ fn punch_on<D: Disk>(
 ) -> Result<(), BlockFault>
     requires levels { tree.old.levels ≤ 7 }
     requires first { first < 2 ^ 44 }
-    ensures puts { (map put : Map) → IsHonest io.new → TreeIs (blocks_of io.old) tree.old map → Puts map put first (2 ^ 44) (hole_of number) → Delivers (λ done. TreeIs (blocks_of io.new) tree.new put) result }
-    ensures damaged { IsHonest io.new → NamesDamage (IsSparedBy io.old) (disk_of io.old).size NamesNode tree.old.levels tree.old.root result }
-    ensures kept { OnErr result (tree.new ≡ tree.old) }
-    ensures levels { tree.new.levels ≤ 7 }
-    ensures root { PutsRoot tree.old (hole_of number) tree.new }
+    ensures changes { PutsRange io.old io.new tree.old tree.new first (2 ^ 44) (hole_of number) 320 result }
     ensures dated { (bound : ℕ) (map : Map) → IsHonest io.new → TreeIs (blocks_of io.old) tree.old map → TreeDatedUpTo bound tree.old → number ≤ bound → OnOk result (TreeDatedUpTo bound tree.new) }
-    ensures within { IsHonest io.new → OnOk result (IsWithin (IsSparedBy io.old) (disk_of io.old).size tree.old.levels tree.old.root (hole_of number) (IsSparedBy io.new) tree.new.levels tree.new.root) }
-    ensures works { Works 320 16 (io_of io.old) (io_of io.new) (stop_of result) }
 {
     let grown = grow_to(io, *tree, first)?;
     let root = punch_end(io, grown.levels, grown.root, first, number)?;
@@ -160,16 +149,9 @@ impl Tree {
         requires levels { self.old.levels ≤ 7 }
         requires index { index < 2 ^ 44 }
         requires lawful { is_lawful leaf ≡ true }
-        // The tree that held a map holds each one that has the leaf at the index and is else the same.
-        ensures puts { (map put : Map) → IsHonest io.new → TreeIs (blocks_of io.old) self.old map → Puts map put index (index + 1) leaf → Delivers (λ done. TreeIs (blocks_of io.new) self.new put) result }
-        // Damage is told of a node below the root alone, and afterwards no more may be.
-        ensures damaged { IsHonest io.new → NamesDamage (IsSparedBy io.old) (disk_of io.old).size NamesNode self.old.levels self.old.root result }
-        ensures within { IsHonest io.new → OnOk result (IsWithin (IsSparedBy io.old) (disk_of io.old).size self.old.levels self.old.root leaf (IsSparedBy io.new) self.new.levels self.new.root) }
-        ensures kept { OnErr result (self.new ≡ self.old) }
-        ensures levels { self.new.levels ≤ 7 }
-        ensures root { PutsRoot self.old leaf self.new }
+        // The tree has the leaf at the index, and is else the same.
+        ensures changes { PutsRange io.old io.new self.old self.new index (index + 1) leaf 224 result }
         ensures dated { (bound : ℕ) (map : Map) → IsHonest io.new → TreeIs (blocks_of io.old) self.old map → TreeDatedUpTo bound self.old → leaf.number ≤ bound → OnOk result (TreeDatedUpTo bound self.new) }
-        ensures works { Works 224 16 (io_of io.old) (io_of io.new) (stop_of result) }
     {
         put_range(self, io, index, index + 1, leaf)
     }
@@ -186,16 +168,9 @@ impl Tree {
     ) -> Result<(), BlockFault>
         requires levels { self.old.levels ≤ 7 }
         requires range { first + count ≤ 2 ^ 44 }
-        // The tree that held a map holds each one that has holes in the range and is else the same.
-        ensures puts { (map put : Map) → IsHonest io.new → TreeIs (blocks_of io.old) self.old map → Puts map put first (first + count) (hole_of number) → Delivers (λ done. TreeIs (blocks_of io.new) self.new put) result }
-        // Damage is told of a node below the root alone, and afterwards no more may be.
-        ensures damaged { IsHonest io.new → NamesDamage (IsSparedBy io.old) (disk_of io.old).size NamesNode self.old.levels self.old.root result }
-        ensures within { IsHonest io.new → OnOk result (IsWithin (IsSparedBy io.old) (disk_of io.old).size self.old.levels self.old.root (hole_of number) (IsSparedBy io.new) self.new.levels self.new.root) }
-        ensures kept { OnErr result (self.new ≡ self.old) }
-        ensures levels { self.new.levels ≤ 7 }
-        ensures root { PutsRoot self.old (hole_of number) self.new }
+        // The tree has holes in the range, and is else the same.
+        ensures changes { PutsRange io.old io.new self.old self.new first (first + count) (hole_of number) 320 result }
         ensures dated { (bound : ℕ) (map : Map) → IsHonest io.new → TreeIs (blocks_of io.old) self.old map → TreeDatedUpTo bound self.old → (0 < count → number ≤ bound) → OnOk result (TreeDatedUpTo bound self.new) }
-        ensures works { Works 320 16 (io_of io.old) (io_of io.new) (stop_of result) }
     {
         if count == 0 {
             return Ok(());
@@ -218,16 +193,9 @@ impl Tree {
     ) -> Result<(), BlockFault>
         requires levels { self.old.levels ≤ 7 }
         requires range { first + count ≤ 2 ^ 44 }
-        // The tree that held a map holds each one that is redacted in the range and is else the same.
-        ensures puts { (map put : Map) → IsHonest io.new → TreeIs (blocks_of io.old) self.old map → Puts map put first (first + count) (redacted_of number) → Delivers (λ done. TreeIs (blocks_of io.new) self.new put) result }
-        // Damage is told of a node below the root alone, and afterwards no more may be.
-        ensures damaged { IsHonest io.new → NamesDamage (IsSparedBy io.old) (disk_of io.old).size NamesNode self.old.levels self.old.root result }
-        ensures within { IsHonest io.new → OnOk result (IsWithin (IsSparedBy io.old) (disk_of io.old).size self.old.levels self.old.root (redacted_of number) (IsSparedBy io.new) self.new.levels self.new.root) }
-        ensures kept { OnErr result (self.new ≡ self.old) }
-        ensures levels { self.new.levels ≤ 7 }
-        ensures root { PutsRoot self.old (redacted_of number) self.new }
+        // The tree is redacted in the range, and is else the same.
+        ensures changes { PutsRange io.old io.new self.old self.new first (first + count) (redacted_of number) 320 result }
         ensures dated { (bound : ℕ) (map : Map) → IsHonest io.new → TreeIs (blocks_of io.old) self.old map → TreeDatedUpTo bound self.old → (0 < count → number ≤ bound) → OnOk result (TreeDatedUpTo bound self.new) }
-        ensures works { Works 320 16 (io_of io.old) (io_of io.new) (stop_of result) }
     {
         if count == 0 {
             return Ok(());

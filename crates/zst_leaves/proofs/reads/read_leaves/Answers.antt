@@ -1,5 +1,6 @@
 use Rattle.std.proofs.Common.{◌≡◌, inl, true, false, ◌++◌, List, ℕ, sym, ◌∙◌, ap, arith}
 use Rattle.std.proofs.lemmas.Result.{err_from_is_err_and}
+use Rattle.zst_tree.proofs.StepLooks.{AtMost-more}
 use Rattle.zst_leaves.proofs.BlockCounts.{most_blocks}
 use Rattle.zst_leaves.proofs.DamageLemmas.{alike_told, text_told}
 use Rattle.zst_leaves.proofs.LeavesLaws.{HasLeaves-grows, LeavesBelow-grows}
@@ -7,10 +8,11 @@ use Rattle.zst_leaves.proofs.LeavesRead.{LeavesBelow-only}
 use Rattle.zst_leaves.proofs.BlocksBeforeEnd.{Has-before}
 use Rattle.zst_leaves.proofs.reads.read_leaves.Goals as goal
 
-pub returns-in_err-read_below-clause-calls : goal.returns-in_err-read_below-clause-calls
-returns-in_err-read_below-clause-calls g c =
+pub returns-in_err-read_below-clause-looks : goal.returns-in_err-read_below-clause-looks
+returns-in_err-read_below-clause-looks g c =
     let least = c.is_least.ensures.0 c.if-not-is_least.false in
-    omega (arith, most_blocks c.args.levels c.args.count least.1.few least.0 least.1.enough, c.in_err-read_below.ensures.calls)
+    let p = err_from_is_err_and c.from_residual.result c.from_residual.ensures.1 in
+    rw (p.1, p.2) (AtMost-more (most_blocks c.args.levels c.args.count least.1.few least.0 least.1.enough) c.in_err-read_below.ensures.looks)
 
 pub returns-clause-there : goal.returns-clause-there
 returns-clause-there g c = λ text honest is long.
@@ -28,10 +30,10 @@ returns-clause-only g c = λ honest.
 pub returns-clause-stands : goal.returns-clause-stands
 returns-clause-stands g c = λ honest none. HasLeaves-grows _ _ (Has-before _ c.args.io.now.space none) c.args.levels c.args.root _ (returns-clause-only g c honest)
 
-pub returns-clause-calls : goal.returns-clause-calls
-returns-clause-calls g c =
+pub returns-clause-looks : goal.returns-clause-looks
+returns-clause-looks g c =
     let least = c.is_least.ensures.0 c.if-not-is_least.false in
-    omega (arith, most_blocks c.args.levels c.args.count least.1.few least.0 least.1.enough, c.in_ok-read_below.ensures.calls)
+    AtMost-more (most_blocks c.args.levels c.args.count least.1.few least.0 least.1.enough) c.in_ok-read_below.ensures.looks
 
 pub returns-then-not-is_least-clause-damaged : goal.returns-then-not-is_least-clause-damaged
 returns-then-not-is_least-clause-damaged g c = λ honest.

@@ -1,6 +1,6 @@
 use Rattle.std.proofs.Common.{arith}
 use Rattle.zst_leaves.proofs.LevelCounts.{span_one, span_three, span_two}
-use Rattle.zst_leaves.proofs.Span.{span_zero}
+use Rattle.zst_tree.proofs.Span.{span_zero}
 use Rattle.zst_leaves.proofs.sizes.levels_for.Goals as goal
 
 pub returns-in-0-to-8192 : goal.returns-in-0-to-8192

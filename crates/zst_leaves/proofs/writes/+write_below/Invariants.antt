@@ -1,10 +1,9 @@
-use Rattle.std.proofs.Common.{◌≡◌, ℕ, ◌+◌, ◌-◌, ◌*◌, ◌<◌, ◌≤◌, length}
-use Rattle.std.specs.Prelude.{None}
-use Rattle.zst_block.specs.IoStates.{blocks_of, disk_of, io_of}
-use Rattle.zst_block.specs.IoCalls.{Works}
-use Rattle.zst_space.specs.TakenExtents.{without_blocks}
+use Rattle.std.proofs.Common.{ℕ, ◌-◌, ◌<◌, length}
+use Rattle.std.specs.Prelude.{Ok}
+use Rattle.zst_block.specs.IoStates.{blocks_of, io_of}
 use Rattle.zst_tree.specs.Indices.{child}
 use Rattle.zst_leaves.specs.Leaves.{LeavesBelow, Numbered, bytes_below, part}
+use Rattle.zst_leaves.specs.WrittenLeaves.{WritesBlocks}
 use Rattle.zst_leaves.proofs.BlockCounts.{blocks_before}
 use Rattle.zst_leaves.proofs.writes.+write_below.Given as goal
 
@@ -15,7 +14,5 @@ decreases-write_below g l = l.level
 abbrev pub invariant-loop-k : goal.invariant-loop-k
 invariant-loop-k g l = record {
   children : (j : ℕ) → j < l.k → LeavesBelow (Numbered l.number (blocks_of l.io)) (l.level - 1) (child l.node j) (part (bytes_below (l.level - 1)) l.bytes j);
-  works : Works (16 * blocks_before (l.level - 1) (length l.bytes) l.k) 16 (io_of l.initial.io) (io_of l.io) None;
-  after : l.io.space ≡ without_blocks (blocks_before (l.level - 1) (length l.bytes) l.k) l.initial.io.space;
-  calls : (disk_of l.io).calls ≤ (disk_of l.initial.io).calls + blocks_before (l.level - 1) (length l.bytes) l.k;
+  written : WritesBlocks (blocks_before (l.level - 1) (length l.bytes) l.k) (io_of l.initial.io) (io_of l.io) (Ok (tt {0}));
 }

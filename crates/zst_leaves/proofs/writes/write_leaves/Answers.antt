@@ -1,6 +1,8 @@
-use Rattle.std.proofs.Common.{length, arith}
+use Rattle.std.proofs.Common.{length, refl, arith}
 use Rattle.std.proofs.lemmas.Result.{err_from_is_err_and}
 use Rattle.zst_block.proofs.IoCallLemmas.{Works-more}
+use Rattle.zst_block.specs.IoStates.{blocks_of}
+use Rattle.zst_leaves.specs.Leaves.{HasLeaves, Numbered}
 use Rattle.zst_leaves.proofs.BlockCounts.{most_blocks, most_two_levels}
 use Rattle.zst_leaves.proofs.LevelCounts.{one_level, two_levels}
 use Rattle.zst_leaves.proofs.LeavesLaws.{HasLeaves-grows}
@@ -11,7 +13,7 @@ returns-in_err-root-clause-works g c =
     let least = c.levels_for-levels.ensures in
     let le = most_blocks c.levels_for-levels.result (length c.args.bytes.now) least.few c.requires.some least.enough in
     let p = err_from_is_err_and c.from_residual.result c.from_residual.ensures.1 in
-    rw (p.1, p.2) (Works-more (omega (arith, le)) c.in_err-root.ensures.works)
+    rw (p.1, p.2) (Works-more (omega (arith, le)) c.in_err-root.ensures.written.works)
 
 pub returns-in_err-root-clause-two_levels : goal.returns-in_err-root-clause-two_levels
 returns-in_err-root-clause-two_levels g c = λ small.
@@ -19,35 +21,46 @@ returns-in_err-root-clause-two_levels g c = λ small.
     let two = two_levels (length c.args.bytes.now) c.levels_for-levels.result least small in
     let le = most_two_levels c.levels_for-levels.result (length c.args.bytes.now) two c.requires.some least.enough small in
     let p = err_from_is_err_and c.from_residual.result c.from_residual.ensures.1 in
-    rw (p.1, p.2) (Works-more (omega (arith, le)) c.in_err-root.ensures.works)
+    rw (p.1, p.2) (Works-more (omega (arith, le)) c.in_err-root.ensures.written.works)
 
 pub returns-in_err-root-clause-calls : goal.returns-in_err-root-clause-calls
 returns-in_err-root-clause-calls g c =
     let least = c.levels_for-levels.ensures in
-    omega (arith, most_blocks c.levels_for-levels.result (length c.args.bytes.now) least.few c.requires.some least.enough, c.in_err-root.ensures.calls)
-
-pub returns-clause-there : goal.returns-clause-there
-returns-clause-there g c =
-    HasLeaves-grows _ _ (λ ptr bytes is. is.0) c.levels_for-levels.result c.in_ok-root.root c.args.bytes.now
-    (record { some = c.requires.some; least = c.levels_for-levels.ensures; below = c.in_ok-root.ensures.below })
+    omega (arith, most_blocks c.levels_for-levels.result (length c.args.bytes.now) least.few c.requires.some least.enough, c.in_err-root.ensures.written.calls)
 
 pub returns-clause-works : goal.returns-clause-works
 returns-clause-works g c =
     let least = c.levels_for-levels.ensures in
     let le = most_blocks c.levels_for-levels.result (length c.args.bytes.now) least.few c.requires.some least.enough in
-    Works-more (omega (arith, le)) c.in_ok-root.ensures.works
+    Works-more (omega (arith, le)) c.in_ok-root.ensures.written.works
 
 pub returns-clause-two_levels : goal.returns-clause-two_levels
 returns-clause-two_levels g c = λ small.
     let least = c.levels_for-levels.ensures in
     let two = two_levels (length c.args.bytes.now) c.levels_for-levels.result least small in
     let le = most_two_levels c.levels_for-levels.result (length c.args.bytes.now) two c.requires.some least.enough small in
-    Works-more (omega (arith, le)) c.in_ok-root.ensures.works
+    Works-more (omega (arith, le)) c.in_ok-root.ensures.written.works
 
 pub returns-clause-calls : goal.returns-clause-calls
 returns-clause-calls g c =
     let least = c.levels_for-levels.ensures in
-    omega (arith, most_blocks c.levels_for-levels.result (length c.args.bytes.now) least.few c.requires.some least.enough, c.in_ok-root.ensures.calls)
+    omega (arith, most_blocks c.levels_for-levels.result (length c.args.bytes.now) least.few c.requires.some least.enough, c.in_ok-root.ensures.written.calls)
 
 pub returns-clause-one_leaf : goal.returns-clause-one_leaf
 returns-clause-one_leaf g c = λ small. c.in_ok-root.ensures.one_leaf (one_level (length c.args.bytes.now) c.levels_for-levels.result c.levels_for-levels.ensures small) c.requires.some
+
+pub returns-clause-written : goal.returns-clause-written
+returns-clause-written g c =
+    let numbered : HasLeaves (Numbered c.args.number (blocks_of c.write_below.new.io)) c.levels_for-levels.result c.in_ok-root.root c.args.bytes.now =
+    record { some = c.requires.some; least = c.levels_for-levels.ensures; below = c.in_ok-root.ensures.below } in
+    record {
+      there = HasLeaves-grows _ _ (λ ptr bytes is. is.0) c.levels_for-levels.result c.in_ok-root.root c.args.bytes.now numbered;
+      numbered = numbered;
+      past = refl;
+      after = c.in_ok-root.ensures.written.after;
+    }
+
+pub returns-in_err-root-clause-never_damaged : goal.returns-in_err-root-clause-never_damaged
+returns-in_err-root-clause-never_damaged g c = λ sector stated found is.
+    let p = err_from_is_err_and c.from_residual.result c.from_residual.ensures.1 in
+    c.in_err-root.ensures.written.never_damaged sector stated found (cc)

@@ -1,9 +1,8 @@
-use Rattle.std.proofs.Common.{◌≡◌, ◌+◌, ◌-◌, ◌*◌, ◌<◌, arith}
+use Rattle.std.proofs.Common.{◌-◌, ◌<◌, arith}
 use Rattle.std.proofs.lemmas.Result.{err_from_is_err_and}
 use Rattle.zst_block.proofs.BlocksLaws.{FillsFree-then}
 use Rattle.zst_block.proofs.IoCallLemmas.{Works-after, Works-then, Works-more}
 use Rattle.zst_tree.specs.Damage.{NamesNode}
-use Rattle.zst_tree.specs.Indices.{span}
 use Rattle.zst_tree.specs.Leaves.{with_leaves}
 use Rattle.zst_tree.proofs.IndicesLaws.{Subtree-grows}
 use Rattle.zst_tree.proofs.SubtreeCases.{kept_looks, kept_works}

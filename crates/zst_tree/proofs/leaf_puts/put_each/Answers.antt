@@ -1,4 +1,4 @@
-use Rattle.std.proofs.Common.{◌≡◌, ◌*◌, ◌∙◌, length, drop, subst, sym, ap, arith, refl}
+use Rattle.std.proofs.Common.{◌*◌, ◌∙◌, subst, sym, ap, refl}
 use Rattle.std.proofs.lemmas.List.{drop_all}
 use Rattle.zst_block.specs.Blocks.{Has}
 use Rattle.zst_tree.specs.Changes.{Parts}

@@ -1,4 +1,3 @@
-use Rattle.zst_block.proofs.IoCallLemmas.{Looks-then, Looks-none}
 use Rattle.std.proofs.Common.{rules, ◌≡◌, List, ◌+◌, ◌-◌, ℕ, true, refl, sym, ◌∙◌, arith}
 use Rattle.std.proofs.lemmas.Result.{err_from_is_err_and}
 use Rattle.zst_space.specs.FreeSectors.{FreeSectors}
@@ -14,6 +13,7 @@ use Rattle.zst_tree.proofs.EmptyRanges.{empty_below, at_present, earlier_nearer}
 use Rattle.zst_tree.proofs.Damage.{fault_below, beside_below, IfThere-nearer, TellsNode-sums}
 use Rattle.zst_tree.proofs.LoadedNodes.{there_after}
 use Rattle.zst_tree.proofs.QuietRanges.{here}
+use Rattle.zst_tree.proofs.StepLooks.{AtMost-more, AtMost-none, AtMost-then}
 use Rattle.zst_tree.proofs.present_indices.+back_along.Goals as goal
 
 pub returns-then-not-is_present-clause-reaches : goal.returns-then-not-is_present-clause-reaches
@@ -37,15 +37,15 @@ returns-in_err-reach-clause-reaches g t c = λ map honest stands.
     let inner = c.stands_throughout.ensures.inner c.if-stands_throughout.false in
     let p = err_from_is_err_and c.from_residual-in_err-reach.result c.from_residual-in_err-reach.ensures.1 in
     rw (p.1, p.2) (c.in_err-reach.ensures.reaches map honest (rw (c.child_at-child.ensures.child, c.start_of-start.ensures.value)
-    ((c.in_ok-load_node.ensures.parts c.args.base map inner.0 inner.1 (c.in_err-reach.ensures.looks.reads.honest honest) stands).below c.place_of-place.result.child c.place_of-place.ensures.child)))
+    ((c.in_ok-load_node.ensures.parts c.args.base map inner.0 inner.1 (c.in_err-reach.ensures.looks.looks.reads.honest honest) stands).below c.place_of-place.result.child c.place_of-place.ensures.child)))
 
 pub returns-clause-reaches : goal.returns-clause-reaches
 returns-clause-reaches g t c = λ map honest stands.
     let inner = c.stands_throughout.ensures.inner c.if-stands_throughout.false in
-    let was_honest = c.in_ok-reach.ensures.looks.reads.honest honest in
+    let was_honest = c.in_ok-reach.ensures.looks.looks.reads.honest honest in
     let parts = c.in_ok-load_node.ensures.parts c.args.base map inner.0 inner.1 was_honest stands in
     let now = Has (g.D.Disk.state c.back_along.new.io.disk.now).seen c.back_along.new.io.space in
-    let later : Parts now (c.args.level - 1) c.load_node.new.io.node c.args.base map = there_after c.in_ok-reach.ensures.looks (λ (seen : List ℕ) (s : FreeSectors). Parts (Has seen s) (c.args.level - 1) c.load_node.new.io.node c.args.base map) parts in
+    let later : Parts now (c.args.level - 1) c.load_node.new.io.node c.args.base map = there_after c.in_ok-reach.ensures.looks.looks (λ (seen : List ℕ) (s : FreeSectors). Parts (Has seen s) (c.args.level - 1) c.load_node.new.io.node c.args.base map) parts in
     rw c.nearer.ensures
     (earlier_nearer map now c.args.level c.args.base c.place_of-place.result.child c.place_of-place.result.rest c.args.offset c.start_of-start.result c.in_ok-reach.reach c.earlier_from-before.result inner.0 c.place_of-place.ensures.child c.place_of-place.ensures.rest c.place_of-place.ensures.sum c.start_of-start.ensures.value
     (c.in_ok-reach.ensures.reaches map honest (rw (c.child_at-child.ensures.child, c.start_of-start.ensures.value) (parts.below c.place_of-place.result.child c.place_of-place.ensures.child)))
@@ -61,8 +61,8 @@ pub returns-in_err-reach-clause-damaged : goal.returns-in_err-reach-clause-damag
 returns-in_err-reach-clause-damaged g t c = λ honest.
     let inner = c.stands_throughout.ensures.inner c.if-stands_throughout.false in
     let p = err_from_is_err_and c.from_residual-in_err-reach.result c.from_residual-in_err-reach.ensures.1 in
-    rw (p.1, p.2) (fault_below c.in_ok-load_node.ensures.looks (λ seen. SumsUp (IsSeen seen)) c.args.level c.args.ptr c.load_node.new.io.node c.place_of-place.result.child inner.0 inner.1
-    (c.in_ok-load_node.ensures.block (c.in_err-reach.ensures.looks.reads.honest honest)) c.place_of-place.ensures.child _ (rw c.child_at-child.ensures.child at (c.in_err-reach.ensures.damaged honest)))
+    rw (p.1, p.2) (fault_below c.in_ok-load_node.ensures.looks.looks (λ seen. SumsUp (IsSeen seen)) c.args.level c.args.ptr c.load_node.new.io.node c.place_of-place.result.child inner.0 inner.1
+    (c.in_ok-load_node.ensures.block (c.in_err-reach.ensures.looks.looks.reads.honest honest)) c.place_of-place.ensures.child _ (rw c.child_at-child.ensures.child at (c.in_err-reach.ensures.damaged honest)))
 
 pub returns-clause-present : goal.returns-clause-present
 returns-clause-present g t c = rw c.nearer.ensures (IfThere-nearer (λ (beside : Branch). is_present beside.ptr ≡ true) c.in_ok-reach.reach c.earlier_from-before.result c.in_ok-reach.ensures.present c.earlier_from-before.ensures.present)
@@ -70,15 +70,15 @@ returns-clause-present g t c = rw c.nearer.ensures (IfThere-nearer (λ (beside :
 pub returns-clause-below : goal.returns-clause-below
 returns-clause-below g t c = λ honest.
     let inner = c.stands_throughout.ensures.inner c.if-stands_throughout.false in
-    rw c.nearer.ensures (beside_below c.in_ok-load_node.ensures.looks (λ seen. SumsUp (IsSeen seen)) c.args.level c.args.ptr c.load_node.new.io.node c.place_of-place.result.child inner.0 inner.1
-    (c.in_ok-load_node.ensures.block (c.in_ok-reach.ensures.looks.reads.honest honest)) c.place_of-place.ensures.child c.in_ok-reach.reach c.earlier_from-before.result
+    rw c.nearer.ensures (beside_below c.in_ok-load_node.ensures.looks.looks (λ seen. SumsUp (IsSeen seen)) c.args.level c.args.ptr c.load_node.new.io.node c.place_of-place.result.child inner.0 inner.1
+    (c.in_ok-load_node.ensures.block (c.in_ok-reach.ensures.looks.looks.reads.honest honest)) c.place_of-place.ensures.child c.in_ok-reach.reach c.earlier_from-before.result
     (rw c.child_at-child.ensures.child at (c.in_ok-reach.ensures.below honest)) c.earlier_from-before.ensures.hangs)
 
 pub returns-then-not-is_present-clause-damaged : goal.returns-then-not-is_present-clause-damaged
 returns-then-not-is_present-clause-damaged g t c = λ honest. tt
 
 pub returns-then-not-is_present-clause-looks : goal.returns-then-not-is_present-clause-looks
-returns-then-not-is_present-clause-looks g t c = Looks-none _
+returns-then-not-is_present-clause-looks g t c = AtMost-none _
 
 pub returns-then-not-is_present-clause-present : goal.returns-then-not-is_present-clause-present
 returns-then-not-is_present-clause-present g t c = tt
@@ -90,7 +90,7 @@ pub returns-then-stands_throughout-clause-damaged : goal.returns-then-stands_thr
 returns-then-stands_throughout-clause-damaged g t c = λ honest. tt
 
 pub returns-then-stands_throughout-clause-looks : goal.returns-then-stands_throughout-clause-looks
-returns-then-stands_throughout-clause-looks g t c = Looks-none _
+returns-then-stands_throughout-clause-looks g t c = AtMost-none _
 
 pub returns-then-stands_throughout-clause-present : goal.returns-then-stands_throughout-clause-present
 returns-then-stands_throughout-clause-present g t c = tt
@@ -119,7 +119,7 @@ returns-in_err-load_node-clause-below g t c = λ honest.
 pub returns-in_err-load_node-clause-looks : goal.returns-in_err-load_node-clause-looks
 returns-in_err-load_node-clause-looks g t c =
     let p = err_from_is_err_and c.from_residual.result c.from_residual.ensures.1 in
-    rw (p.1, p.2) c.in_err-load_node.ensures.looks
+    rw (p.1, p.2) (AtMost-more (omega (arith, (c.stands_throughout.ensures.inner c.if-stands_throughout.false).0)) c.in_err-load_node.ensures.looks)
 
 pub returns-in_err-reach-clause-inside : goal.returns-in_err-reach-clause-inside
 returns-in_err-reach-clause-inside g t c =
@@ -139,10 +139,10 @@ returns-in_err-reach-clause-below g t c = λ honest.
 pub returns-in_err-reach-clause-looks : goal.returns-in_err-reach-clause-looks
 returns-in_err-reach-clause-looks g t c =
     let p = err_from_is_err_and c.from_residual-in_err-reach.result c.from_residual-in_err-reach.ensures.1 in
-    rw (p.1, p.2) (Looks-then c.in_ok-load_node.ensures.looks c.in_err-reach.ensures.looks)
+    rw (p.1, p.2) (AtMost-then (omega (arith, (c.stands_throughout.ensures.inner c.if-stands_throughout.false).0)) c.in_ok-load_node.ensures.looks c.in_err-reach.ensures.looks)
 
 pub returns-clause-damaged : goal.returns-clause-damaged
 returns-clause-damaged g t c = λ honest. tt
 
 pub returns-clause-looks : goal.returns-clause-looks
-returns-clause-looks g t c = Looks-then c.in_ok-load_node.ensures.looks c.in_ok-reach.ensures.looks
+returns-clause-looks g t c = AtMost-then (omega (arith, (c.stands_throughout.ensures.inner c.if-stands_throughout.false).0)) c.in_ok-load_node.ensures.looks c.in_ok-reach.ensures.looks

@@ -1,4 +1,3 @@
-use Rattle.zst_block.proofs.IoCallLemmas.{Looks-then, Looks-none}
 use Rattle.std.proofs.Common.{◌≡◌, ◌+◌, ◌-◌, true, refl, sym, ◌∙◌, arith}
 use Rattle.std.proofs.lemmas.Result.{err_from_is_err_and}
 use Rattle.zst_tree.specs.Indices.{span}
@@ -10,6 +9,7 @@ use Rattle.zst_tree.proofs.LoadedNodes.{loaded_is}
 use Rattle.zst_tree.proofs.QuietRanges.{here}
 use Rattle.zst_tree.proofs.Results.{delivers_if}
 use Rattle.zst_tree.proofs.Span.{span-pos}
+use Rattle.zst_tree.proofs.StepLooks.{AtMost-more, AtMost-none, AtMost-then}
 use Rattle.zst_tree.proofs.present_indices.+last_in.Goals as goal
 
 pub overflow_sub-result : goal.overflow_sub-result
@@ -41,7 +41,7 @@ returns-in-None-clause-last g t c = λ map honest present stands.
 pub returns-in-Some-clause-last : goal.returns-in-Some-clause-last
 returns-in-Some-clause-last g t c = λ map honest present stands.
     let inner = c.stands_throughout.ensures.inner c.if-stands_throughout.false in
-    let was_honest = c.last_in.ensures.looks.reads.honest honest in
+    let was_honest = c.last_in.ensures.looks.looks.reads.honest honest in
     let parts = c.in_ok-load_node.ensures.parts c.args.base map inner.0 inner.1 was_honest stands in
     delivers_if _ _ c.last_in.result
     (λ found last. last_under map _ c.args.level c.args.base c.in-Some.k found c.load_node.new.io.node inner.0 c.in-Some.ensures.0 parts c.in-Some.ensures.2 (rw c.start_of-start.ensures.value at last))
@@ -62,15 +62,15 @@ returns-in-None-clause-damaged g t c = λ present honest.
 pub returns-in-Some-clause-damaged : goal.returns-in-Some-clause-damaged
 returns-in-Some-clause-damaged g t c = λ present honest.
     let inner = c.stands_throughout.ensures.inner c.if-stands_throughout.false in
-    told_below c.in_ok-load_node.ensures.looks (λ seen. SumsUp (IsSeen seen)) c.args.level c.args.ptr c.load_node.new.io.node c.in-Some.k inner.0 inner.1
-    (c.in_ok-load_node.ensures.block (c.last_in.ensures.looks.reads.honest honest)) c.in-Some.ensures.0 c.last_in.result
+    told_below c.in_ok-load_node.ensures.looks.looks (λ seen. SumsUp (IsSeen seen)) c.args.level c.args.ptr c.load_node.new.io.node c.in-Some.k inner.0 inner.1
+    (c.in_ok-load_node.ensures.block (c.last_in.ensures.looks.looks.reads.honest honest)) c.in-Some.ensures.0 c.last_in.result
     (rw c.child_at-child.ensures.child at (c.last_in.ensures.damaged (rw c.child_at-child.ensures.child c.in-Some.ensures.1) honest))
 
 pub returns-then-stands_throughout-clause-damaged : goal.returns-then-stands_throughout-clause-damaged
 returns-then-stands_throughout-clause-damaged g t c = λ present honest. tt
 
 pub returns-then-stands_throughout-clause-looks : goal.returns-then-stands_throughout-clause-looks
-returns-then-stands_throughout-clause-looks g t c = Looks-none _
+returns-then-stands_throughout-clause-looks g t c = AtMost-none _
 
 pub returns-in_err-load_node-clause-range : goal.returns-in_err-load_node-clause-range
 returns-in_err-load_node-clause-range g t c =
@@ -80,10 +80,10 @@ returns-in_err-load_node-clause-range g t c =
 pub returns-in_err-load_node-clause-looks : goal.returns-in_err-load_node-clause-looks
 returns-in_err-load_node-clause-looks g t c =
     let p = err_from_is_err_and c.from_residual.result c.from_residual.ensures.1 in
-    rw (p.1, p.2) c.in_err-load_node.ensures.looks
+    rw (p.1, p.2) (AtMost-more (omega (arith, (c.stands_throughout.ensures.inner c.if-stands_throughout.false).0)) c.in_err-load_node.ensures.looks)
 
 pub returns-in-None-clause-range : goal.returns-in-None-clause-range
 returns-in-None-clause-range g t c = tt
 
 pub returns-in-Some-clause-looks : goal.returns-in-Some-clause-looks
-returns-in-Some-clause-looks g t c = Looks-then c.in_ok-load_node.ensures.looks c.last_in.ensures.looks
+returns-in-Some-clause-looks g t c = AtMost-then (omega (arith, (c.stands_throughout.ensures.inner c.if-stands_throughout.false).0)) c.in_ok-load_node.ensures.looks c.last_in.ensures.looks

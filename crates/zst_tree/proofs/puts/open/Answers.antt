@@ -43,4 +43,4 @@ pub returns-then-is_flat-clause-looks : goal.returns-then-is_flat-clause-looks
 returns-then-is_flat-clause-looks g c = Looks-none _
 
 pub returns-clause-looks : goal.returns-clause-looks
-returns-clause-looks g c = c.load_node.ensures.looks
+returns-clause-looks g c = c.load_node.ensures.looks.looks

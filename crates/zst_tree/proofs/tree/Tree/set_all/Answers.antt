@@ -1,4 +1,4 @@
-use Rattle.std.proofs.Common.{arith, zero-add, ◌+◌, ◌*◌, ◌≡◌}
+use Rattle.std.proofs.Common.{arith}
 use Rattle.std.proofs.lemmas.Result.{err_from_is_err_and}
 use Rattle.zst_block.proofs.IoCallLemmas.{Works-then, Works-more}
 use Rattle.zst_tree.specs.Damage.{NamesNode}
