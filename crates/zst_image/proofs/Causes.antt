@@ -5,12 +5,13 @@ use Rattle.zst_block.specs.IoCalls as blocks
 use Rattle.zst_block.specs.declared.fault.BlockFault.TheVariants as block_faults
 use Rattle.zst_fletcher.specs.WeightSum.{parts_of}
 use Rattle.zst_outside.specs.Images.{DiskState}
+use Rattle.zst_uber.specs.DiskCalls.{HasDiskCause}
 use Rattle.zst_uber.specs.declared.uber.Uber.{Uber}
 use Rattle.zst_leaves.specs.Damage.{TellsText}
 use Rattle.zst_leaves.specs.Leaves.{GivesText, stop_of_leaves}
 use Rattle.zst_leaves.specs.declared.fault.LeavesFault.{LeavesFault}
 use Rattle.zst_leaves.specs.declared.fault.LeavesFault.TheVariants.{Block, Memory}
-use Rattle.zst_image.specs.Faults.{HasDiskCause, stop_of_commit}
+use Rattle.zst_image.specs.Faults.{stop_of_commit}
 use Rattle.zst_image.specs.OpenAnswers.{IsOpenFault, LoadFault, ReadFault, TellsFault}
 use Rattle.zst_image.specs.declared.open_fault.OpenFault.{OpenFault}
 use Rattle.zst_image.specs.declared.open_fault.OpenFault.TheVariants as opens

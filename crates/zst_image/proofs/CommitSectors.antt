@@ -1,9 +1,18 @@
 -- How many sectors a commit takes.
-use Rattle.std.proofs.Common.{◌≡◌, ℕ, ◌+◌, ◌-◌, ◌≤◌, List, [], ap, arith}
+use Rattle.std.specs.Prelude.{Some, Err}
+use Rattle.std.proofs.Common.{◌≡◌, ℕ, ◌+◌, ◌-◌, ◌≤◌, List, [], length, ⊎_elim, ap, arith}
 use Rattle.zst_space.specs.declared.space.Extent.{Extent}
 use Rattle.zst_space.specs.FreeSectors.{FreeSectors, room, total}
 use Rattle.zst_block.specs.Blocks.{FitsDisk}
-use Rattle.zst_block.specs.IoCalls.{TakesAtMost}
+use Rattle.zst_block.specs.IoCalls.{IsFull, TakesAtMost}
+use Rattle.zst_block.specs.declared.fault.BlockFault.TheVariants as blocks
+use Rattle.zst_dir.specs.Rows.{Rows}
+use Rattle.zst_dir.specs.Spelling.{dir_bytes}
+use Rattle.zst_image.specs.Commits.{IsDirFull, TakesForDir}
+use Rattle.zst_image.specs.Faults.{stop_of_commit}
+use Rattle.zst_image.specs.Reads.{dir_sectors}
+use Rattle.zst_image.specs.declared.commit_fault.CommitFault.{CommitFault}
+use Rattle.zst_image.specs.declared.commit_fault.CommitFault.TheVariants.{Full, DiskFault, OutOfMemory}
 
 -- where no extents are free below the end, all that is free is behind it
 room_behind : (space : FreeSectors) → space.free ≡ [] → room space ≡ space.sectors - space.end
@@ -17,3 +26,20 @@ end_bounded most size old new none takes fits =
 pub end_moved : (taken most : ℕ) (old new : FreeSectors) → old.free ≡ [] → TakesAtMost most old new → new.end ≤ new.sectors → room new + taken ≡ room old → taken + old.end ≤ old.sectors → new.end ≡ old.end + taken
 end_moved taken most old new none takes inside took enough =
     omega (arith, room_behind old none, room_behind new (takes.unbroken none), took, takes.sectors, inside, enough)
+
+IsDirFull-written : (rows : Rows) (old new : FreeSectors) (need largest : ℕ) → IsFull (dir_sectors (length (dir_bytes rows))) 16 old new need largest → IsDirFull old new rows need largest
+IsDirFull-written rows old new need largest full = record { shorter = full.shorter; needed = ⊎_elim (λ node. node) (λ leaf. leaf) full.needed; is_longest = full.is_longest; before = full.before }
+
+-- where the directory wasn't written, the commit takes what that took
+pub takes-refused : (rows : Rows) (old new : FreeSectors) (fault : CommitFault) → TakesAtMost (dir_sectors (length (dir_bytes rows))) old new
+    → ((need largest : ℕ) → stop_of_commit {T = Rows} (Err fault) ≡ Some (blocks.Full need largest) → IsFull (dir_sectors (length (dir_bytes rows))) 16 old new need largest) → TakesForDir rows old new (Err fault)
+takes-refused rows old new (Full need largest) takes full = record {
+  takes = takes;
+  one_leaf = λ small. tt;
+  full = λ n l is.
+      let needed : need ≡ n = cc in
+      let left : largest ≡ l = cc in
+      IsDirFull-written rows old new n l (full n l (cc (needed, left)));
+}
+takes-refused rows old new DiskFault takes full = record { takes = takes; one_leaf = λ small. tt; full = λ n l is. absurd (cc) }
+takes-refused rows old new OutOfMemory takes full = record { takes = takes; one_leaf = λ small. tt; full = λ n l is. absurd (cc) }

@@ -1,11 +1,12 @@
 -- What making a pool leaves.
-use Rattle.std.specs.Prelude.{Option, None, Result, Ok, Err, IfOk, IfErr, OnOk}
-use Rattle.std.proofs.Common.{◌≡◌, ◌⊎◌, inl, inr, ⊎_elim, ℕ, ◌+◌, ◌-◌, ◌*◌, ◌<◌, ◌≤◌, ◌^◌, List, [], length, refl, sym, ◌∙◌, ap, subst, arith, Bool}
+use Rattle.std.specs.Prelude.{Option, None, Result, Ok, Err, IfOk, IfErr}
+use Rattle.std.proofs.Common.{◌≡◌, ◌⊎◌, inl, inr, ⊎_elim, ℕ, ◌-◌, ◌*◌, ◌<◌, ◌≤◌, ◌^◌, List, [], length, refl, sym, ◌∙◌, ap, subst, arith, Bool}
 use Rattle.std.proofs.lemmas.List.Elements.{All-nil}
 use Rattle.zst_outside.specs.Causes.{Rose-earlier}
 use Rattle.zst_outside.specs.Images.{DiskState, Leaves, OnlyReads, Leaves-weaker, Leaves-then}
-use Rattle.zst_space.specs.FreeSectors.{FreeSectors, largest_of, room}
-use Rattle.zst_block.specs.IoCalls.{TakesAtMost}
+use Rattle.zst_space.specs.FreeSectors.{FreeSectors, largest_of}
+use Rattle.zst_block.specs.IoStates.{IoState}
+use Rattle.zst_uber.specs.DiskCalls.{HasDiskCause}
 use Rattle.zst_uber.specs.Slots.{latest}
 use Rattle.zst_uber.specs.declared.uber.Uber.{Uber}
 use Rattle.zst_model.specs.pools.Limits.{last_number, last_guid}
@@ -13,9 +14,8 @@ use Rattle.zst_model.specs.pools.Pool.{Pool, IsPool}
 use Rattle.zst_dir.specs.Rows.{Rows, no_rows}
 use Rattle.zst_dir.specs.Spelling.{dir_bytes}
 use Rattle.zst_tree.specs.Indices.{Blocks}
-use Rattle.zst_image.specs.Commits.{CommitAnswer, IsDirFull, NextIs, OldOrNext, Ready, Stays}
+use Rattle.zst_image.specs.Commits.{CommitAnswer, CommittedDir, NextIs, OldOrNext, Stays, TakesForDir}
 use Rattle.zst_image.specs.CreateAnswers.{CreateAnswers, IsMade, IsNew, RefusedLeaves}
-use Rattle.zst_image.specs.Faults.{HasDiskCause}
 use Rattle.zst_image.specs.Reads.{Reads, RowsAre, bound_of, dir_sectors, new_pool}
 use Rattle.zst_image.specs.declared.commit_fault.CommitFault.{CommitFault}
 use Rattle.zst_image.specs.declared.commit_fault.CommitFault.TheVariants as commits
@@ -87,10 +87,9 @@ made-cause before mid now (Err commits.OutOfMemory) answer is later cause = reco
 
 -- the directory without rows has room behind sectors 0 to 7 of at least 128
 pub never-full : (space less : FreeSectors) (sectors : ℕ) (rows : Rows) (result : Result PoolState CommitFault) → space ≡ record { end = 8; sectors = sectors; free = [] } → rows ≡ no_rows → 128 ≤ sectors
-    → ((need largest : ℕ) → result ≡ Err (commits.Full need largest) → IsDirFull space less rows need largest)
-    → (need largest : ℕ) → ¬ (result ≡ Err (commits.Full need largest))
-never-full space less sectors rows result same none many full need largest is =
-    let before = (full need largest is).before in
+    → TakesForDir rows space less result → (need largest : ℕ) → ¬ (result ≡ Err (commits.Full need largest))
+never-full space less sectors rows result same none many takes need largest is =
+    let before = (takes.full need largest is).before in
     let most : dir_sectors (length (dir_bytes rows)) ≡ 64 = ap (λ (r : Rows). dir_sectors (length (dir_bytes r))) none ∙ dir_sectors-none in
     let left : largest_of space ≡ sectors - 8 = ap largest_of same in
     omega (arith, many, before, most, left)
@@ -128,16 +127,17 @@ create-moments {tight = tight} old mid new last space pool same reads leaves =
     (λ c is. ⊎_elim (λ past. inl (past.0, reads.crash past.0 past.1, past.2.latest_stays)) (λ next. inr next) is))
 
 -- what is kept of the new pool
-pub new-made : (disk : DiskState) (sectors : ℕ) (space less : FreeSectors) (body : Uber) (rows : Rows) (made : Result PoolState CommitFault) → space ≡ record { end = 8; sectors = sectors; free = [] } → rows ≡ no_rows → 128 ≤ sectors
-    → body.sectors ≡ sectors → TakesAtMost (dir_sectors (length (dir_bytes rows))) space less → (length (dir_bytes rows) ≤ 8192 → OnOk made (room less + 16 ≡ room space)) → IfOk made (λ kept. (kept.body.end ≡ less.end) × (kept.body.sectors ≡ body.sectors))
-    → IfOk made (λ kept. Ready disk kept.body) → IfOk made (IsNew sectors)
-new-made disk sectors space less body rows (Err fault) same none many all takes one ends ready = tt
-new-made disk sectors space less body rows (Ok kept) same none many all takes one ends ready =
-    let end = ends.0 in
-    let as_body = ends.1 in
+pub new-made : (sectors : ℕ) (old new : IoState) (body : Uber) (rows : Rows) (made : Result PoolState CommitFault) → old.space ≡ record { end = 8; sectors = sectors; free = [] } → rows ≡ no_rows → 128 ≤ sectors
+    → body.sectors ≡ sectors → TakesForDir rows old.space new.space made → IfOk made (CommittedDir body rows old new) → IfOk made (IsNew sectors)
+new-made sectors old new body rows (Err fault) same none many all takes committed = tt
+new-made sectors old new body rows (Ok kept) same none many all takes committed =
+    let space = old.space in
+    let less = new.space in
+    let end = committed.ends.0 in
+    let as_body = committed.ends.1 in
     let small : length (dir_bytes rows) ≤ 8192 = omega (arith, ap (λ (r : Rows). length (dir_bytes r)) none, length-no_rows) in
     let was_end : space.end ≡ 8 = ap (λ (s : FreeSectors). s.end) same in
     let was_all : space.sectors ≡ sectors = ap (λ (s : FreeSectors). s.sectors) same in
-    let inside : less.end ≤ less.sectors = omega (arith, end, as_body, all, takes.sectors, was_all, ready.in_range.end.1) in
-    let moved = end_moved 16 _ space less (ap (λ (s : FreeSectors). s.free) same) takes inside (one small) (omega (arith, many, was_end, was_all)) in
+    let inside : less.end ≤ less.sectors = omega (arith, end, as_body, all, takes.takes.sectors, was_all, committed.ready.in_range.end.1) in
+    let moved = end_moved 16 _ space less (ap (λ (s : FreeSectors). s.free) same) takes.takes inside (takes.one_leaf small) (omega (arith, many, was_end, was_all)) in
     record { sectors_are = as_body ∙ all; end = omega (arith, end, moved, was_end) }

@@ -1,8 +1,10 @@
 -- What the commit of a directory does: it writes into free sectors alone, and then makes what it wrote the latest.
-use Rattle.std.specs.Prelude.{◌≡◌, ◌⊎◌, ◌+◌, ◌<◌, ℕ, Bool, List, length, Result, Ok, Err}
+use Rattle.std.specs.Prelude.{◌≡◌, ◌⊎◌, ◌||◌, ◌+◌, ◌<◌, ◌≤◌, ℕ, Bool, false, List, [], length, Result, Ok, Err, IfErr, OnErr, OnOk}
 use Rattle.zst_outside.specs.Images.{DiskState, Leaves}
-use Rattle.zst_space.specs.FreeSectors.{FreeSectors, IsFree, largest_of}
+use Rattle.zst_space.specs.FreeSectors.{FreeSectors, IsFree, largest_of, room}
 use Rattle.zst_block.specs.Blocks.{FillsFree, KeepsBlocks}
+use Rattle.zst_block.specs.IoCalls.{TakesAtMost}
+use Rattle.zst_block.specs.IoStates.{IoState}
 use Rattle.zst_uber.specs.Body.{InRange}
 use Rattle.zst_uber.specs.Commit.{LabelSettled}
 use Rattle.zst_uber.specs.Slots.{latest, IsNext}
@@ -11,7 +13,7 @@ use Rattle.zst_model.specs.pools.Pool.{Pool, IsPool}
 use Rattle.zst_dir.specs.Rows.{Rows}
 use Rattle.zst_dir.specs.Spelling.{dir_bytes}
 use Rattle.zst_tree.specs.Indices.{Blocks}
-use Rattle.zst_image.specs.Reads.{Reads, RowsAre, Rests, bound_of, dir_sectors}
+use Rattle.zst_image.specs.Reads.{Reads, RowsAre, Rests, bound_of, dir_sectors, free_by}
 use Rattle.zst_image.specs.declared.commit_fault.CommitFault.{CommitFault}
 use Rattle.zst_image.specs.declared.commit_fault.CommitFault.TheVariants.{Full, DiskFault, OutOfMemory}
 use Rattle.zst_image.specs.declared.pool_state.PoolState.{PoolState}
@@ -67,3 +69,33 @@ pub record CommitsOver (tight : Bool) (old : DiskState) (old_space : FreeSectors
 pub record Commits (tight : Bool) (start now : DiskState) (uber : Uber) (rows : Rows) (pool next : Pool) (result : Result PoolState CommitFault) : Type 0 where
   pub moments : Leaves start now (λ c. Reads tight pool c ⊎ Reads tight next c)
   pub answer : CommitAnswer (λ kept. Rests tight now kept.body kept.dir next) (Rests tight now uber rows pool) result
+
+-- what is kept of a commit of a directory with these rows, which followed on this body
+pub record CommittedDir (body : Uber) (rows : Rows) (old new : IoState) (kept : PoolState) : Type 0 where
+  pub number : kept.body.number ≡ body.number + 1
+  pub dir : kept.dir ≡ rows
+  -- the blocks that were there still are, over the sectors that the new body leaves free
+  pub blocks : KeepsBlocks old.disk.seen old.space new.disk.seen (free_by kept.body)
+  -- the body ends where the sectors that are left begin, and where all that was free stood behind the end, no later than the directory's sectors reach
+  pub ends : (kept.body.end ≡ new.space.end) × (kept.body.sectors ≡ body.sectors)
+  pub bounded : old.space.free ≡ [] → kept.body.end ≤ old.space.end + dir_sectors (length (dir_bytes rows))
+  pub ready : Ready new.disk kept.body
+
+-- the sectors that a commit of a directory with these rows takes: so many at most, and for one leaf exactly its 16; E24 tells what was free
+pub record TakesForDir (rows : Rows) (old new : FreeSectors) (result : Result PoolState CommitFault) : Type 0 where
+  pub takes : TakesAtMost (dir_sectors (length (dir_bytes rows))) old new
+  pub one_leaf : length (dir_bytes rows) ≤ 8192 → OnOk result (room new + 16 ≡ room old)
+  pub full : (need largest : ℕ) → result ≡ Err (Full need largest) → IsDirFull old new rows need largest
+
+-- what a refused commit leaves: unless the disk failed, free sectors alone were written, the latest body is the one from before, and the next commit can follow on it
+pub record RefusedDir (body : Uber) (old new : IoState) (result : Result PoolState CommitFault) : Type 0 where
+  pub fills : ¬ (result ≡ Err DiskFault) → OnErr result (FillsFree old.disk old.space new.disk new.space)
+  pub refused : IfErr result (Stays (latest new.disk.seen ≡ latest old.disk.seen))
+  pub stays : new.failed ≡ false → OnErr result (Ready new.disk body)
+
+-- what stays of an Io: its disk is as long, it is the same reference, and it counts as failed once it fell
+pub record KeepsDisk (fell : Bool) (old new : IoState) : Type 0 where
+  pub size : new.disk.size ≡ old.disk.size
+  pub failed : new.failed ≡ (old.failed || fell)
+  pub honest : new.disk.honest → old.disk.honest
+  pub same : new.reference ≡ old.reference

@@ -1,6 +1,5 @@
--- The refusals of making and opening a pool and of committing to it, and where the disk's comes.
-use Rattle.std.specs.Prelude.{◌≡◌, ◌≤◌, ℕ, Option, Some, None, Result, Ok, Err}
-use Rattle.zst_outside.specs.Causes.{Rose}
+-- The refusals of making and opening a pool and of committing to it.
+use Rattle.std.specs.Prelude.{Option, Some, None, Result, Ok, Err}
 use Rattle.zst_block.specs.declared.fault.BlockFault.{BlockFault}
 use Rattle.zst_block.specs.declared.fault.BlockFault.TheVariants as blocks
 use Rattle.zst_uber.specs.declared.fault.UberFault.{UberFault}
@@ -51,8 +50,3 @@ stop_of_commit (Ok value) = None
 stop_of_commit (Err (commits.Full need largest)) = Some (blocks.Full need largest)
 stop_of_commit (Err commits.DiskFault) = Some blocks.DiskFault
 stop_of_commit (Err commits.OutOfMemory) = None
-
--- a count of faults never falls, and this fault, the disk's, is answered only where it rose
-pub record HasDiskCause {T F : Type 0} (disk_fault : F) (before now : ℕ) (result : Result T F) : Type 0 where
-  pub later : before ≤ now
-  pub fault : result ≡ Err disk_fault → Rose before now

@@ -1,17 +1,17 @@
 // The commit of a directory: the one commit of an event.
-ghost use Rattle.std.specs.Prelude.{◌≡◌, ◌+◌, ◌<◌, ◌≤◌, ◌^◌, ◌||◌, false, ℕ, Bool, List, [], length, IfOk, IfErr, OnOk, OnErr, Err};
+ghost use Rattle.std.specs.Prelude.{◌≡◌, ◌+◌, ◌<◌, ◌≤◌, ◌^◌, Bool, length, IfOk, OnOk};
 ghost use Rattle.zst_space.specs.FreeSectors.{room};
-ghost use Rattle.zst_block.specs.Blocks.{FillsFree, KeepsBlocks};
+ghost use Rattle.zst_block.specs.Blocks.{FillsFree};
 ghost use Rattle.zst_block.specs.IoStates.{IsHonest, blocks_of, disk_of, io_of};
 ghost use Rattle.zst_block.specs.Ptr.{hole_of};
-ghost use Rattle.zst_block.specs.IoCalls.{TakesAtMost, Works, fails};
-ghost use Rattle.zst_uber.specs.Slots.{latest};
+ghost use Rattle.zst_block.specs.IoCalls.{Works, fails};
+ghost use Rattle.zst_uber.specs.DiskCalls.{HasDiskCause};
 ghost use Rattle.zst_model.specs.pools.Pool.{Pool};
 ghost use Rattle.zst_dir.specs.Rows.{Rows};
 ghost use Rattle.zst_dir.specs.Spelling.{dir_bytes};
 ghost use Rattle.zst_leaves.specs.Leaves.{HasLeaves};
-ghost use Rattle.zst_image.specs.Commits.{Commits, CommitsOver, IsDirFull, NextIs, Ready, Stays};
-ghost use Rattle.zst_image.specs.Faults.{HasDiskCause, stop_of_commit};
+ghost use Rattle.zst_image.specs.Commits.{Commits, CommitsOver, CommittedDir, KeepsDisk, NextIs, Ready, RefusedDir, TakesForDir};
+ghost use Rattle.zst_image.specs.Faults.{stop_of_commit};
 ghost use Rattle.zst_image.specs.Reads.{DirStands, Rests, dir_sectors, free_by};
 
 use crate::commit_fault::CommitFault;
@@ -48,27 +48,11 @@ pub fn commit_dir<D: Disk>(
     // A pool's first commit has none before it.
     ensures over { (tight : Bool) (next : Pool) → IsHonest io.new → NextIs tight (blocks_of io.old) body.now guids dir next
         → CommitsOver tight (disk_of io.old) io.old.space (disk_of io.new) io.new.space next result }
-    ensures number { IfOk result (λ kept. kept.body.number ≡ body.now.number + 1) }
-    ensures dir { IfOk result (λ kept. kept.dir ≡ dir) }
-    // The blocks that were there still are, over the sectors that the new body leaves free.
-    ensures blocks { IfOk result (λ kept. KeepsBlocks (disk_of io.old).seen io.old.space (disk_of io.new).seen (free_by kept.body)) }
-    ensures full { (need largest : ℕ) → result ≡ Err (CommitFault.Full need largest) → IsDirFull io.old.space io.new.space dir need largest }
-    // So many sectors at most are taken, and for a directory of one leaf exactly its 16; the body ends where those that
-    // are left begin.
-    ensures takes { TakesAtMost (dir_sectors (length (dir_bytes dir))) io.old.space io.new.space }
-    ensures one_leaf { length (dir_bytes dir) ≤ 8192 → OnOk result (room io.new.space + 16 ≡ room io.old.space) }
-    ensures ends { IfOk result (λ kept. (kept.body.end ≡ io.new.space.end) × (kept.body.sectors ≡ body.now.sectors)) }
-    ensures bounded { io.old.space.free ≡ [] → IfOk result (λ kept. kept.body.end ≤ io.old.space.end + dir_sectors (length (dir_bytes dir))) }
-    // After a refusal that isn't the disk's free sectors alone were written, and the latest body is the one from before.
-    ensures fills { ¬ (result ≡ Err CommitFault.DiskFault) → OnErr result (FillsFree (disk_of io.old) io.old.space (disk_of io.new) io.new.space) }
-    ensures refused { IfErr result (Stays (latest (disk_of io.new).seen ≡ latest (disk_of io.old).seen)) }
-    ensures ready { IfOk result (λ kept. Ready (disk_of io.new) kept.body) }
-    ensures stays { io.new.failed ≡ false → OnErr result (Ready (disk_of io.new) body.now) }
-    ensures size { (disk_of io.new).size ≡ (disk_of io.old).size }
-    ensures failed { io.new.failed ≡ (io.old.failed || fails (stop_of_commit result)) }
+    ensures made { IfOk result (CommittedDir body.now dir (io_of io.old) (io_of io.new)) }
+    ensures takes { TakesForDir dir io.old.space io.new.space result }
+    ensures refused { RefusedDir body.now (io_of io.old) (io_of io.new) result }
+    ensures disk { KeepsDisk (fails (stop_of_commit result)) (io_of io.old) (io_of io.new) }
     ensures cause { HasDiskCause CommitFault.DiskFault (disk_of io.old).faults (disk_of io.new).faults result }
-    ensures honest { IsHonest io.new → IsHonest io.old }
-    ensures same { io.new.disk.ghost_name ≡ io.old.disk.ghost_name }
 {
     let (tree, length) = write_dir(io, alloc, &dir, body.number + 1)?;
     let next = next_body(body, guids, io.space.end(), &tree, length);

@@ -1,12 +1,12 @@
 // How a pool is made in an image.
 ghost use Rattle.std.specs.Prelude.{◌≡◌, ◌⊎◌, ◌<◌, ◌≤◌, ◌^◌, ℕ, Bool, List, OnOk, IfOk, IfErr, Err};
-ghost use Rattle.zst_outside.specs.Images.{Leaves, OnlyReads};
+ghost use Rattle.zst_outside.specs.Images.{Leaves};
 ghost use Rattle.zst_block.specs.Ptr.{hole_of};
 ghost use Rattle.zst_uber.specs.Commit.{LabelSettled};
+ghost use Rattle.zst_uber.specs.DiskCalls.{HasDiskCause, ReadsOrFails};
 ghost use Rattle.zst_uber.specs.Slots.{latest as latest_of};
 ghost use Rattle.zst_image.specs.Commits.{Ready};
 ghost use Rattle.zst_image.specs.CreateAnswers.{CreateAnswers, IsMade, IsNew, NoneAnswers, RefusedLeaves};
-ghost use Rattle.zst_image.specs.Faults.{HasDiskCause};
 ghost use Rattle.zst_image.specs.Reads.{Reads, Rests, new_pool};
 
 use crate::commit_fault::CommitFault;
@@ -61,8 +61,7 @@ impl PoolState {
 fn find_none<D: Disk>(disk: &mut D) -> Result<(), CreateFault>
     ensures answer { (D.state disk.new).honest → NoneAnswers (latest_of (D.state disk.old).seen) result }
     ensures label { OnOk result (LabelSettled (D.state disk.new)) }
-    ensures reads { OnlyReads (D.state disk.old) (D.state disk.new) }
-    ensures cause { HasDiskCause CreateFault.DiskFault (D.state disk.old).faults (D.state disk.new).faults result }
+    ensures reads { ReadsOrFails CreateFault.DiskFault (D.state disk.old) (D.state disk.new) result }
 {
     match latest(disk) {
         Err(UberFault::NoPool) => Ok(()),

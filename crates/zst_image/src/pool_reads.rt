@@ -1,14 +1,14 @@
 // How the pool of an image is opened.
 ghost use Rattle.std.specs.Prelude.{◌≡◌, ℕ, Bool, List, length, IfOk, IfErr, Err};
-ghost use Rattle.zst_outside.specs.Images.{IsSynced, OnlyReads};
+ghost use Rattle.zst_outside.specs.Images.{IsSynced};
 ghost use Rattle.zst_block.specs.Blocks.{Has};
 ghost use Rattle.zst_uber.specs.Body.{InRange};
+ghost use Rattle.zst_uber.specs.DiskCalls.{ReadsOrFails};
 ghost use Rattle.zst_uber.specs.declared.uber.Uber.{Uber};
 ghost use Rattle.zst_model.specs.pools.Pool.{Pool};
 ghost use Rattle.zst_dir.specs.Rows.{Rows};
 ghost use Rattle.zst_leaves.specs.Leaves.{HasLeaves};
 ghost use Rattle.zst_image.specs.Commits.{Ready};
-ghost use Rattle.zst_image.specs.Faults.{HasDiskCause};
 ghost use Rattle.zst_image.specs.OpenAnswers.{GivesPool, IsOpenFault, LoadFault, OpenAnswers, ReadAnswer, TellsFault};
 ghost use Rattle.zst_image.specs.Reads.{HasDir, ReadsAs, Rests, free_by};
 
@@ -37,8 +37,7 @@ impl PoolState {
         ensures rests { (tight : Bool) (uber : Uber) (rows : Rows) (pool : Pool) → (D.state disk.new).honest → ReadsAs tight uber rows pool (D.state disk.old).seen → IfOk result (λ kept. Rests tight (D.state disk.new) kept.body rows pool) }
         ensures ready { IfOk result (λ kept. Ready (D.state disk.new) kept.body) }
         ensures synced { ¬ (result ≡ Err OpenFault.DiskFault) → IsSynced (D.state disk.new) }
-        ensures reads { OnlyReads (D.state disk.old) (D.state disk.new) }
-        ensures cause { HasDiskCause OpenFault.DiskFault (D.state disk.old).faults (D.state disk.new).faults result }
+        ensures reads { ReadsOrFails OpenFault.DiskFault (D.state disk.old) (D.state disk.new) result }
     {
         let body = latest(disk)?;
         let mut dir = read_dir(alloc, disk, &body)?;
@@ -77,8 +76,7 @@ fn read_dir<D: Disk>(alloc: Global, disk: &mut D, body: &Uber) -> Result<Dir, Op
     ensures only { (D.state disk.new).honest → IfOk result (λ dir. (body.now.free_count ≡ 0) × HasDir (Has (D.state disk.old).seen (free_by body.now)) body.now dir) }
     ensures damaged { (D.state disk.new).honest → IfErr result (TellsFault (D.state disk.old) body.now) }
     ensures fault { IfErr result LoadFault }
-    ensures reads { OnlyReads (D.state disk.old) (D.state disk.new) }
-    ensures cause { HasDiskCause OpenFault.DiskFault (D.state disk.old).faults (D.state disk.new).faults result }
+    ensures reads { ReadsOrFails OpenFault.DiskFault (D.state disk.old) (D.state disk.new) result }
 {
     if body.free_count != 0 {
         return Err(OpenFault::of_layout(&body.dir_root));
@@ -99,8 +97,7 @@ fn read_bytes<D: Disk>(alloc: Global, disk: &mut D, body: &Uber) -> Result<Vec<u
     ensures length { IfOk result (λ bytes. length bytes.items ≡ body.now.dir_bytes) }
     ensures damaged { (D.state disk.new).honest → IfErr result (TellsFault (D.state disk.old) body.now) }
     ensures fault { IfErr result LoadFault }
-    ensures reads { OnlyReads (D.state disk.old) (D.state disk.new) }
-    ensures cause { HasDiskCause OpenFault.DiskFault (D.state disk.old).faults (D.state disk.new).faults result }
+    ensures reads { ReadsOrFails OpenFault.DiskFault (D.state disk.old) (D.state disk.new) result }
 {
     let space = Space::new(body.end, body.sectors, Vec::new(alloc));
     let mut io = Io::new(alloc, disk, space);

@@ -8,13 +8,15 @@ use Rattle.zst_block.specs.Blocks.{KeepsBlocks}
 use Rattle.zst_model.specs.declared.refusals.refusal.Refusal.{Refusal}
 use Rattle.zst_model.specs.pools.KeptPool.{kept_of}
 use Rattle.zst_model.specs.pools.Pool.{Pool}
+use Rattle.zst_block.specs.IoStates.{IoState}
+use Rattle.zst_uber.specs.declared.uber.Uber.{Uber}
 use Rattle.zst_dir.specs.Rows.{Rows}
 use Rattle.zst_pool.specs.Calls.{CallDid, CallFault, CanCommit, IsAtRest, IsUnderWay, keeping}
 use Rattle.zst_pool.specs.Faults.{HasDiskCause, is_disk_fault, is_full, of_committed}
 use Rattle.zst_image.specs.declared.commit_fault.CommitFault.{CommitFault}
 use Rattle.zst_image.specs.declared.commit_fault.CommitFault.TheVariants as commits
 use Rattle.zst_image.specs.Reads.{Reads, free_by}
-use Rattle.zst_image.specs.Commits.{Commits, Ready}
+use Rattle.zst_image.specs.Commits.{Commits, CommittedDir, Ready}
 use Rattle.zst_pool.specs.declared.fault.PoolFault.{PoolFault}
 use Rattle.zst_pool.specs.declared.fault.PoolFault.TheVariants.{Plan, CannotApply, Redacted, Full, Damaged, DiskFault, Failed, OutOfMemory}
 use Rattle.zst_image.specs.declared.pool_state.PoolState.{PoolState}
@@ -62,9 +64,9 @@ module _ (start now : DiskState) (kept : PoolState) (rows : Rows) (running next 
   call_did (Err commits.OutOfMemory) shorter event number rests before = record { moments = moments_of (Err commits.OutOfMemory) event; answer = before (λ disk. cc) }
 
 -- the number that was committed is the next pool's
-pub number_after : (made : Result PoolState CommitFault) (number next : ℕ) → next ≡ number → IfOk made (λ kept. kept.body.number ≡ number + 1) → IfOk made (λ kept. kept.body.number ≡ next + 1)
-number_after (Ok kept) number next same is = is ∙ ap (λ n. n + 1) (sym same)
-number_after (Err fault) number next same is = tt
+pub number_after : (old new : IoState) (body : Uber) (dir : Rows) (made : Result PoolState CommitFault) (next : ℕ) → next ≡ body.number → IfOk made (CommittedDir body dir old new) → IfOk made (λ kept. kept.body.number ≡ next + 1)
+number_after old new body dir (Ok kept) next same is = is.number ∙ ap (λ n. n + 1) (sym same)
+number_after old new body dir (Err fault) next same is = tt
 
 -- what holds of what was committed holds of what the pool then keeps
 pub kept_has : (P : PoolState → Type 0) (kept : PoolState) (answer : Result ℕ PoolFault) (made : Result PoolState PoolFault) → keeping kept answer ≡ made → IfOk made P → OnOk answer (P kept)

@@ -3,7 +3,8 @@ use Rattle.std.specs.Prelude.{Result, Ok, Err, IfOk, OnErr}
 use Rattle.std.proofs.Common.{◌≡◌, ◌⊎◌, inl, inr, ⊎_elim, ℕ, ◌<◌, ◌^◌, Bool}
 use Rattle.zst_outside.specs.Images.{DiskState, Leaves, Leaves-weaker}
 use Rattle.zst_space.specs.FreeSectors.{FreeSectors}
-use Rattle.zst_block.specs.Blocks.{FillsFree, Has, KeepsBlocks}
+use Rattle.zst_block.specs.Blocks.{Has}
+use Rattle.zst_block.specs.IoStates.{IoState}
 use Rattle.zst_model.specs.declared.refusals.refusal.Refusal.{Refusal}
 use Rattle.zst_model.specs.pools.KeptPool.{kept_of}
 use Rattle.zst_model.specs.pools.Pool.{Pool}
@@ -15,9 +16,9 @@ use Rattle.zst_pool.specs.Calls.{IsAtRest, IsUnderWay}
 use Rattle.zst_pool.specs.Checks.{next_of}
 use Rattle.zst_pool.specs.Faults.{StepFault, of_committed}
 use Rattle.zst_pool.specs.RowChanges.{MakesRows}
-use Rattle.zst_image.specs.Reads.{Reads, free_by}
+use Rattle.zst_image.specs.Reads.{Reads}
 use Rattle.zst_pool.specs.StepAnswers.{BeforeOrAfter}
-use Rattle.zst_image.specs.Commits.{Commits, NextIs}
+use Rattle.zst_image.specs.Commits.{Commits, CommittedDir, NextIs, RefusedDir}
 use Rattle.zst_pool.specs.CommandRuns.{Did}
 use Rattle.zst_pool.specs.declared.fault.PoolFault.{PoolFault}
 use Rattle.zst_pool.specs.declared.fault.PoolFault.TheVariants.{Plan, CannotApply, Redacted, Full, Damaged, DiskFault, Failed, OutOfMemory}
@@ -58,16 +59,16 @@ module _ (start now : DiskState) (kept : PoolState) (rows : Rows) (running : Poo
   did (Err commits.OutOfMemory) event after before = record { moments = moments_of (Err commits.OutOfMemory) event; answer = before (λ disk. cc) }
 
 -- a command that came to the commit of the rows that its definition makes
-pub did_rows : {tight : Bool} (start old new : DiskState) (space less : FreeSectors) (kept : PoolState) (running : Pool) (definition : Result Stepped Refusal) (guids : ℕ) (dir : Rows) (made : Result PoolState CommitFault)
-    → (way : IsUnderWay tight start old space kept running) → MakesRows tight (Has old.seen space) definition running guids dir → IsLawful dir → kept.body.number < 2 ^ 63
-    → ((next : Pool) → NextIs tight (Has old.seen space) kept.body guids dir next → Commits tight start new kept.body way.rested.rows (kept_of running) next made)
-    → IfOk made (λ after. after.dir ≡ dir) → IfOk made (λ after. KeepsBlocks old.seen space new.seen (free_by after.body)) → (¬ (made ≡ Err commits.DiskFault) → OnErr made (FillsFree old space new less))
-    → Did tight start new kept running definition (of_committed made)
-did_rows start old new space less kept running definition guids dir made way makes lawful below commit same blocks fills =
-    let runs = way_runs start old space kept running way in
+pub did_rows : {tight : Bool} (start : DiskState) (old new : IoState) (kept : PoolState) (running : Pool) (definition : Result Stepped Refusal) (guids : ℕ) (dir : Rows) (made : Result PoolState CommitFault)
+    → (way : IsUnderWay tight start old.disk old.space kept running) → MakesRows tight (Has old.disk.seen old.space) definition running guids dir → IsLawful dir → kept.body.number < 2 ^ 63
+    → ((next : Pool) → NextIs tight (Has old.disk.seen old.space) kept.body guids dir next → Commits tight start new.disk kept.body way.rested.rows (kept_of running) next made)
+    → IfOk made (CommittedDir kept.body dir old new) → RefusedDir kept.body old new made → Did tight start new.disk kept running definition (of_committed made)
+did_rows start old new kept running definition guids dir made way makes lawful below commit done refused =
+    let has = Has old.disk.seen old.space in
+    let runs = way_runs start old.disk old.space kept running way in
     let next = makes.next in
-    let is = kept_is_next (Has old.seen space) kept running next guids dir lawful runs makes.id makes.number makes.guid_counter makes.few below makes.runs_by in
-    let after = next_lawful (Has old.seen space) kept running next guids dir lawful runs makes.id makes.number makes.guid_counter makes.few below makes.runs_by in
+    let is = kept_is_next has kept running next guids dir lawful runs makes.id makes.number makes.guid_counter makes.few below makes.runs_by in
+    let after = next_lawful has kept running next guids dir lawful runs makes.id makes.number makes.guid_counter makes.few below makes.runs_by in
     let committed = commit (kept_of (next_of next).pool) is in
-    did start new kept way.rested.rows running definition (next_of next) makes.made made committed
-    (rests_next start old new space kept way.rested.rows dir running next made committed makes.number makes.runs_by after same blocks) (rests_unless start old new space less kept running made way fills)
+    did start new.disk kept way.rested.rows running definition (next_of next) makes.made made committed
+    (rests_next start old new kept way.rested.rows dir running next made committed makes.number makes.runs_by after done) (rests_unless start old.disk new.disk old.space new.space kept running made way refused.fills)

@@ -1,11 +1,11 @@
 -- What a command does, from what its parts do.
 use Rattle.std.specs.Prelude.{Option, None, Result, Ok, Err, IfErr, IfOk, OnErr}
 use Rattle.std.proofs.Common.{◌≡◌, ℕ, ◌+◌, ◌≤◌, ◌^◌, Bool, false, ◌||◌, List, length, refl, sym, ap, ◌∙◌, subst, arith}
+use Rattle.std.proofs.lemmas.Result.{IfOk-weaker}
 use Rattle.zst_outside.specs.Causes.{Rose-earlier}
 use Rattle.zst_space.specs.FreeSectors.{FreeSectors}
 use Rattle.zst_block.specs.Blocks.{Has, FillsFree, SparesTaken}
 use Rattle.zst_block.specs.IoCalls as blocks
-use Rattle.zst_block.specs.IoCalls.{TakesAtMost}
 use Rattle.zst_block.specs.IoStates.{IoState}
 use Rattle.zst_block.specs.declared.fault.BlockFault.{BlockFault}
 use Rattle.zst_block.proofs.BlocksLaws.{FillsFree-then}
@@ -33,15 +33,14 @@ use Rattle.zst_pool.proofs.HeadAnswers.{memory_stops, plan_stops}
 use Rattle.zst_pool.specs.Faults.{StepFault, is_disk_fault, of_committed}
 use Rattle.zst_pool.specs.Heads.{ChangedHead, ChangesHead, Stops, Works, rested, stop_of}
 use Rattle.zst_dir.specs.RowNames.{AreNamed}
-use Rattle.zst_image.specs.Reads.{DatasetIs, RunsBy, SetIs, bound_of, dir_sectors, free_by}
-use Rattle.zst_image.specs.Commits.{IsDirFull}
+use Rattle.zst_image.specs.Reads.{DatasetIs, RunsBy, SetIs, bound_of, free_by}
 use Rattle.zst_pool.specs.CommandRuns.{Did, Ran, Runs, as_kept}
-use Rattle.zst_image.specs.Commits.{Ready}
+use Rattle.zst_image.specs.Commits.{CommittedDir, KeepsDisk, Ready, RefusedDir, TakesForDir}
 use Rattle.zst_pool.specs.declared.fault.PoolFault.{PoolFault}
 use Rattle.zst_pool.specs.declared.fault.PoolFault.TheVariants.{Damaged, DiskFault, OutOfMemory, Plan}
 use Rattle.zst_pool.specs.declared.head_fault.HeadFault.{HeadFault}
-use Rattle.zst_image.specs.Faults as images
 use Rattle.zst_image.specs.Faults.{stop_of_commit}
+use Rattle.zst_uber.specs.DiskCalls.{HasDiskCause}
 use Rattle.zst_image.specs.declared.commit_fault.CommitFault.{CommitFault}
 use Rattle.zst_image.specs.declared.commit_fault.CommitFault.TheVariants as commits
 use Rattle.zst_image.specs.declared.pool_state.PoolState.{PoolState}
@@ -76,11 +75,13 @@ module _ (definition : Pool → Result Stepped Refusal) (cost : Cost) (kept : Po
         commits = record {
           ready = tt;
           stays = λ standing. ready;
-          size = works.fills.size;
-          failed = works.failed ∙ ap (λ (b : Bool). old.failed || b) (stops.fails ∙ disk_fault_same (Unit {0}) PoolState fault);
+          disk = record {
+            size = works.fills.size;
+            failed = works.failed ∙ ap (λ (b : Bool). old.failed || b) (stops.fails ∙ disk_fault_same (Unit {0}) PoolState fault);
+            honest = works.fills.honest;
+            same = works.same;
+          };
           cause = record { later = works.cause.later; fault = λ is. works.cause.fault (stops.disk (cc)) };
-          honest = works.fills.honest;
-          same = works.same;
         };
       } in
       subst (Ran definition cost kept old new) (sym same) fell_so
@@ -90,13 +91,9 @@ module _ (definition : Pool → Result Stepped Refusal) (cost : Cost) (kept : Po
       → Ready mid.disk kept.body → Wrote kept cost old mid None
       → ((tight : Bool) (running : Pool) → new.disk.honest → IsAtRest tight old.disk kept running → Did tight old.disk new.disk kept running (definition running) (of_committed made))
       → length (dir_bytes dir) ≤ length (dir_bytes kept.dir) + 1024
-      → ((need largest : ℕ) → made ≡ Err (commits.Full need largest) → IsDirFull mid.space new.space dir need largest)
-      → TakesAtMost (dir_sectors (length (dir_bytes dir))) mid.space new.space → IfOk made (λ next. (next.body.end ≡ new.space.end) × (next.body.sectors ≡ kept.body.sectors))
-      → (¬ (made ≡ Err commits.DiskFault) → OnErr made (FillsFree mid.disk mid.space new.disk new.space))
-      → IfOk made (λ kept. Ready new.disk kept.body) → (new.failed ≡ false → OnErr made (Ready new.disk kept.body))
-      → new.disk.size ≡ mid.disk.size → new.failed ≡ (mid.failed || blocks.fails (stop_of_commit made)) → images.HasDiskCause commits.DiskFault mid.disk.faults new.disk.faults made
-      → (new.disk.honest → mid.disk.honest) → new.reference ≡ mid.reference → Ran definition cost kept old new answer
-  runs_committed old mid new dir made is old_ready wrote did grows full takes ends fills ready stays size failed cause falls same =
+      → IfOk made (CommittedDir kept.body dir mid new) → TakesForDir dir mid.space new.space made → RefusedDir kept.body mid new made → KeepsDisk (blocks.fails (stop_of_commit made)) mid new
+      → HasDiskCause commits.DiskFault mid.disk.faults new.disk.faults made → Ran definition cost kept old new answer
+  runs_committed old mid new dir made is old_ready wrote did grows done takes refused keeps cause =
       let one = wrote.0 in
       let works = one.2 in
       let answer = of_committed made in
@@ -104,29 +101,30 @@ module _ (definition : Pool → Result Stepped Refusal) (cost : Cost) (kept : Po
       let runs : Ran definition cost kept old new answer = record {
         did = did;
         open_still = committed_open made;
-        spends = (one.0, one.1, spends made full ends fills ready one.0 works);
-        exact = λ running told rests. spends made full ends fills ready (cost.block running) (wrote.1 running (falls told) rests);
-        spares = λ apart. spares made works.fills fills apart;
+        spends = (one.0, one.1, spends made done takes refused one.0 works);
+        exact = λ running told rests. spends made done takes refused (cost.block running) (wrote.1 running (keeps.honest told) rests);
+        spares = λ apart. spares made works.fills refused apart;
         commits = record {
-          ready = committed_ok (λ kept. Ready new.disk kept.body) made ready;
-          stays = λ standing. committed_err (Ready new.disk kept.body) made (stays standing);
-          size = size ∙ works.fills.size;
-          failed = failed_then old.failed mid.failed new.failed (is_disk_fault answer) works.failed (failed ∙ ap (λ (b : Bool). mid.failed || b) (committed_fails made));
+          ready = committed_ok (λ next. Ready new.disk next.body) made (IfOk-weaker made (CommittedDir kept.body dir mid new) (λ next. Ready new.disk next.body) (λ next is. is.ready) done);
+          stays = λ standing. committed_err (Ready new.disk kept.body) made (refused.stays standing);
+          disk = record {
+            size = keeps.size ∙ works.fills.size;
+            failed = failed_then old.failed mid.failed new.failed (is_disk_fault answer) works.failed (keeps.failed ∙ ap (λ (b : Bool). mid.failed || b) (committed_fails made));
+            honest = λ told. works.fills.honest (keeps.honest told);
+            same = keeps.same ∙ works.same;
+          };
           cause = record { later = omega (arith, works.cause.later, disk.later); fault = λ is. Rose-earlier old.disk.faults mid.disk.faults new.disk.faults works.cause.later (disk.fault is) };
-          honest = λ told. works.fills.honest (falls told);
-          same = same ∙ works.same;
         };
       } in
       subst (Ran definition cost kept old new) (sym is) runs
     where
-      spends : (r : Result PoolState CommitFault) → ((need largest : ℕ) → r ≡ Err (commits.Full need largest) → IsDirFull mid.space new.space dir need largest)
-          → IfOk r (λ next. (next.body.end ≡ new.space.end) × (next.body.sectors ≡ kept.body.sectors)) → (¬ (r ≡ Err commits.DiskFault) → OnErr r (FillsFree mid.disk mid.space new.disk new.space)) → IfOk r (λ kept. Ready new.disk kept.body)
+      spends : (r : Result PoolState CommitFault) → IfOk r (CommittedDir kept.body dir mid new) → TakesForDir dir mid.space new.space r → RefusedDir kept.body mid new r
           → (block : ℕ) → Works cost.cells block (rested old.disk old.failed old.reference kept) mid None → Spends cost.cells block kept new.space as_kept (of_committed r)
-      spends (Ok next) full ends fills ready block works =
-          record { full = tt; grows = spends_grows kept cost.cells block dir works takes grows next old_ready.in_range.end.1 ready.in_range.end.1 ends.0 ends.1 }
-      spends (Err (commits.Full need largest)) full ends fills ready block works =
+      spends (Ok next) done takes refused block works =
+          record { full = tt; grows = spends_grows kept cost.cells block dir works takes.takes grows next old_ready.in_range.end.1 done.ready.in_range.end.1 done.ends.0 done.ends.1 }
+      spends (Err (commits.Full need largest)) done takes refused block works =
           let apart : ¬ (◌≡◌ {A = Result PoolState CommitFault} (Err (commits.Full need largest)) (Err commits.DiskFault)) = λ is. cc in
-          let told = spends_full kept cost.cells block dir works takes grows need largest (fills apart) (full need largest refl) in
+          let told = spends_full kept cost.cells block dir works takes.takes grows need largest (refused.fills apart) (takes.full need largest refl) in
           record {
             full = λ n l same.
                 let needed : need ≡ n = cc in
@@ -134,15 +132,15 @@ module _ (definition : Pool → Result Stepped Refusal) (cost : Cost) (kept : Po
                 subst (λ (m : ℕ). HasNoRoom cost.cells block kept.body kept.dir new.space m l) needed (subst (λ (m : ℕ). HasNoRoom cost.cells block kept.body kept.dir new.space need m) left told);
             grows = tt;
           }
-      spends (Err commits.DiskFault) full ends fills ready block works = record { full = λ n l same. absurd (cc); grows = tt }
-      spends (Err commits.OutOfMemory) full ends fills ready block works = record { full = λ n l same. absurd (cc); grows = tt }
+      spends (Err commits.DiskFault) done takes refused block works = record { full = λ n l same. absurd (cc); grows = tt }
+      spends (Err commits.OutOfMemory) done takes refused block works = record { full = λ n l same. absurd (cc); grows = tt }
 
-      spares : (r : Result PoolState CommitFault) → FillsFree old.disk (free_by kept.body) mid.disk mid.space → (¬ (r ≡ Err commits.DiskFault) → OnErr r (FillsFree mid.disk mid.space new.disk new.space)) → ¬ (of_committed r ≡ Err DiskFault)
+      spares : (r : Result PoolState CommitFault) → FillsFree old.disk (free_by kept.body) mid.disk mid.space → RefusedDir kept.body mid new r → ¬ (of_committed r ≡ Err DiskFault)
           → OnErr (of_committed r) (SparesTaken (free_by kept.body) old.disk.seen new.disk.seen)
       spares (Ok next) first second apart = tt
-      spares (Err (commits.Full need largest)) first second apart = let both = FillsFree-then old.disk mid.disk new.disk (free_by kept.body) mid.space new.space first (second (λ is. cc)) in both.seen
+      spares (Err (commits.Full need largest)) first second apart = let both = FillsFree-then old.disk mid.disk new.disk (free_by kept.body) mid.space new.space first (second.fills (λ is. cc)) in both.seen
       spares (Err commits.DiskFault) first second apart = absurd (apart refl)
-      spares (Err commits.OutOfMemory) first second apart = let both = FillsFree-then old.disk mid.disk new.disk (free_by kept.body) mid.space new.space first (second (λ is. cc)) in both.seen
+      spares (Err commits.OutOfMemory) first second apart = let both = FillsFree-then old.disk mid.disk new.disk (free_by kept.body) mid.space new.space first (second.fills (λ is. cc)) in both.seen
 
 -- before its first part a command wrote nothing
 pub idle_wrote : (kept : PoolState) (cost : Cost) (io : IoState) (stop : Option BlockFault) → stop ≡ None → io.space ≡ free_by kept.body → Wrote kept cost io io stop

@@ -1,15 +1,15 @@
 -- What a commit answers, as a command's answer.
 use Rattle.std.specs.Prelude.{Result, Ok, Err, IfErr, IfOk, OnErr}
-use Rattle.std.proofs.Common.{◌≡◌, ℕ, ◌+◌, ◌<◌, ◌≤◌, ◌^◌, Bool, false, true, ◌||◌, List, [], length, refl, sym, ap, subst, ◌∙◌, arith}
+use Rattle.std.proofs.Common.{◌≡◌, ℕ, ◌+◌, ◌<◌, ◌≤◌, ◌^◌, Bool, false, true, ◌||◌, List, length, refl, sym, ap, subst, ◌∙◌, arith}
+use Rattle.std.proofs.lemmas.Result.{IfOk-weaker}
 use Rattle.zst_space.specs.FreeSectors.{FreeSectors}
 use Rattle.zst_block.specs.IoCalls as blocks
 use Rattle.zst_block.specs.IoStates.{IoState}
 use Rattle.zst_dir.specs.Rows.{Rows}
 use Rattle.zst_dir.specs.Spelling.{dir_bytes}
-use Rattle.zst_image.specs.Commits.{Ready}
-use Rattle.zst_image.specs.Reads.{dir_sectors}
+use Rattle.zst_image.specs.Commits.{CommittedDir, KeepsDisk, Ready, RefusedDir}
 use Rattle.zst_image.specs.Faults.{stop_of_commit}
-use Rattle.zst_image.specs.Faults as images
+use Rattle.zst_uber.specs.DiskCalls as calls
 use Rattle.zst_image.specs.declared.commit_fault.CommitFault.{CommitFault}
 use Rattle.zst_image.specs.declared.commit_fault.CommitFault.TheVariants.{Full, DiskFault, OutOfMemory}
 use Rattle.zst_image.specs.declared.pool_state.PoolState.{PoolState}
@@ -43,7 +43,7 @@ committed_fails (Err (Full need largest)) = refl
 committed_fails (Err DiskFault) = refl
 committed_fails (Err OutOfMemory) = refl
 
-pub committed_cause : (before now : ℕ) (made : Result PoolState CommitFault) → images.HasDiskCause DiskFault before now made → HasDiskCause before now (of_committed made)
+pub committed_cause : (before now : ℕ) (made : Result PoolState CommitFault) → calls.HasDiskCause DiskFault before now made → HasDiskCause before now (of_committed made)
 committed_cause before now (Ok kept) cause = record { later = cause.later; fault = λ is. absurd (cc (is)) }
 committed_cause before now (Err (Full need largest)) cause = record { later = cause.later; fault = λ is. absurd (cc (is)) }
 committed_cause before now (Err DiskFault) cause = record { later = cause.later; fault = λ is. cause.fault refl }
@@ -84,32 +84,23 @@ module _ (made : Result PoolState CommitFault) (answer : Result PoolState PoolFa
   pub answers_fails : (before : Bool) {now : Bool} → now ≡ (before || blocks.fails (stop_of_commit made)) → now ≡ (before || is_disk_fault answer)
   answers_fails before fell = fell ∙ ap (λ b. before || b) (committed_fails made ∙ ap is_disk_fault (sym is))
 
-  pub answers_cause : (before now : ℕ) → images.HasDiskCause DiskFault before now made → HasDiskCause before now answer
+  pub answers_cause : (before now : ℕ) → calls.HasDiskCause DiskFault before now made → HasDiskCause before now answer
   answers_cause before now cause = subst (HasDiskCause before now) (sym is) (committed_cause before now made cause)
 
   -- it ends as the commit does
-  pub answers_ends : (kept : PoolState) (old new : IoState) → IfOk made (λ next. Ready new.disk next.body) → (new.failed ≡ false → OnErr made (Ready new.disk kept.body)) → new.disk.size ≡ old.disk.size
-      → new.failed ≡ (old.failed || blocks.fails (stop_of_commit made)) → images.HasDiskCause DiskFault old.disk.faults new.disk.faults made → (new.disk.honest → old.disk.honest) → new.reference ≡ old.reference
-      → EndsCommit kept old new answer
-  answers_ends kept old new ready stays size failed cause honest same = record {
-    ready = answers_ok (λ next. Ready new.disk next.body) ready;
-    stays = λ works. answers_err (Ready new.disk kept.body) (stays works);
-    size = size;
-    failed = answers_fails old.failed failed;
+  pub answers_ends : (kept : PoolState) (dir : Rows) (old new : IoState) → IfOk made (CommittedDir kept.body dir old new) → RefusedDir kept.body old new made → KeepsDisk (blocks.fails (stop_of_commit made)) old new
+      → calls.HasDiskCause DiskFault old.disk.faults new.disk.faults made → EndsCommit kept old new answer
+  answers_ends kept dir old new done refused disk cause = record {
+    ready = answers_ok (λ next. Ready new.disk next.body) (IfOk-weaker made (CommittedDir kept.body dir old new) (λ next. Ready new.disk next.body) (λ next is. is.ready) done);
+    stays = λ works. answers_err (Ready new.disk kept.body) (refused.stays works);
+    disk = record { size = disk.size; failed = answers_fails old.failed disk.failed; honest = disk.honest; same = disk.same };
     cause = answers_cause old.disk.faults new.disk.faults cause;
-    honest = honest;
-    same = same;
   }
 
   -- and what is kept then follows by the directory that was committed
-  pub answers_follows : (space : FreeSectors) (kept : PoolState) (dir : Rows) (last : ℕ) → kept.body.number < 2 ^ 63 → IfOk made (λ next. next.dir ≡ dir) → IfOk made (λ next. (next.body.end ≡ last) × (next.body.sectors ≡ kept.body.sectors))
-      → (space.free ≡ [] → IfOk made (λ next. next.body.end ≤ space.end + dir_sectors (length (dir_bytes dir)))) → IfOk answer (FollowsBy space kept dir)
-  answers_follows space kept dir last below same ends bounded = answers_ok (FollowsBy space kept dir) (by_commit made same ends bounded)
-    where
-      by_commit : (r : Result PoolState CommitFault) → IfOk r (λ next. next.dir ≡ dir) → IfOk r (λ next. (next.body.end ≡ last) × (next.body.sectors ≡ kept.body.sectors))
-          → (space.free ≡ [] → IfOk r (λ next. next.body.end ≤ space.end + dir_sectors (length (dir_bytes dir)))) → IfOk r (FollowsBy space kept dir)
-      by_commit (Ok next) is at most = record { rows = is; below = below; sectors = at.1; ends = most }
-      by_commit (Err fault) is at most = tt
+  pub answers_follows : (kept : PoolState) (dir : Rows) (old new : IoState) → kept.body.number < 2 ^ 63 → IfOk made (CommittedDir kept.body dir old new) → IfOk answer (FollowsBy old.space kept dir)
+  answers_follows kept dir old new below done = answers_ok (FollowsBy old.space kept dir)
+      (IfOk-weaker made (CommittedDir kept.body dir old new) (FollowsBy old.space kept dir) (λ next is. record { rows = is.dir; below = below; sectors = is.ends.1; ends = is.bounded }) done)
 
 pub disk_told : false ≡ true → ⊥
 disk_told same = cc
@@ -119,11 +110,8 @@ pub ends_idle : (kept : PoolState) (io : IoState) (fault : PoolFault) (answer : 
 ends_idle kept io fault answer fell apart ready = record {
   ready = subst (λ (r : Result PoolState PoolFault). IfOk r (λ next. Ready io.disk next.body)) (sym fell) tt;
   stays = λ works. subst (λ (r : Result PoolState PoolFault). OnErr r (Ready io.disk kept.body)) (sym fell) ready;
-  size = refl;
-  failed = or_false io.failed ∙ ap (λ b. io.failed || b) (sym never);
+  disk = record { size = refl; failed = or_false io.failed ∙ ap (λ b. io.failed || b) (sym never); honest = λ told. told; same = refl };
   cause = record { later = omega arith; fault = λ disk. absurd (disk_told (sym never ∙ ap is_disk_fault disk)) };
-  honest = λ told. told;
-  same = refl;
 }
   where
     never : is_disk_fault answer ≡ false

@@ -1,12 +1,11 @@
 -- How an event of a pool ends, from what its commit did and what the pool then kept.
-use Rattle.std.specs.Prelude.{Result, Ok, Err, IfErr, IfOk, OnErr}
-use Rattle.std.proofs.Common.{◌≡◌, ℕ, ◌+◌, List, [], Bool, false, true, ◌||◌, refl, sym, ap, ◌∙◌, subst, arith}
+use Rattle.std.specs.Prelude.{Result, Ok, Err, IfOk, OnErr}
+use Rattle.std.proofs.Common.{◌≡◌, ℕ, List, [], Bool, false, true, ◌||◌, refl, sym, ap, ◌∙◌, subst, arith}
 use Rattle.zst_outside.specs.Images.{Leaves-none, OnlyReads-none}
 use Rattle.zst_outside.specs.declared.disk.Disk.{Ghosts}
 use Rattle.zst_space.specs.FreeSectors.{FreeSectors}
-use Rattle.zst_block.specs.Blocks.{KeepsBlocks}
 use Rattle.zst_block.specs.IoCalls.{Looks}
-use Rattle.zst_block.specs.IoStates.{IoState, blocks_of, disk_of, io_of}
+use Rattle.zst_block.specs.IoStates.{IoState, disk_of, io_of}
 use Rattle.zst_block.specs.declared.io.Io.{Io}
 use Rattle.zst_model.specs.declared.pools.command.Command.{Command}
 use Rattle.zst_model.specs.declared.refusals.refusal.Refusal.{Refusal}
@@ -16,19 +15,19 @@ use Rattle.zst_objset.specs.Damage.{DamageFact}
 use Rattle.zst_dir.specs.Rows.{Rows}
 use Rattle.zst_dir.specs.declared.rows.Partial.{Partial}
 use Rattle.zst_image.specs.Commits.{Ready}
-use Rattle.zst_image.specs.Reads.{PartialIs, bound_of, free_by}
+use Rattle.zst_image.specs.Reads.{free_by}
 use Rattle.zst_image.specs.declared.pool_state.PoolState.{PoolState}
-use Rattle.zst_pool.specs.Calls.{CallDid, CallGrows, IsCallFault, IsCallFull, IsUnderWay, keeping}
+use Rattle.zst_pool.specs.Calls.{CallDid, CallGrows, IsCallFault, IsCallFull, keeping}
 use Rattle.zst_pool.specs.CommandRuns.{Runs}
 use Rattle.zst_pool.specs.Cost.{Cost}
-use Rattle.zst_pool.specs.Events.{EndsCommit, LooksUp, PutsPartial, SameDisk, Settles, StepDid}
+use Rattle.zst_pool.specs.Events.{CommitsPartial, EndsCommit, LooksUp, PutsPartial, SameDisk, Settles, StepDid}
 use Rattle.zst_pool.specs.Faults.{is_disk_fault, is_full}
 use Rattle.zst_pool.specs.Queries.{stop_of}
 use Rattle.zst_pool.specs.StepAnswers.{BeforeOrAfter}
 use Rattle.zst_pool.specs.declared.fault.PoolFault.{PoolFault}
-use Rattle.zst_pool.specs.declared.fault.PoolFault.TheVariants.{DiskFault, Failed, Full}
+use Rattle.zst_pool.specs.declared.fault.PoolFault.TheVariants.{DiskFault, Failed, OutOfMemory, Full}
 use Rattle.zst_pool.specs.declared.pool.Pool.{Pool}
-use Rattle.zst_pool.proofs.CallLemmas.{blocks_last, can_still, cause_told, fault_has, fault_made, free_again, kept_has, ready_still, tells_disk}
+use Rattle.zst_pool.proofs.CallLemmas.{blocks_last, call_fell, can_still, cause_told, fault_has, fault_made, free_again, kept_has, ready_still, tells_disk}
 use Rattle.zst_pool.proofs.CommitAnswers.{disk_told}
 use Rattle.zst_pool.proofs.CommandParts.{disk_fault_same, or_false}
 use Rattle.zst_pool.proofs.PoolsAtRest.{commit_next_of}
@@ -79,33 +78,41 @@ module _ {D : Type 0} {g : Ghosts D} where
           space = free_again new.kept answer made kept old.io.failed new.io.space free;
           works = can_still new.kept answer made kept (disk_of new.io) new.io.space new.io.failed free ready;
           ready = ready;
-          failed = disk.failed ∙ ends.failed ∙ ap (λ fell. old.io.failed || fell) (tells_disk new.kept answer made kept);
+          failed = disk.failed ∙ ends.disk.failed ∙ ap (λ fell. old.io.failed || fell) (tells_disk new.kept answer made kept);
           cause = cause_told new.kept answer made kept (disk_of old.io).faults (disk_of mid).faults (disk_of new.io).faults (ap (λ (d : D). (g.state d).faults) disk.now) ends.cause;
-          honest = λ told. ends.honest (subst (λ (d : D). (g.state d).honest) disk.now told);
-          same = disk.same ∙ ends.same;
+          honest = λ told. ends.disk.honest (subst (λ (d : D). (g.state d).honest) disk.now told);
+          same = disk.same ∙ ends.disk.same;
         }
 
     -- and what a partial state's commit did, the call that keeps it did
-    pub puts_committed : (definition : PlainPartial → Plain → Result Plain Refusal) (partial : Partial) (dir : Rows)
-        → ((tight : Bool) (start : D) (running : Plain) (plain : PlainPartial) → (disk_of mid).honest → IsUnderWay tight (g.state start) (disk_of old.io) old.io.space old.kept running
-        → PartialIs (bound_of tight (running.number + 1)) (blocks_of old.io) partial plain → CallDid tight (g.state start) (disk_of mid) old.kept running (definition plain running) made)
-        → IfOk made (λ next. next.dir ≡ dir) → IfErr made IsCallFault → ((need largest : ℕ) → made ≡ Err (Full need largest) → IsCallFull old.io.space mid.space old.kept.dir need largest)
-        → IfOk made (CallGrows old.io.space old.kept) → IfOk made (λ next. KeepsBlocks (disk_of old.io).seen old.io.space (disk_of mid).seen (free_by next.body))
+    pub puts_committed : (definition : PlainPartial → Plain → Result Plain Refusal) (partial : Partial) (dir : Rows) → CommitsPartial definition partial dir old.kept old.io mid made
         → IfOk answer (λ number. number ≡ new.kept.body.number) → (is_full made ≡ true → new.io.space ≡ mid.space) → PutsPartial definition partial dir old new answer
-    puts_committed definition partial dir did rows known full grows blocks number left = record {
+    puts_committed definition partial dir puts number left = record {
       did = λ tight start running plain told standing way is.
           let honest = subst (λ (d : D). (g.state d).honest) disk.now told in
           subst (λ (d : D). CallDid tight (g.state start) (g.state d) old.kept running (definition plain running) (keeping new.kept answer)) (sym disk.now)
-          (subst (CallDid tight (g.state start) (disk_of mid) old.kept running (definition plain running)) (sym kept) (did tight start running plain honest way is));
-      rows = kept_has (λ next. next.dir ≡ dir) new.kept answer made kept rows;
+          (subst (CallDid tight (g.state start) (disk_of mid) old.kept running (definition plain running)) (sym kept) (puts.did tight start running plain honest way is));
+      rows = kept_has (λ next. next.dir ≡ dir) new.kept answer made kept puts.rows;
       number = number;
-      known = λ standing. fault_has new.kept answer made kept IsCallFault known;
+      known = λ standing. fault_has new.kept answer made kept IsCallFault puts.known;
       full = λ need largest fell.
           let same = fault_made new.kept answer made kept (Full need largest) fell in
-          subst (λ (less : FreeSectors). IsCallFull old.io.space less old.kept.dir need largest) (sym (left (ap is_full same))) (full need largest same);
-      grows = kept_has (CallGrows old.io.space old.kept) new.kept answer made kept grows;
-      blocks = blocks_last (disk_of old.io).seen (disk_of mid).seen (disk_of new.io).seen old.io.space new.io.space new.kept answer made kept blocks free (ap (λ (d : D). (g.state d).seen) disk.now);
+          subst (λ (less : FreeSectors). IsCallFull old.io.space less old.kept.dir need largest) (sym (left (ap is_full same))) (puts.full need largest same);
+      grows = kept_has (CallGrows old.io.space old.kept) new.kept answer made kept puts.grows;
+      blocks = blocks_last (disk_of old.io).seen (disk_of mid).seen (disk_of new.io).seen old.io.space new.io.space new.kept answer made kept puts.blocks free (ap (λ (d : D). (g.state d).seen) disk.now);
     }
+
+  -- without memory nothing of a partial state was committed
+  pub puts_starved : (definition : PlainPartial → Plain → Result Plain Refusal) (partial : Partial) (dir : Rows) (kept : PoolState) (io : Io D g) (result : Result PoolState PoolFault) → result ≡ Err OutOfMemory
+      → CommitsPartial definition partial dir kept io io result
+  puts_starved definition partial dir kept io result fell = subst (CommitsPartial definition partial dir kept io io) (sym fell) (record {
+    did = λ tight start running plain told way is. call_fell (g.state start) (disk_of io) io.space kept running (definition plain running) OutOfMemory way tt;
+    rows = tt;
+    known = tt;
+    full = λ need largest is. absurd (cc (is));
+    grows = tt;
+    blocks = tt;
+  })
 
   -- what was run stands over the disk that the pool then has, as what it kept
   pub runs_settled : {definition : Plain → Result Stepped Refusal} {cost : Cost} {damage : DamageFact} {kept : PoolState} {old : IoState} (mid new : Io D g) (made answer : Result PoolState PoolFault) → SameDisk mid new → answer ≡ made

@@ -5,7 +5,8 @@ use Rattle.std.specs.List.{All}
 use Rattle.std.proofs.lemmas.List.Elements.{All-head, All-tail}
 use Rattle.zst_outside.specs.Images.{DiskState, Leaves, Leaves-weaker, OnlyReads-none}
 use Rattle.zst_space.specs.FreeSectors.{FreeSectors}
-use Rattle.zst_block.specs.Blocks.{FillsFree, FitsDisk, Has, IsTaken, KeepsBlocks, Spared}
+use Rattle.zst_block.specs.Blocks.{FillsFree, FitsDisk, Has, IsTaken, Spared}
+use Rattle.zst_block.specs.IoStates.{IoState}
 use Rattle.zst_block.proofs.BlocksLaws.{FillsFree-reads, FillsFree-then, Has-spared, IsTaken-label, KeepsBlocks-fills}
 use Rattle.zst_uber.specs.Body.{InRange}
 use Rattle.zst_uber.specs.declared.uber.Uber.{Uber}
@@ -19,7 +20,7 @@ use Rattle.zst_dir.proofs.DroppedPartials.{partials_left}
 use Rattle.zst_image.specs.declared.commit_fault.CommitFault.{CommitFault}
 use Rattle.zst_image.specs.declared.commit_fault.CommitFault.TheVariants as commits
 use Rattle.zst_image.specs.declared.pool_state.PoolState.{PoolState}
-use Rattle.zst_image.specs.Commits.{Commits, NextIs, Ready}
+use Rattle.zst_image.specs.Commits.{Commits, CommittedDir, NextIs, Ready}
 use Rattle.zst_image.specs.Reads.{IsNamedBy, PartialIs, Reads, Rests, RowsAre, RunsBy, bound_of, free_by, kept_rows}
 use Rattle.zst_image.proofs.CommitLemmas.{IsTaken-free_by, ReadsAs-spared, Ready-fills, Rests-fills}
 use Rattle.zst_image.proofs.Growth.{PartialIs-grows, RunsBy-grows}
@@ -147,22 +148,23 @@ module _ {tight : Bool} (has : Blocks) (kept : PoolState) (running next : Pool) 
       }
 
 -- what was committed holds the pool's blocks
-runs_after : {bound : Option ℕ} (old new : DiskState) (space : FreeSectors) (dir : Rows) (next : Pool) (made : Result PoolState CommitFault) → RunsBy bound (Has old.seen space) dir next
-    → IfOk made (λ kept. kept.dir ≡ dir) → IfOk made (λ kept. KeepsBlocks old.seen space new.seen (free_by kept.body)) → IfOk made (λ kept. RunsBy bound (Has new.seen (free_by kept.body)) kept.dir next)
-runs_after {bound = bound} old new space dir next (Ok kept) runs same keeps =
-    subst (λ (r : Rows). RunsBy bound (Has new.seen (free_by kept.body)) r next) (sym same) (RunsBy-grows old.seen space new.seen (free_by kept.body) keeps dir next runs)
-runs_after {bound = bound} old new space dir next (Err fault) runs same keeps = tt
+runs_after : {bound : Option ℕ} (old new : IoState) (body : Uber) (dir : Rows) (next : Pool) (made : Result PoolState CommitFault) → RunsBy bound (Has old.disk.seen old.space) dir next
+    → IfOk made (CommittedDir body dir old new) → IfOk made (λ kept. RunsBy bound (Has new.disk.seen (free_by kept.body)) kept.dir next)
+runs_after {bound = bound} old new body dir next (Ok kept) runs is =
+    subst (λ (r : Rows). RunsBy bound (Has new.disk.seen (free_by kept.body)) r next) (sym is.dir) (RunsBy-grows old.disk.seen old.space new.disk.seen (free_by kept.body) is.blocks dir next runs)
+runs_after {bound = bound} old new body dir next (Err fault) runs is = tt
 
 -- so after a commit the next pool is at rest
-pub rests_next : {tight : Bool} (start old new : DiskState) (space : FreeSectors) (kept : PoolState) (rows dir : Rows) (running next : Pool) (made : Result PoolState CommitFault) → Commits tight start new kept.body rows (kept_of running) (kept_of (next_of next).pool) made
-    → next.number ≡ running.number → RunsBy (bound_of tight (running.number + 1)) (Has old.seen space) dir next → IsPool (next_of next).pool → IfOk made (λ kept. kept.dir ≡ dir) → IfOk made (λ kept. KeepsBlocks old.seen space new.seen (free_by kept.body))
-    → IfOk made (λ kept. IsAtRest tight new kept (next_of next).pool)
-rests_next {tight = tight} start old new space kept rows dir running next made commits number runs lawful same keeps =
-    let over = subst (λ (n : ℕ). RunsBy (bound_of tight (n + 1)) (Has old.seen space) dir next) (sym number) runs in
-    go made commits (runs_after old new space dir (next_of next).pool made (RunsBy-next (Has old.seen space) dir next (next.number + 1) over) same keeps)
+pub rests_next : {tight : Bool} (start : DiskState) (old new : IoState) (kept : PoolState) (rows dir : Rows) (running next : Pool) (made : Result PoolState CommitFault)
+    → Commits tight start new.disk kept.body rows (kept_of running) (kept_of (next_of next).pool) made → next.number ≡ running.number → RunsBy (bound_of tight (running.number + 1)) (Has old.disk.seen old.space) dir next → IsPool (next_of next).pool
+    → IfOk made (CommittedDir kept.body dir old new) → IfOk made (λ kept. IsAtRest tight new.disk kept (next_of next).pool)
+rests_next {tight = tight} start old new kept rows dir running next made commits number runs lawful committed =
+    let has = Has old.disk.seen old.space in
+    let over = subst (λ (n : ℕ). RunsBy (bound_of tight (n + 1)) has dir next) (sym number) runs in
+    go made commits (runs_after old new kept.body dir (next_of next).pool made (RunsBy-next has dir next (next.number + 1) over) committed)
   where
-    go : (r : Result PoolState CommitFault) → Commits tight start new kept.body rows (kept_of running) (kept_of (next_of next).pool) r → IfOk r (λ kept. RunsBy (bound_of tight (next.number + 1)) (Has new.seen (free_by kept.body)) kept.dir (next_of next).pool)
-        → IfOk r (λ kept. IsAtRest tight new kept (next_of next).pool)
+    go : (r : Result PoolState CommitFault) → Commits tight start new.disk kept.body rows (kept_of running) (kept_of (next_of next).pool) r
+        → IfOk r (λ kept. RunsBy (bound_of tight (next.number + 1)) (Has new.disk.seen (free_by kept.body)) kept.dir (next_of next).pool) → IfOk r (λ kept. IsAtRest tight new.disk kept (next_of next).pool)
     go (Ok after) commits runs = record { rows = after.dir; rests = commits.answer; runs_by = runs; lawful = lawful }
     go (Err fault) commits runs = tt
 

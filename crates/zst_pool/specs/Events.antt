@@ -13,7 +13,7 @@ use Rattle.zst_model.specs.pools.Step.{stepped}
 use Rattle.zst_dir.specs.Rows.{Rows}
 use Rattle.zst_dir.specs.Spelling.{dir_bytes}
 use Rattle.zst_dir.specs.declared.rows.Partial.{Partial}
-use Rattle.zst_image.specs.Commits.{Ready}
+use Rattle.zst_image.specs.Commits.{KeepsDisk, Ready}
 use Rattle.zst_image.specs.Reads.{PartialIs, bound_of, dir_sectors, free_by}
 use Rattle.zst_image.specs.declared.pool_state.PoolState.{PoolState}
 use Rattle.zst_pool.specs.Calls.{CallDid, CallGrows, CanCommit, IsAtRest, IsCallFault, IsCallFull, IsUnderWay, keeping}
@@ -30,11 +30,8 @@ pub record EndsCommit (kept : PoolState) (old new : IoState) (result : Result Po
   -- the next commit can follow: after the body that was committed, and after a refusal, unless the disk failed, after the latest one
   pub ready : IfOk result (λ next. Ready new.disk next.body)
   pub stays : new.failed ≡ false → OnErr result (Ready new.disk kept.body)
-  pub size : new.disk.size ≡ old.disk.size
-  pub failed : new.failed ≡ (old.failed || is_disk_fault result)
+  pub disk : KeepsDisk (is_disk_fault result) old new
   pub cause : HasDiskCause old.disk.faults new.disk.faults result
-  pub honest : new.disk.honest → old.disk.honest
-  pub same : new.reference ≡ old.reference
 
 -- what is kept once this directory was committed over these free sectors: it has its rows, and where all that is free stands behind the end, it ends no later than the directory's sectors reach
 pub record FollowsBy (space : FreeSectors) (kept : PoolState) (dir : Rows) (next : PoolState) : Type 0 where
@@ -72,6 +69,19 @@ module _ {D : Type 0} {g : Ghosts D} where
     pub cause : HasDiskCause (disk_of old.io).faults (disk_of new.io).faults result
     pub honest : IsHonest new.io → IsHonest old.io
     pub same : new.io.disk.ghost_name ≡ old.io.disk.ghost_name
+
+  -- a commit over an Io of what this definition makes of a partial state, after which the directory has these rows
+  pub record CommitsPartial (definition : PlainPartial → Plain → Result Plain Refusal) (partial : Partial) (dir : Rows) (kept : PoolState) (old new : Io D g) (result : Result PoolState PoolFault) : Type 0 where
+    -- from a start at which a pool was at rest, and since which blocks alone were written, each image is what is kept of that pool or of the next one, as the definition says; then one of them is at rest
+    pub did : (tight : Bool) (start : D) (running : Plain) (plain : PlainPartial) → IsHonest new → IsUnderWay tight (g.state start) (disk_of old) old.space kept running
+        → PartialIs (bound_of tight (running.number + 1)) (blocks_of old) partial plain → CallDid tight (g.state start) (disk_of new) kept running (definition plain running) result
+    pub rows : IfOk result (λ next. next.dir ≡ dir)
+    -- whatever the image is, there is no other refusal than E23, E24, E28 and E32
+    pub known : IfErr result IsCallFault
+    pub full : (need largest : ℕ) → result ≡ Err (Full need largest) → IsCallFull old.space new.space kept.dir need largest
+    pub grows : IfOk result (CallGrows old.space kept)
+    -- the blocks that were there still are, over the sectors that the new body leaves free
+    pub blocks : IfOk result (λ next. KeepsBlocks (disk_of old).seen old.space (disk_of new).seen (free_by next.body))
 
   -- a call that commits what this definition makes of a partial state, after which the directory has these rows
   pub record PutsPartial (definition : PlainPartial → Plain → Result Plain Refusal) (partial : Partial) (dir : Rows) (old new : Pool D g) (result : Result ℕ PoolFault) : Type 0 where

@@ -3,7 +3,7 @@ use Rattle.std.specs.Prelude.{◌≡◌, Bool, true, false, Result, Ok, Err, OnE
 use Rattle.zst_outside.specs.Images.{IsSynced, OnlyReads}
 use Rattle.zst_outside.specs.declared.disk.Disk.{Ghosts}
 use Rattle.zst_block.specs.IoStates.{disk_of}
-use Rattle.zst_image.specs.Faults.{HasDiskCause}
+use Rattle.zst_uber.specs.DiskCalls.{HasDiskCause}
 use Rattle.zst_image.specs.Reads.{free_by}
 use Rattle.zst_image.specs.declared.pool_state.PoolState.{PoolState}
 use Rattle.zst_image.specs.declared.open_fault.OpenFault.{OpenFault}

@@ -1,14 +1,11 @@
 // What a receive does to a pool when it has all of its stream.
-ghost use Rattle.std.specs.Prelude.{◌≡◌, ◌+◌, ◌<◌, ◌≤◌, ℕ, Bool, false, length, IfErr, IfOk, IfSome, OnOk, Err};
-ghost use Rattle.zst_block.specs.Blocks.{KeepsBlocks};
-ghost use Rattle.zst_block.specs.IoStates.{IsHonest, blocks_of, disk_of, io_of};
-ghost use Rattle.zst_model.specs.pools.Pool.{Pool as Plain, Partial as PlainPartial};
+ghost use Rattle.std.specs.Prelude.{◌≡◌, ◌+◌, ◌<◌, ◌≤◌, false, length, IfOk, IfSome, OnOk, Err};
+ghost use Rattle.zst_block.specs.IoStates.{disk_of, io_of};
 ghost use Rattle.zst_dir.specs.Rows.{HasSnapshot, IsDatasetRow, IsPartialRow, IsSnapshotRow};
 ghost use Rattle.zst_dir.specs.Spelling.{dir_bytes};
-ghost use Rattle.zst_image.specs.Reads.{PartialIs, bound_of, free_by};
-ghost use Rattle.zst_pool.specs.Calls.{CallDid, CallGrows, CanCommit, IsCallFault, IsCallFull, IsUnderWay};
+ghost use Rattle.zst_pool.specs.Calls.{CanCommit};
 ghost use Rattle.zst_pool.specs.FinishedRows.{dataset_row_from, rows_with_finished, rows_with_target, snapshot_row_from};
-ghost use Rattle.zst_pool.specs.Events.{EndsCommit, PutsPartial, Settles};
+ghost use Rattle.zst_pool.specs.Events.{CommitsPartial, EndsCommit, PutsPartial, Settles};
 ghost use Rattle.zst_pool.specs.PartialRows.{CanPut};
 ghost use Rattle.zst_pool.specs.Partials.{partial_finished};
 
@@ -90,14 +87,7 @@ fn commit_finished<D: Disk>(
 ) -> Result<PoolState, PoolFault>
     requires partial { CanPut kept.now.dir partial.now }
     requires works { CanCommit (disk_of io.old) io.old.space kept.now.body }
-    ensures did { (tight : Bool) (start : D) (running : Plain) (plain : PlainPartial) → IsHonest io.new → IsUnderWay tight (D.state start) (disk_of io.old) io.old.space kept.now running
-        → PartialIs (bound_of tight (running.number + 1)) (blocks_of io.old) partial.now plain → CallDid tight (D.state start) (disk_of io.new) kept.now running (partial_finished plain running) result }
-    ensures rows { IfOk result (λ next. next.dir ≡ rows_with_finished (kept.now.body.number + 1) partial.now kept.now.dir) }
-    ensures known { IfErr result IsCallFault }
-    ensures full { (need largest : ℕ) → result ≡ Err (PoolFault.Full need largest) → IsCallFull io.old.space io.new.space kept.now.dir need largest }
-    ensures grows { IfOk result (CallGrows io.old.space kept.now) }
-    // The blocks that were there still are, over the sectors that the new body leaves free.
-    ensures blocks { IfOk result (λ next. KeepsBlocks (disk_of io.old).seen io.old.space (disk_of io.new).seen (free_by next.body)) }
+    ensures puts { CommitsPartial partial_finished partial.now (rows_with_finished (kept.now.body.number + 1) partial.now kept.now.dir) kept.now io.old io.new result }
     ensures commits { EndsCommit kept.now (io_of io.old) (io_of io.new) result }
 {
     // The last number is refused as it is committed.

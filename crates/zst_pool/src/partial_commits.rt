@@ -3,15 +3,15 @@ ghost use Rattle.std.specs.Prelude.{◌≡◌, ◌+◌, ◌<◌, ℕ, false, fil
 ghost use Rattle.zst_block.specs.Blocks.{FitsDisk, KeepsBlocks};
 ghost use Rattle.zst_block.specs.IoStates.{IsHonest, blocks_of, disk_of, io_of};
 ghost use Rattle.zst_block.specs.IoCalls.{TakesAtMost};
-ghost use Rattle.zst_model.specs.pools.Pool.{Pool as Plain, Partial as PlainPartial};
+ghost use Rattle.zst_model.specs.pools.Pool.{Pool as Plain};
 ghost use Rattle.zst_model.specs.pools.KeptPool.{kept_of};
 ghost use Rattle.zst_dir.specs.Rows.{is_unkept_for};
 ghost use Rattle.zst_dir.specs.Spelling.{dir_bytes};
-ghost use Rattle.zst_pool.specs.Calls.{CallDid, CallGrows, CanCommit, IsAtRest, IsCallFault, IsCallFull, IsUnderWay, ListsAnew};
-ghost use Rattle.zst_pool.specs.Events.{EndsCommit, FollowsBy, KeepsCommitted, PutsPartial, SameDisk, Settles};
+ghost use Rattle.zst_pool.specs.Calls.{CallDid, CanCommit, IsAtRest, IsCallFault, IsUnderWay, ListsAnew};
+ghost use Rattle.zst_pool.specs.Events.{CommitsPartial, EndsCommit, FollowsBy, KeepsCommitted, PutsPartial, SameDisk, Settles};
 ghost use Rattle.zst_pool.specs.PartialRows.{CanPut, rows_with_partial};
 ghost use Rattle.zst_pool.specs.Partials.{next_commit, partial_put, without_unkept};
-ghost use Rattle.zst_image.specs.Reads.{PartialIs, RunsBy, bound_of, dir_sectors, free_by};
+ghost use Rattle.zst_image.specs.Reads.{RunsBy, bound_of, dir_sectors, free_by};
 ghost use Rattle.zst_image.specs.Commits.{IsDirFull, Ready};
 
 use crate::fault::{PoolFault, of_committed};
@@ -57,14 +57,7 @@ fn commit_partial<D: Disk>(
 ) -> Result<PoolState, PoolFault>
     requires partial { CanPut kept.now.dir partial }
     requires works { CanCommit (disk_of io.old) io.old.space kept.now.body }
-    ensures did { (tight : Bool) (start : D) (running : Plain) (plain : PlainPartial) → IsHonest io.new → IsUnderWay tight (D.state start) (disk_of io.old) io.old.space kept.now running
-        → PartialIs (bound_of tight (running.number + 1)) (blocks_of io.old) partial plain → CallDid tight (D.state start) (disk_of io.new) kept.now running (partial_put roll plain running) result }
-    ensures rows { IfOk result (λ next. next.dir ≡ rows_with_partial roll partial kept.now.dir) }
-    ensures known { IfErr result IsCallFault }
-    ensures full { (need largest : ℕ) → result ≡ Err (PoolFault.Full need largest) → IsCallFull io.old.space io.new.space kept.now.dir need largest }
-    ensures grows { IfOk result (CallGrows io.old.space kept.now) }
-    // The blocks that were there still are, over the sectors that the new body leaves free.
-    ensures blocks { IfOk result (λ next. KeepsBlocks (disk_of io.old).seen io.old.space (disk_of io.new).seen (free_by next.body)) }
+    ensures puts { CommitsPartial (partial_put roll) partial (rows_with_partial roll partial kept.now.dir) kept.now io.old io.new result }
     ensures commits { EndsCommit kept.now (io_of io.old) (io_of io.new) result }
 {
     let dir = dir_with_partial(alloc, &kept.dir, partial, roll)?;

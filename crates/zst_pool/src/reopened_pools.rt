@@ -1,11 +1,11 @@
 // How a pool is opened again after its disk has failed.
 ghost use Rattle.std.specs.Prelude.{◌≡◌, Bool, OnOk, IfOk, Err};
 ghost use Rattle.zst_block.specs.IoStates.{IsHonest, disk_of};
-ghost use Rattle.zst_outside.specs.Images.{IsSynced, OnlyReads};
+ghost use Rattle.zst_outside.specs.Images.{IsSynced};
 ghost use Rattle.zst_uber.specs.declared.uber.Uber.{Uber as Body};
 ghost use Rattle.zst_model.specs.pools.Pool.{Pool as Plain};
 ghost use Rattle.zst_dir.specs.Rows.{Rows};
-ghost use Rattle.zst_image.specs.Faults.{HasDiskCause};
+ghost use Rattle.zst_uber.specs.DiskCalls.{ReadsOrFails};
 ghost use Rattle.zst_image.specs.OpenAnswers.{GivesPool, OpenAnswers};
 ghost use Rattle.zst_image.specs.Commits.{Ready};
 ghost use Rattle.zst_image.specs.Reads.{ReadsAs, Rests};
@@ -37,8 +37,7 @@ fn open_on<D: Disk>(alloc: Global, io: &mut Io<'_, D>) -> Result<PoolState, Open
     ensures rests { (tight : Bool) (uber : Body) (rows : Rows) (pool : Plain) → IsHonest io.new → ReadsAs tight uber rows pool (disk_of io.old).seen → IfOk result (λ kept. Rests tight (disk_of io.new) kept.body rows pool) }
     ensures ready { IfOk result (λ kept. Ready (disk_of io.new) kept.body) }
     ensures synced { ¬ (result ≡ Err OpenFault.DiskFault) → IsSynced (disk_of io.new) }
-    ensures reads { OnlyReads (disk_of io.old) (disk_of io.new) }
-    ensures cause { HasDiskCause OpenFault.DiskFault (disk_of io.old).faults (disk_of io.new).faults result }
+    ensures reads { ReadsOrFails OpenFault.DiskFault (disk_of io.old) (disk_of io.new) result }
     ensures space { io.new.space ≡ io.old.space }
     ensures failed { io.new.failed ≡ io.old.failed }
     ensures same { io.new.disk.ghost_name ≡ io.old.disk.ghost_name }

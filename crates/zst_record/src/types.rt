@@ -40,12 +40,11 @@ pub fn types_are_defined()
     ensures begin { BEGIN ≡ begin_type }
     ensures object { OBJECT ≡ object_type }
     ensures free_objects { FREE_OBJECTS ≡ free_objects_type }
-    ensures write { WRITE ≡ write_type }
+    // A block's write: by its bytes, by a reference to another, or embedded.
+    ensures writes { (WRITE ≡ write_type) × (WRITE_BY_REFERENCE ≡ write_by_reference_type) × (WRITE_EMBEDDED ≡ write_embedded_type) }
     ensures free { FREE ≡ free_type }
     ensures end { END ≡ end_type }
-    ensures by_reference { WRITE_BY_REFERENCE ≡ write_by_reference_type }
     ensures spill { SPILL ≡ spill_type }
-    ensures embedded { WRITE_EMBEDDED ≡ write_embedded_type }
     ensures object_range { OBJECT_RANGE ≡ object_range_type }
     ensures redact { REDACT ≡ redact_type }
 {}

@@ -23,7 +23,7 @@ use Rattle.zst_objset.specs.Damage.{IsDamagedBlock, IsDamagedObject, IsDamagedSe
 use Rattle.zst_dir.specs.Rows.{Rows}
 use Rattle.zst_pool.proofs.PoolsAtRest.{rest_plain}
 use Rattle.zst_image.specs.Faults.{open_refusal}
-use Rattle.zst_image.specs.Faults as opening
+use Rattle.zst_uber.specs.DiskCalls as disk_calls
 use Rattle.zst_image.specs.OpenAnswers.{GivesPool, OpenAnswers}
 use Rattle.zst_image.specs.Reads.{IsNamedBy, Reads, ReadsAs, Rests, free_by, kept_rows}
 use Rattle.zst_image.specs.declared.pool_state.PoolState.{PoolState}
@@ -177,7 +177,7 @@ open_alive (opens.BadVersion version) is = absurd (cc is)
 open_alive opens.DiskFault is = absurd (cc is)
 open_alive opens.OutOfMemory is = absurd (cc is)
 
-refused_open : {T : Type 0} → (here here' : DiskState) (fault : OpenFault) → opening.HasDiskCause {T = T} opens.DiskFault here.faults here'.faults (Err fault) → IsPoolRefusal OfStepping here here' (open_refusal fault)
+refused_open : {T : Type 0} → (here here' : DiskState) (fault : OpenFault) → disk_calls.HasDiskCause {T = T} opens.DiskFault here.faults here'.faults (Err fault) → IsPoolRefusal OfStepping here here' (open_refusal fault)
 refused_open here here' fault cause = record { one = inl (fault, refl); alive = open_alive fault; cause = λ is. cause.fault (ap (λ f. Err f) (open_disk fault is)) }
 
 -- ---- opening
@@ -372,7 +372,7 @@ images_after old new P leaves before only now c image =
 -- opening was refused
 pub stepping_unopened : (now : ℕ) (command : Command) (here here' : DiskState) (fault : OpenFault)
     → ((tight : Bool) (uber : Uber) (rows : Rows) (pool : Pool) → here'.honest → ReadsAs tight uber rows pool here.seen → GivesPool uber rows (Err fault))
-    → (here'.honest → OpenAnswers here (Err fault)) → OnlyReads here here' → (fault ≢ opens.DiskFault → IsSynced here') → opening.HasDiskCause {T = PoolState} opens.DiskFault here.faults here'.faults (Err fault)
+    → (here'.honest → OpenAnswers here (Err fault)) → OnlyReads here here' → (fault ≢ opens.DiskFault → IsSynced here') → disk_calls.HasDiskCause {T = PoolState} opens.DiskFault here.faults here'.faults (Err fault)
     → Stepping now command here here' (Err (open_refusal fault))
 stepping_unopened now command here here' fault there answer reads synced cause = record {
   moments = λ tight pool told is. moments_read here here' pool (stepped [] now command pool) reads;

@@ -14,7 +14,7 @@ use Rattle.zst_model.specs.pools.KeptPool.{KeepsAll, kept_of}
 use Rattle.zst_model.specs.pools.Pool.{Pool}
 use Rattle.zst_dir.specs.Rows.{Rows}
 use Rattle.zst_image.specs.Faults.{open_refusal}
-use Rattle.zst_image.specs.Faults as image_faults
+use Rattle.zst_uber.specs.DiskCalls as disk_calls
 use Rattle.zst_image.specs.OpenAnswers.{GivesPool, OpenAnswers}
 use Rattle.zst_image.specs.Reads.{ReadsAs, Rests, kept_rows}
 use Rattle.zst_image.specs.declared.pool_state.PoolState.{PoolState}
@@ -90,7 +90,7 @@ unopened_ends tight ask here' input uber rows pool opens.OutOfMemory whole gives
 pub unopened : KeepsWhole → (ask : RecvAsk) (here here' : DiskState) (input : SourceState) (fault : OpenFault)
     → ((tight : Bool) (uber : Uber) (rows : Rows) (pool : Pool) → here'.honest → ReadsAs tight uber rows pool here.seen → GivesPool uber rows (Err fault))
     → (here'.honest → OpenAnswers here (Err fault)) → OnlyReads here here' → (fault ≢ opens.DiskFault → IsSynced here')
-    → image_faults.HasDiskCause {T = PoolState} opens.DiskFault here.faults here'.faults (Err fault) → Receiving ask here here' input input (Err (open_refusal fault))
+    → disk_calls.HasDiskCause {T = PoolState} opens.DiskFault here.faults here'.faults (Err fault) → Receiving ask here here' input input (Err (open_refusal fault))
 unopened whole ask here here' input fault there answer reads synced cause = record {
   pieces = [];
   are_pieces = tt;

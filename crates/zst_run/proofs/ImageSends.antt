@@ -16,7 +16,7 @@ use Rattle.zst_model.specs.sends.Headers.{Sent}
 use Rattle.zst_dir.specs.RowNames.{AreNamed}
 use Rattle.zst_dir.specs.Rows.{Rows}
 use Rattle.zst_image.specs.Faults.{open_refusal}
-use Rattle.zst_image.specs.Faults as image_faults
+use Rattle.zst_uber.specs.DiskCalls as disk_calls
 use Rattle.zst_image.specs.OpenAnswers.{GivesPool, OpenAnswers, ReadFault}
 use Rattle.zst_image.specs.Reads.{ReadsAs, RunsBy, free_by, kept_rows}
 use Rattle.zst_image.specs.declared.pool_state.PoolState.{PoolState}
@@ -74,7 +74,7 @@ open_never_full opens.OutOfMemory need largest is = absurd (cc is)
 
 pub unopened : (request : SendRequest) (here here' : DiskState) (out : SinkState) (fault : OpenFault)
     → ((tight : Bool) (uber : Uber) (rows : Rows) (pool : Pool) → here'.honest → ReadsAs tight uber rows pool here.seen → GivesPool uber rows (Err fault))
-    → (here'.honest → OpenAnswers here (Err fault)) → OnlyReads here here' → image_faults.HasDiskCause {T = PoolState} opens.DiskFault here.faults here'.faults (Err fault)
+    → (here'.honest → OpenAnswers here (Err fault)) → OnlyReads here here' → disk_calls.HasDiskCause {T = PoolState} opens.DiskFault here.faults here'.faults (Err fault)
     → Sends request here here' out out (Err (open_refusal fault))
 unopened request here here' out fault there answer reads cause = record {
   reads = reads;

@@ -13,7 +13,7 @@ use Rattle.zst_dir.specs.RowNames.{AreNamed}
 use Rattle.zst_dir.specs.Rows.{Rows}
 use Rattle.zst_space.specs.FreeSectors.{FreeSectors}
 use Rattle.zst_image.specs.Faults.{open_refusal}
-use Rattle.zst_image.specs.Faults as image_faults
+use Rattle.zst_uber.specs.DiskCalls as disk_calls
 use Rattle.zst_image.specs.OpenAnswers.{GivesPool, OpenAnswers, ReadFault}
 use Rattle.zst_image.specs.Reads.{ReadsAs, RunsBy, free_by}
 use Rattle.zst_image.specs.declared.pool_state.PoolState.{PoolState}
@@ -44,7 +44,7 @@ unopened_says dataset here opens.OutOfMemory is = tt
 
 pub unopened : (dataset : List ℕ) (here here' : DiskState) (fault : OpenFault)
     → ((tight : Bool) (uber : Uber) (rows : Rows) (pool : Pool) → here'.honest → ReadsAs tight uber rows pool here.seen → GivesPool uber rows (Err fault))
-    → (here'.honest → OpenAnswers here (Err fault)) → OnlyReads here here' → image_faults.HasDiskCause {T = PoolState} opens.DiskFault here.faults here'.faults (Err fault)
+    → (here'.honest → OpenAnswers here (Err fault)) → OnlyReads here here' → disk_calls.HasDiskCause {T = PoolState} opens.DiskFault here.faults here'.faults (Err fault)
     → TellsToken dataset here here' (Err (open_refusal fault))
 unopened dataset here here' fault there answer reads cause = record {
   reads = reads;

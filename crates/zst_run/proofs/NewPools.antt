@@ -8,7 +8,8 @@ use Rattle.zst_model.specs.pools.AnswerLines.{ok_line}
 use Rattle.zst_model.specs.declared.refusals.refusal.Refusal.{Refusal}
 use Rattle.zst_model.specs.declared.refusals.refusal.Refusal.TheVariants as refusals
 use Rattle.zst_image.specs.CreateAnswers.{CreateAnswers, IsNew, RefusedLeaves}
-use Rattle.zst_image.specs.Faults.{HasDiskCause, create_refusal}
+use Rattle.zst_image.specs.Faults.{create_refusal}
+use Rattle.zst_uber.specs.DiskCalls.{HasDiskCause}
 use Rattle.zst_image.specs.Reads.{Reads, Rests, new_pool}
 use Rattle.zst_image.specs.declared.create_fault.CreateFault.{CreateFault}
 use Rattle.zst_image.specs.declared.create_fault.CreateFault.TheVariants.{Exists, TooSmall, DiskFault, OutOfMemory}

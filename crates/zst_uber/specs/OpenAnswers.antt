@@ -1,8 +1,7 @@
 -- What the opening of a pool answers, and where.
-use Rattle.std.specs.Prelude.{◌≡◌, ◌≢◌, ℕ, ◌+◌, ◌≤◌, List, Option, Some, None, Result, Ok, Err}
+use Rattle.std.specs.Prelude.{◌≡◌, ◌≢◌, ℕ, ◌+◌, List, Option, Some, None, Result, Ok, Err}
 use Rattle.zst_bytes.specs.Bytes.{number_at, bytes_at}
 use Rattle.zst_fletcher.specs.WeightSum.{weight_sum, parts_of}
-use Rattle.zst_outside.specs.Causes.{Rose}
 use Rattle.zst_outside.specs.Images.{DiskState}
 use Rattle.zst_block.specs.Ptr.{sum_at}
 use Rattle.zst_uber.specs.Body.{IsBody, UberFits, InRange}
@@ -57,8 +56,3 @@ GivesUber uber (Err (Damaged sector stated found)) = ⊥
 GivesUber uber (Err NoPool) = ⊥
 GivesUber uber (Err (BadVersion version)) = ⊥
 GivesUber uber (Err DiskFault) = Unit {0}
-
--- a count of faults never falls, and a fault of the disk is answered only where it rose
-pub record HasDiskCause {T : Type 0} (before now : ℕ) (result : Result T UberFault) : Type 0 where
-  pub later : before ≤ now
-  pub fault : result ≡ Err DiskFault → Rose before now

@@ -1,8 +1,7 @@
 // The slots in the first four sectors.
 ghost use Rattle.std.specs.Prelude.{◌≡◌, ◌↔◌, ◌<◌, ◌≤◌, List, ℕ, IsTrue, length, min, take, IfOk};
-ghost use Rattle.zst_outside.specs.Causes.{HasCause};
-ghost use Rattle.zst_outside.specs.Images.{OnlyReads};
 ghost use Rattle.zst_outside.specs.Ranges.{bytes_at};
+ghost use Rattle.zst_uber.specs.DiskCalls.{ReadsDisk};
 ghost use Rattle.zst_uber.specs.Slots.{gate_of, gate_place, body_place, body_sector, counts, latest, latest_slot, slot_at, greater, other, IsOpen};
 
 use crate::MAGIC;
@@ -67,8 +66,7 @@ pub fn read_front<D: Disk>(disk: &mut D, front: &mut [u8]) -> Result<usize, Faul
     ensures bytes { (D.state disk.new).honest → IfOk result (λ count. take count front.new ≡ bytes_at (D.state disk.old).seen 0 2048) }
     ensures inside { IfOk result (λ count. count ≤ 2048) }
     ensures length { IfOk result (λ count. count ≡ min 2048 (D.state disk.old).size) }
-    ensures reads { OnlyReads (D.state disk.old) (D.state disk.new) }
-    ensures cause { HasCause (D.state disk.old).faults (D.state disk.new).faults result }
+    ensures reads { ReadsDisk (D.state disk.old) (D.state disk.new) result }
 {
     let count = disk.bytes().min(2048) as usize;
     disk.read(0, &mut front[..count])?;

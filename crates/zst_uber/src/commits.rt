@@ -1,15 +1,13 @@
 // The commit: one body more, in the slot that isn't the latest.
-ghost use Rattle.std.specs.Prelude.{◌≡◌, ◌↔◌, ◌+◌, ◌≤◌, ◌||◌, List, ℕ, IsTrue, IfOk, OnOk, is_err};
+ghost use Rattle.std.specs.Prelude.{◌≡◌, ◌↔◌, ◌≤◌, ◌||◌, List, ℕ, IsTrue, IfOk, OnOk, is_err};
 ghost use Rattle.zst_outside.specs.Causes.{HasCause};
-ghost use Rattle.zst_outside.specs.Images.{IsSynced, Leaves, OnlyReads, WritesIn};
 ghost use Rattle.zst_outside.specs.Ranges.{bytes_at};
 ghost use Rattle.zst_space.specs.FreeSectors.{FreeSectors};
 ghost use Rattle.zst_block.specs.Blocks.{KeepsBlocks};
 ghost use Rattle.zst_block.specs.IoStates.{IsHonest, disk_of};
-ghost use Rattle.zst_uber.specs.Body.{UberFits};
-ghost use Rattle.zst_uber.specs.Slots.{gate_place, body_place, IsOpen, IsNext, Stands, latest, latest_slot, other};
-ghost use Rattle.zst_uber.specs.Commit.{LabelSettled, HasOldOrNew, KeepsOldOrNew, Closes};
-ghost use Rattle.zst_uber.specs.OpenAnswers.{HasDiskCause};
+ghost use Rattle.zst_uber.specs.Slots.{gate_place, body_place, IsOpen, latest_slot, other};
+ghost use Rattle.zst_uber.specs.Commit.{CanCommitBody, Closes, CommitsBody, KeepsOldOrNew, WritesBody};
+ghost use Rattle.zst_uber.specs.DiskCalls.{PutsIn, ReadsDisk};
 
 use crate::body_slot::{BodySlot, OPEN, is_open, latest_in, read_front};
 use crate::fault::UberFault;
@@ -24,23 +22,8 @@ use zst_outside::{Disk, Fault, put};
 /// The disk's failure is the only fault.
 pub fn commit<D: Disk>(disk: &mut D, uber: &Uber) -> Result<(), UberFault>
     requires room { 4096 ≤ (D.state disk.old).size }
-    requires next { (D.state disk.old).honest → IsNext uber.now.number (latest (D.state disk.old).seen) }
-    requires settled { (D.state disk.old).honest → LabelSettled (D.state disk.old) }
-
-    // Whatever it answers, and at every moment of it.
-    ensures moments { (D.state disk.new).honest → Leaves (D.state disk.old) (D.state disk.new) (HasOldOrNew uber.now (D.state disk.old)) }
-    ensures images { (c : List ℕ) → (D.state disk.new).honest → (D.state disk.new).images c → HasOldOrNew uber.now (D.state disk.old) c }
-    ensures writes { WritesIn 0 4096 (D.state disk.old) (D.state disk.new) }
-
-    // The new body stands once it is done, and nothing is pending.
-    ensures stands { (D.state disk.new).honest → OnOk result (Stands uber.now (D.state disk.new).seen) }
-    ensures following { (D.state disk.new).honest → OnOk result (IsNext (uber.now.number + 1) (latest (D.state disk.new).seen)) }
-    ensures durable { OnOk result (IsSynced (D.state disk.new)) }
-    ensures label { OnOk result (LabelSettled (D.state disk.new)) }
-    ensures fits { UberFits uber.now }
-
-    ensures cause { HasDiskCause (D.state disk.old).faults (D.state disk.new).faults result }
-    ensures only { (fault : UberFault) → result ≡ Err fault → fault ≡ UberFault.DiskFault }
+    requires body { CanCommitBody uber.now (D.state disk.old) }
+    ensures commits { CommitsBody uber.now (D.state disk.old) (D.state disk.new) result }
 {
     match write_body(disk, uber) {
         Ok(()) => Ok(()),
@@ -51,22 +34,10 @@ pub fn commit<D: Disk>(disk: &mut D, uber: &Uber) -> Result<(), UberFault>
 /// Commits an event: each image that a crash may leave then has the old latest body and all
 /// blocks of an image from before, or the new one and all blocks that a read gave.
 pub fn commit_event<D: Disk>(io: &mut Io<'_, D>, uber: &Uber) -> Result<(), UberFault>
-    requires next { IsHonest io.old → IsNext uber.now.number (latest (disk_of io.old).seen) }
-    requires settled { IsHonest io.old → LabelSettled (disk_of io.old) }
-
-    ensures moments { IsHonest io.new → Leaves (disk_of io.old) (disk_of io.new) (HasOldOrNew uber.now (disk_of io.old)) }
+    requires body { CanCommitBody uber.now (disk_of io.old) }
+    ensures commits { CommitsBody uber.now (disk_of io.old) (disk_of io.new) result }
     ensures images { (c : List ℕ) → IsHonest io.new → (disk_of io.new).images c → KeepsOldOrNew uber.now (disk_of io.old) c }
     ensures kept { (space : FreeSectors) → KeepsBlocks (disk_of io.old).seen space (disk_of io.new).seen space }
-    ensures writes { WritesIn 0 4096 (disk_of io.old) (disk_of io.new) }
-
-    ensures stands { IsHonest io.new → OnOk result (Stands uber.now (disk_of io.new).seen) }
-    ensures following { IsHonest io.new → OnOk result (IsNext (uber.now.number + 1) (latest (disk_of io.new).seen)) }
-    ensures durable { OnOk result (IsSynced (disk_of io.new)) }
-    ensures label { OnOk result (LabelSettled (disk_of io.new)) }
-    ensures uber_fits { UberFits uber.now }
-
-    ensures cause { HasDiskCause (disk_of io.old).faults (disk_of io.new).faults result }
-    ensures only { (fault : UberFault) → result ≡ Err fault → fault ≡ UberFault.DiskFault }
     ensures failed { io.new.failed ≡ (io.old.failed || is_err result) }
     ensures space { io.new.space ≡ io.old.space }
     ensures same { io.new.disk.ghost_name ≡ io.old.disk.ghost_name }
@@ -80,13 +51,8 @@ pub fn commit_event<D: Disk>(io: &mut Io<'_, D>, uber: &Uber) -> Result<(), Uber
 
 fn write_body<D: Disk>(disk: &mut D, uber: &Uber) -> Result<(), Fault>
     requires room { 4096 ≤ (D.state disk.old).size }
-    requires next { (D.state disk.old).honest → IsNext uber.now.number (latest (D.state disk.old).seen) }
-    requires settled { (D.state disk.old).honest → LabelSettled (D.state disk.old) }
-    ensures moments { (D.state disk.new).honest → Leaves (D.state disk.old) (D.state disk.new) (HasOldOrNew uber.now (D.state disk.old)) }
-    ensures writes { WritesIn 0 4096 (D.state disk.old) (D.state disk.new) }
-    ensures stands { (D.state disk.new).honest → OnOk result (Stands uber.now (D.state disk.new).seen) }
-    ensures durable { OnOk result (IsSynced (D.state disk.new)) }
-    ensures fits { UberFits uber.now }
+    requires body { CanCommitBody uber.now (D.state disk.old) }
+    ensures written { WritesBody uber.now (D.state disk.old) (D.state disk.new) result }
     ensures cause { HasCause (D.state disk.old).faults (D.state disk.new).faults result }
 {
     let body = uber.encode();
@@ -101,8 +67,7 @@ fn find_idle<D: Disk>(disk: &mut D) -> Result<(BodySlot, bool), Fault>
     requires { 2048 ≤ (D.state disk.old).size }
     ensures idle { (D.state disk.new).honest → IfOk result (λ found. latest_slot (D.state disk.old).seen ≡ other found.0) }
     ensures gate { (D.state disk.new).honest → IfOk result (λ found. IsTrue found.1 ↔ IsOpen (D.state disk.old).seen found.0) }
-    ensures reads { OnlyReads (D.state disk.old) (D.state disk.new) }
-    ensures cause { HasCause (D.state disk.old).faults (D.state disk.new).faults result }
+    ensures reads { ReadsDisk (D.state disk.old) (D.state disk.new) result }
 {
     let mut front = [0u8; 2048];
     let count = read_front(disk, &mut front)?;
@@ -117,10 +82,8 @@ fn close<D: Disk>(disk: &mut D, slot: BodySlot, is_open: bool) -> Result<(), Fau
     requires room { 2048 ≤ (D.state disk.old).size }
     requires gate { (D.state disk.old).honest → (IsTrue is_open ↔ IsOpen (D.state disk.old).seen slot) }
     ensures closed { (D.state disk.new).honest → OnOk result (¬ (IsOpen (D.state disk.new).seen slot)) }
-    ensures durable { OnOk result (IsSynced (D.state disk.new)) }
     ensures closes { (D.state disk.new).honest → Closes slot (D.state disk.old) (D.state disk.new) }
-    ensures writes { WritesIn (gate_place slot) 1 (D.state disk.old) (D.state disk.new) }
-    ensures cause { HasCause (D.state disk.old).faults (D.state disk.new).faults result }
+    ensures puts { PutsIn (gate_place slot) 1 (D.state disk.old) (D.state disk.new) result }
 {
     if is_open {
         put(disk, slot.gate(), &[0])
@@ -133,9 +96,7 @@ fn close<D: Disk>(disk: &mut D, slot: BodySlot, is_open: bool) -> Result<(), Fau
 fn fill<D: Disk>(disk: &mut D, slot: BodySlot, body: &[u8; 512]) -> Result<(), Fault>
     requires { 2048 ≤ (D.state disk.old).size }
     ensures body { OnOk result (bytes_at (D.state disk.new).seen (body_place slot) 512 ≡ body.now) }
-    ensures durable { OnOk result (IsSynced (D.state disk.new)) }
-    ensures writes { WritesIn (body_place slot) 512 (D.state disk.old) (D.state disk.new) }
-    ensures cause { HasCause (D.state disk.old).faults (D.state disk.new).faults result }
+    ensures puts { PutsIn (body_place slot) 512 (D.state disk.old) (D.state disk.new) result }
 {
     put(disk, slot.body(), body)
 }
@@ -144,9 +105,7 @@ fn fill<D: Disk>(disk: &mut D, slot: BodySlot, body: &[u8; 512]) -> Result<(), F
 fn open_gate<D: Disk>(disk: &mut D, slot: BodySlot) -> Result<(), Fault>
     requires { 2048 ≤ (D.state disk.old).size }
     ensures opened { OnOk result (IsOpen (D.state disk.new).seen slot) }
-    ensures durable { OnOk result (IsSynced (D.state disk.new)) }
-    ensures writes { WritesIn (gate_place slot) 1 (D.state disk.old) (D.state disk.new) }
-    ensures cause { HasCause (D.state disk.old).faults (D.state disk.new).faults result }
+    ensures puts { PutsIn (gate_place slot) 1 (D.state disk.old) (D.state disk.new) result }
 {
     put(disk, slot.gate(), &[OPEN])
 }

@@ -1,12 +1,12 @@
 // The latest body of a disk.
 ghost use Rattle.std.specs.Prelude.{◌≡◌, ◌↔◌, ◌≤◌, List, ℕ, Some, length, IsTrue, IfOk};
-ghost use Rattle.zst_outside.specs.Causes.{HasCause};
-ghost use Rattle.zst_outside.specs.Images.{IsSynced, OnlyReads};
+ghost use Rattle.zst_outside.specs.Images.{IsSynced};
 ghost use Rattle.zst_outside.specs.Ranges.{bytes_at};
 ghost use Rattle.zst_uber.specs.Body.{InRange, body_bytes};
 ghost use Rattle.zst_uber.specs.Slots.{latest as latest_of, latest_slot, body_sector, slot_at};
 ghost use Rattle.zst_uber.specs.Commit.{LabelSettled};
-ghost use Rattle.zst_uber.specs.OpenAnswers.{Answers, Decodes, IsLatest, TellsNext, GivesUber, HasDiskCause};
+ghost use Rattle.zst_uber.specs.OpenAnswers.{Answers, Decodes, IsLatest, TellsNext, GivesUber};
+ghost use Rattle.zst_uber.specs.DiskCalls.{ReadsDisk, ReadsOrFails};
 ghost use Rattle.zst_uber.specs.declared.uber.Uber.{Uber};
 
 use crate::VERSION;
@@ -34,8 +34,7 @@ pub fn latest<D: Disk>(disk: &mut D) -> Result<Uber, UberFault>
     ensures settled { ¬ (result ≡ Err UberFault.DiskFault) → IsSynced (D.state disk.new) }
     ensures label { ¬ (result ≡ Err UberFault.DiskFault) → LabelSettled (D.state disk.new) }
 
-    ensures reads { OnlyReads (D.state disk.old) (D.state disk.new) }
-    ensures cause { HasDiskCause (D.state disk.old).faults (D.state disk.new).faults result }
+    ensures reads { ReadsOrFails UberFault.DiskFault (D.state disk.old) (D.state disk.new) result }
 {
     disk.sync()?;
     let (slot, body) = newest(disk)?;
@@ -49,8 +48,7 @@ pub fn latest<D: Disk>(disk: &mut D) -> Result<Uber, UberFault>
 fn newest<D: Disk>(disk: &mut D) -> Result<(BodySlot, Option<[u8; 512]>), Fault>
     ensures slot { (D.state disk.new).honest → IfOk result (λ found. found.0 ≡ latest_slot (D.state disk.old).seen) }
     ensures body { (D.state disk.new).honest → IfOk result (λ found. found.1 ≡ latest_of (D.state disk.old).seen) }
-    ensures reads { OnlyReads (D.state disk.old) (D.state disk.new) }
-    ensures cause { HasCause (D.state disk.old).faults (D.state disk.new).faults result }
+    ensures reads { ReadsDisk (D.state disk.old) (D.state disk.new) result }
 {
     let mut front = [0u8; 2048];
     let count = read_front(disk, &mut front)?;

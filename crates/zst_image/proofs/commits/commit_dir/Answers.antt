@@ -1,17 +1,20 @@
-use Rattle.std.proofs.Common.{◌≡◌, ℕ, ap, sym, ◌∙◌, subst, arith, Bool}
+use Rattle.std.proofs.Common.{◌≡◌, ℕ, ◌+◌, length, refl, ap, sym, ◌∙◌, subst, arith, rules, Bool}
 use Rattle.std.proofs.lemmas.Result.{err_from_is_err_and}
 use Rattle.zst_outside.specs.Images.{Leaves}
+use Rattle.zst_space.specs.FreeSectors.{FreeSectors, room}
 use Rattle.zst_block.specs.Blocks.{FitsDisk}
+use Rattle.zst_block.specs.IoCalls.{TakesAtMost}
 use Rattle.zst_block.specs.IoStates.{IsHonest, blocks_of, disk_of}
 use Rattle.zst_block.proofs.BlocksLaws.{Has-fewer, Has-label, IsTaken-label, KeepsBlocks-fills}
 use Rattle.zst_model.specs.pools.Pool.{Pool}
 use Rattle.zst_uber.specs.Body.{InRange}
 use Rattle.zst_uber.specs.Slots.{IsNext, latest}
 use Rattle.zst_uber.specs.declared.uber.Uber.{Uber}
-use Rattle.zst_image.specs.Reads.{free_by}
+use Rattle.zst_dir.specs.Spelling.{dir_bytes}
+use Rattle.zst_image.specs.Reads.{dir_sectors, free_by}
 use Rattle.zst_image.specs.Commits.{NextIs, OldOrNext, Ready}
 use Rattle.zst_image.proofs.CommitLemmas.{IsPrepared, next_in_range, prepared, free_by-fewer, commit-moments, commit-rests, over-refused, Ready-fills, Commits-over, Stays-from}
-use Rattle.zst_image.proofs.CommitSectors.{end_bounded}
+use Rattle.zst_image.proofs.CommitSectors.{end_bounded, takes-refused}
 use Rattle.zst_image.proofs.SettledLabels.{latest-spared}
 use Rattle.zst_image.proofs.commits.commit_dir.Given.{Over}
 use Rattle.zst_image.proofs.commits.commit_dir.Goals as goal
@@ -24,13 +27,15 @@ written g c =
     let space = c.args.io.now.space in
     Ready-fills old (disk_of c.write_dir.new.io) space c.write_dir.new.io.space c.args.body.now (IsTaken-label old.size space c.args.io.now.fits) c.write_dir.ensures.works.fills c.requires.ready
 
-pub commit_event-requires-clause-settled : goal.commit_event-requires-clause-settled
-commit_event-requires-clause-settled g c = λ told. let ready = written g (goal.at.commit_event-requires-clause-settled g c).After-write_dir in ready.label told
-
-pub commit_event-requires-clause-next : goal.commit_event-requires-clause-next
-commit_event-requires-clause-next g c = λ told.
-    let ready = written g (goal.at.commit_event-requires-clause-next g c).After-write_dir in
-    subst (λ (n : ℕ). IsNext n (latest (disk_of c.write_dir.new.io).seen)) (sym (ap (λ (u : Uber). u.number) c.next_body-next.ensures)) (ready.next told)
+pub commit_event-requires : goal.commit_event-requires
+commit_event-requires g c =
+    let ready = written g (goal.at.commit_event-requires g c).After-write_dir in
+    record {
+      body = record {
+        next = λ told. subst (λ (n : ℕ). IsNext n (latest (disk_of c.write_dir.new.io).seen)) (sym (ap (λ (u : Uber). u.number) c.next_body-next.ensures)) (ready.next told);
+        settled = λ told. ready.label told;
+      };
+    }
 
 pub returns-in_err-tree-clause-over : goal.returns-in_err-tree-clause-over
 returns-in_err-tree-clause-over g c = λ tight next told is.
@@ -43,17 +48,32 @@ pub returns-in_err-tree-clause-commits : goal.returns-in_err-tree-clause-commits
 returns-in_err-tree-clause-commits g c = λ tight start rows pool next told rests fills is.
     Commits-over (g.D.Disk.state start) _ _ _ c.write_dir.new.io.space c.args.body.now rows pool next _ rests fills (returns-in_err-tree-clause-over g c tight next told is)
 
-pub returns-in_err-tree-clause-stays : goal.returns-in_err-tree-clause-stays
-returns-in_err-tree-clause-stays g c = λ sound.
+pub returns-in_err-tree-clause-made : goal.returns-in_err-tree-clause-made
+returns-in_err-tree-clause-made g c =
     let p = err_from_is_err_and c.from_residual.result c.from_residual.ensures.1 in
-    rw (p.1) (written g (goal.at.returns-in_err-tree-clause-stays g c).After-write_dir)
+    rw (p.1) tt
+
+pub returns-in_err-tree-clause-takes : goal.returns-in_err-tree-clause-takes
+returns-in_err-tree-clause-takes g c =
+    let p = err_from_is_err_and c.from_residual.result c.from_residual.ensures.1 in
+    rw (p.1, p.2) (takes-refused c.args.dir _ c.write_dir.new.io.space c.in_err-tree.field-0.0 c.write_dir.ensures.works.takes c.in_err-tree.ensures.works.full)
 
 pub returns-in_err-tree-clause-refused : goal.returns-in_err-tree-clause-refused
 returns-in_err-tree-clause-refused g c =
     let old = disk_of c.args.io.now in
     let space = c.args.io.now.space in
+    let fills = c.write_dir.ensures.works.fills in
     let p = err_from_is_err_and c.from_residual.result c.from_residual.ensures.1 in
-    rw (p.1, p.2) (Stays-from _ c.in_err-tree.field-0.0 (latest-spared space old.seen _ (IsTaken-label old.size space c.args.io.now.fits) c.write_dir.ensures.works.fills.seen))
+    rw (p.1, p.2) (record {
+      fills = λ apart. fills;
+      refused = Stays-from _ c.in_err-tree.field-0.0 (latest-spared space old.seen _ (IsTaken-label old.size space c.args.io.now.fits) fills.seen);
+      stays = λ sound. written g (goal.at.returns-in_err-tree-clause-refused g c).After-write_dir;
+    })
+
+pub returns-in_err-tree-clause-disk : goal.returns-in_err-tree-clause-disk
+returns-in_err-tree-clause-disk g c =
+    let works = c.write_dir.ensures.works in
+    record { size = works.fills.size; failed = search rules; honest = works.fills.honest; same = works.same }
 
 -- what the event was begun with, and what each image inside it reads as
 began : {tight : Bool} (g : Over) (c : After-commit_event g) (next : Pool) → IsHonest c.commit_event.new.io
@@ -67,15 +87,15 @@ began g c next told is =
     let less = c.write_dir.new.io.space in
     let ready = prepared old mid space less c.args.body.now c.next_body-next.result c.args.guids c.end.result c.in_ok-tree.tree.levels c.in_ok-tree.length c.in_ok-tree.tree.root c.args.dir next
     c.next_body-next.ensures c.end.ensures c.write_dir.ensures.works.takes.sectors c.requires.sectors c.requires.ready.in_range c.write_dir.ensures.works.fills c.write_dir.new.io.fits
-    (g.met.D.Disk.seen_size c.write_dir.new.io.disk.now) c.commit_event.ensures.uber_fits c.in_ok-tree.ensures.there is in
-    (ready, commit-moments old mid _ space less c.next_body-next.result c.args.dir next (IsTaken-label old.size space c.args.io.now.fits) c.write_dir.ensures.works.fills ready (c.commit_event.ensures.moments told))
+    (g.met.D.Disk.seen_size c.write_dir.new.io.disk.now) c.commit_event.ensures.commits.written.fits c.in_ok-tree.ensures.there is in
+    (ready, commit-moments old mid _ space less c.next_body-next.result c.args.dir next (IsTaken-label old.size space c.args.io.now.fits) c.write_dir.ensures.works.fills ready (c.commit_event.ensures.commits.written.moments told))
 
 pub returns-in-Ok-clause-over : goal.returns-in-Ok-clause-over
 returns-in-Ok-clause-over g c = λ tight next told is.
     let event = began g (goal.at.returns-in-Ok-clause-over g c).After-commit_event next told is in
     record {
       moments = event.1;
-      answer = commit-rests (disk_of c.write_dir.new.io) _ c.next_body-next.result c.args.dir next event.0 c.commit_event.ensures.writes (c.in-Ok.ensures.stands told) c.in-Ok.ensures.durable;
+      answer = commit-rests (disk_of c.write_dir.new.io) _ c.next_body-next.result c.args.dir next event.0 c.commit_event.ensures.commits.written.writes (c.in-Ok.ensures.commits.written.stands told) c.in-Ok.ensures.commits.written.durable;
     }
 
 pub returns-in-Ok-clause-commits : goal.returns-in-Ok-clause-commits
@@ -91,33 +111,71 @@ pub returns-in-Err-clause-commits : goal.returns-in-Err-clause-commits
 returns-in-Err-clause-commits g c = λ tight start rows pool next told rests fills is.
     Commits-over (g.D.Disk.state start) _ _ _ c.commit_event.new.io.space c.args.body.now rows pool next _ rests fills (returns-in-Err-clause-over g c tight next told is)
 
-pub returns-in-Ok-clause-ready : goal.returns-in-Ok-clause-ready
-returns-in-Ok-clause-ready g c =
-    let new = disk_of c.commit_event.new.io in
-    let less = c.write_dir.new.io.space in
-    let size = c.commit_event.ensures.writes.size ∙ c.write_dir.ensures.works.fills.size in
-    let fits = subst (FitsDisk new.size) c.commit_event.ensures.space c.commit_event.new.io.fits in
-    record {
-      in_range = next_in_range _ new.size c.args.body.now c.next_body-next.result less c.args.guids c.end.result c.in_ok-tree.tree.levels c.in_ok-tree.length c.in_ok-tree.tree.root c.args.dir c.next_body-next.ensures c.end.ensures
-          (c.write_dir.ensures.works.takes.sectors ∙ c.requires.sectors) (subst (λ (n : ℕ). InRange n c.args.body.now) (sym size) c.requires.ready.in_range) fits c.in_ok-tree.ensures.there;
-      next = λ told. c.in-Ok.ensures.following told;
-      label = λ told. c.in-Ok.ensures.label;
-    }
-
-pub returns-in-Ok-clause-blocks : goal.returns-in-Ok-clause-blocks
-returns-in-Ok-clause-blocks g c = λ ptr bytes has.
+pub returns-in-Ok-clause-made : goal.returns-in-Ok-clause-made
+returns-in-Ok-clause-made g c =
     let old = disk_of c.args.io.now in
     let mid = disk_of c.write_dir.new.io in
     let new = disk_of c.commit_event.new.io in
     let space = c.args.io.now.space in
     let less = c.write_dir.new.io.space in
     let next = c.next_body-next.result in
+    let works = c.write_dir.ensures.works in
+    let event = c.in-Ok.ensures.commits in
     let same_end : next.end ≡ less.end = ap (λ (u : Uber). u.end) c.next_body-next.ensures ∙ c.end.ensures in
-    Has-label (free_by next) mid.seen new.seen ptr bytes c.commit_event.ensures.writes.seen
-    (Has-fewer mid.seen less (free_by next) ptr bytes (free_by-fewer less next same_end) (KeepsBlocks-fills old mid space less c.write_dir.ensures.works.fills ptr bytes has))
+    let size = event.written.writes.size ∙ works.fills.size in
+    let fits = subst (FitsDisk new.size) c.commit_event.ensures.space c.commit_event.new.io.fits in
+    record {
+      number = ap (λ (u : Uber). u.number) c.next_body-next.ensures;
+      dir = refl;
+      blocks = λ ptr bytes has.
+          Has-label (free_by next) mid.seen new.seen ptr bytes event.written.writes.seen
+          (Has-fewer mid.seen less (free_by next) ptr bytes (free_by-fewer less next same_end) (KeepsBlocks-fills old mid space less works.fills ptr bytes has));
+      ends = (same_end ∙ ap (λ (s : FreeSectors). s.end) (sym c.commit_event.ensures.space), ap (λ (u : Uber). u.sectors) c.next_body-next.ensures);
+      bounded = λ none. omega (arith, same_end, end_bounded _ mid.size space less none works.takes c.write_dir.new.io.fits);
+      ready = record {
+        in_range = next_in_range _ new.size c.args.body.now next less c.args.guids c.end.result c.in_ok-tree.tree.levels c.in_ok-tree.length c.in_ok-tree.tree.root c.args.dir c.next_body-next.ensures c.end.ensures
+            (works.takes.sectors ∙ c.requires.sectors) (subst (λ (n : ℕ). InRange n c.args.body.now) (sym size) c.requires.ready.in_range) fits c.in_ok-tree.ensures.there;
+        next = λ told. event.following told;
+        label = λ told. event.label;
+      };
+    }
 
-pub returns-in-Ok-clause-bounded : goal.returns-in-Ok-clause-bounded
-returns-in-Ok-clause-bounded g c = λ none.
-    let less = c.write_dir.new.io.space in
-    let end : c.next_body-next.result.end ≡ less.end = ap (λ (u : Uber). u.end) c.next_body-next.ensures ∙ c.end.ensures in
-    omega (arith, end, end_bounded _ (disk_of c.write_dir.new.io).size c.args.io.now.space less none c.write_dir.ensures.works.takes c.write_dir.new.io.fits)
+pub returns-in-Ok-clause-takes : goal.returns-in-Ok-clause-takes
+returns-in-Ok-clause-takes g c =
+    let space = c.args.io.now.space in
+    let same = sym c.commit_event.ensures.space in
+    record {
+      takes = subst (λ (less : FreeSectors). TakesAtMost (dir_sectors (length (dir_bytes c.args.dir))) space less) same c.write_dir.ensures.works.takes;
+      one_leaf = λ small. subst (λ (less : FreeSectors). room less + 16 ≡ room space) same (c.in_ok-tree.ensures.one_leaf small);
+      full = λ need largest is. absurd (cc (is));
+    }
+
+pub returns-in-Ok-clause-refused : goal.returns-in-Ok-clause-refused
+returns-in-Ok-clause-refused g c = record { fills = λ apart. tt; refused = tt; stays = λ sound. tt }
+
+pub returns-in-Ok-clause-disk : goal.returns-in-Ok-clause-disk
+returns-in-Ok-clause-disk g c =
+    let works = c.write_dir.ensures.works in
+    let writes = c.commit_event.ensures.commits.written.writes in
+    record { size = writes.size ∙ works.fills.size; failed = search rules; honest = λ told. works.fills.honest (writes.honest told); same = c.commit_event.ensures.same ∙ works.same }
+
+pub returns-in-Err-clause-made : goal.returns-in-Err-clause-made
+returns-in-Err-clause-made g c = tt
+
+pub returns-in-Err-clause-takes : goal.returns-in-Err-clause-takes
+returns-in-Err-clause-takes g c =
+    let space = c.args.io.now.space in
+    record {
+      takes = subst (λ (less : FreeSectors). TakesAtMost (dir_sectors (length (dir_bytes c.args.dir))) space less) (sym c.commit_event.ensures.space) c.write_dir.ensures.works.takes;
+      one_leaf = λ small. tt;
+      full = λ need largest is. absurd (cc (is));
+    }
+
+pub returns-in-Err-clause-refused : goal.returns-in-Err-clause-refused
+returns-in-Err-clause-refused g c = record { fills = λ apart. absurd (apart refl); refused = tt; stays = search rules }
+
+pub returns-in-Err-clause-disk : goal.returns-in-Err-clause-disk
+returns-in-Err-clause-disk g c =
+    let works = c.write_dir.ensures.works in
+    let writes = c.commit_event.ensures.commits.written.writes in
+    record { size = writes.size ∙ works.fills.size; failed = search rules; honest = λ told. works.fills.honest (writes.honest told); same = c.commit_event.ensures.same ∙ works.same }

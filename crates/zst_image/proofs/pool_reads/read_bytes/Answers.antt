@@ -50,11 +50,6 @@ returns-in-Err-clause-there g c = λ text told has long.
 pub returns-in-Err-clause-fault : goal.returns-in-Err-clause-fault
 returns-in-Err-clause-fault g c = leaves_load c.in-Err.fault c.of_leaves.result c.of_leaves.ensures
 
-pub returns-in-Err-clause-cause : goal.returns-in-Err-clause-cause
-returns-in-Err-clause-cause g c =
-    let made = leaves_cause (Vec ℕ Global) (Vec ℕ Global) _ _ c.in-Err.fault c.of_leaves.result c.of_leaves.ensures c.in-Err.ensures.looks.cause in
-    search (rules, made)
-
 pub returns-in-Err-clause-damaged : goal.returns-in-Err-clause-damaged
 returns-in-Err-clause-damaged g c = λ told.
     let here : IsHonest c.read_leaves-read.new.io = search (rules, told) in
@@ -78,9 +73,6 @@ returns-in-Ok-clause-fault g c = search rules
 pub returns-in-Ok-clause-reads : goal.returns-in-Ok-clause-reads
 returns-in-Ok-clause-reads g c = search rules
 
-pub returns-in-Ok-clause-cause : goal.returns-in-Ok-clause-cause
-returns-in-Ok-clause-cause g c = search rules
-
 pub returns-in-Err-clause-only : goal.returns-in-Err-clause-only
 returns-in-Err-clause-only g c = search rules
 
@@ -88,4 +80,6 @@ pub returns-in-Err-clause-length : goal.returns-in-Err-clause-length
 returns-in-Err-clause-length g c = search rules
 
 pub returns-in-Err-clause-reads : goal.returns-in-Err-clause-reads
-returns-in-Err-clause-reads g c = search rules
+returns-in-Err-clause-reads g c =
+    let made = leaves_cause (Vec ℕ Global) (Vec ℕ Global) _ _ c.in-Err.fault c.of_leaves.result c.of_leaves.ensures c.in-Err.ensures.looks.cause in
+    record { reads = search rules; cause = search (rules, made) }

@@ -43,9 +43,6 @@ returns-then-body-ne0-clause-fault g c = search rules
 pub returns-then-body-ne0-clause-reads : goal.returns-then-body-ne0-clause-reads
 returns-then-body-ne0-clause-reads g c = search rules
 
-pub returns-then-body-ne0-clause-cause : goal.returns-then-body-ne0-clause-cause
-returns-then-body-ne0-clause-cause g c = search rules
-
 pub returns-in-Some-clause-damaged : goal.returns-in-Some-clause-damaged
 returns-in-Some-clause-damaged g c = search rules
 
@@ -55,9 +52,6 @@ returns-in-Some-clause-fault g c = search rules
 pub returns-in-Some-clause-reads : goal.returns-in-Some-clause-reads
 returns-in-Some-clause-reads g c = search rules
 
-pub returns-in-Some-clause-cause : goal.returns-in-Some-clause-cause
-returns-in-Some-clause-cause g c = search rules
-
 pub returns-clause-only : goal.returns-clause-only
 returns-clause-only g c = search rules
 
@@ -66,6 +60,3 @@ returns-clause-fault g c = search rules
 
 pub returns-clause-reads : goal.returns-clause-reads
 returns-clause-reads g c = search rules
-
-pub returns-clause-cause : goal.returns-clause-cause
-returns-clause-cause g c = search rules

@@ -24,9 +24,9 @@ returns-clause-runs g c = λ definition makes.
     (runs_committed definition (cells_only 0) kept io io (io_of c.commit_dir.new.io) c.args.dir made c.of_committed.ensures c.requires.ready (idle_wrote kept (cells_only 0) io None refl c.requires.space)
     (λ tight running told rested.
     let way = begun old kept running rested space c.requires.space in
-    did_rows old old new space c.commit_dir.new.io.space kept running (definition running) c.args.guids c.args.dir made way (makes tight old.seen space running (way_runs old old space kept running way)) c.datasets-lawful.ensures.lawful c.requires.number
-    (λ next is. commit.commits tight c.args.io.now.disk.now way.rested.rows (kept_of running) next told way.rested.rests way.fills is) commit.dir commit.blocks commit.fills)
-    c.requires.grows commit.full commit.takes commit.ends commit.fills commit.ready commit.stays commit.size commit.failed commit.cause commit.honest commit.same)
+    did_rows old io (io_of c.commit_dir.new.io) kept running (definition running) c.args.guids c.args.dir made way (makes tight old.seen space running (way_runs old old space kept running way)) c.datasets-lawful.ensures.lawful c.requires.number
+    (λ next is. commit.commits tight c.args.io.now.disk.now way.rested.rows (kept_of running) next told way.rested.rests way.fills is) commit.made commit.refused)
+    c.requires.grows commit.made commit.takes commit.refused commit.disk commit.cause)
 
 pub returns-clause-unplanned : goal.returns-clause-unplanned
 returns-clause-unplanned g c = λ fault is. no_plan-commit c.commit_dir.result c.of_committed.ensures fault is

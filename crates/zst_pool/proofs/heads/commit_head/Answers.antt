@@ -72,7 +72,7 @@ returns-clause-ran g c = λ start failed reference make cost changed.
     runs_committed (λ pool. on_head name pool (make pool)) cost kept rest (io_of c.args.io.now) (io_of c.commit_dir.new.io) c.set_head.new.self c.commit_dir.result c.of_committed.ensures c.requires.ready
     (subst (Wrote kept cost rest (io_of c.args.io.now)) c.in_ok-judge.ensures.went_well (changed.works, changed.exact))
     (λ tight running told rests.
-    let made = changed.made {tight = tight} running (commit.honest told) rests in
+    let made = changed.made {tight = tight} running (commit.disk.honest told) rests in
     let head = c.in_ok-judge.ensures.judged (bound_of tight (running.number + 1)) old.seen space set name running (make running made.0) rests.rests.reads.described.number made.1 in
     let is = made.2 ∙ ap (λ (r : Result DatedState Refusal). r >>= λ after. committed (with_head_of name after running)) head.1 ∙ head.3 in
     let way : IsUnderWay tight from old space kept running = record { rested = rests; fills = fills } in
@@ -86,9 +86,9 @@ returns-clause-ran g c = λ start failed reference make cost changed.
       few = few_guids (Has old.seen space) kept running runs;
       runs_by = subst (λ (r : Rows). RunsBy (bound_of tight (running.number + 1)) (Has old.seen space) r (with_head_of name head.0 running)) (sym dir) (head_runs (Has old.seen space) kept.dir running name set head.0 (RunsBy-later tight running.number (running.number + 1) (omega arith) (Has old.seen space) kept.dir running runs.runs_by) head.2);
     } in
-    did_rows from old last space c.commit_dir.new.io.space kept running (on_head name running (make running)) kept.body.guids c.set_head.new.self c.commit_dir.result way makes c.datasets-lawful.ensures.lawful c.in_ok-judge.ensures.below
-    (λ next told_next. commit.commits tight start rests.rows (kept_of running) next told rests.rests fills told_next) commit.dir commit.blocks commit.fills)
-    grows commit.full commit.takes commit.ends commit.fills commit.ready commit.stays commit.size commit.failed commit.cause commit.honest commit.same
+    did_rows from (io_of c.args.io.now) (io_of c.commit_dir.new.io) kept running (on_head name running (make running)) kept.body.guids c.set_head.new.self c.commit_dir.result way makes c.datasets-lawful.ensures.lawful c.in_ok-judge.ensures.below
+    (λ next told_next. commit.commits tight start rests.rows (kept_of running) next told rests.rests fills told_next) commit.made commit.refused)
+    grows commit.made commit.takes commit.refused commit.disk commit.cause
 
 pub returns-in_err-judge-clause-damaged : goal.returns-in_err-judge-clause-damaged
 returns-in_err-judge-clause-damaged g c = λ sector stated found is.

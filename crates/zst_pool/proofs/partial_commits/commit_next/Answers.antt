@@ -1,5 +1,6 @@
 use Rattle.std.proofs.Common.{refl, ◌≡◌, length, sym, ◌∙◌, subst}
 use Rattle.std.specs.Prelude.{Result}
+use Rattle.std.proofs.lemmas.Result.{IfOk-weaker}
 use Rattle.zst_block.specs.Blocks.{Has, KeepsBlocks}
 use Rattle.zst_block.specs.IoStates.{io_of}
 use Rattle.zst_model.specs.pools.KeptPool.{kept_of}
@@ -42,6 +43,8 @@ returns-clause-did g c = λ tight start running next told way anew runs.
     let from = g.D.Disk.state start in
     let old = g.D.Disk.state c.args.io.now.disk.now in
     let new = g.D.Disk.state c.commit_dir.new.io.disk.now in
+    let io = io_of c.args.io.now in
+    let last = io_of c.commit_dir.new.io in
     let kept = c.args.kept.now in
     let space = c.args.io.now.space in
     let has = Has old.seen space in
@@ -57,28 +60,28 @@ returns-clause-did g c = λ tight start running next told way anew runs.
     let after = next_lawful has kept running next kept.body.guids c.args.dir lawful was anew.id anew.number (anew.guids ∙ was.guids) few below runs in
     let commits = commit.commits tight start way.rested.rows (kept_of running) (kept_of (next_of next).pool) told way.rested.rests way.fills is in
     subst (λ (r : Result PoolState PoolFault). CallDid tight from new kept running (next_commit next) r) (sym c.of_committed.ensures)
-    (call_did from new kept way.rested.rows running (next_of next).pool (next_commit next) judged made (λ need largest full. (commit.full need largest full).shorter) commits
-    (number_after made kept.body.number next.number number commit.number)
-    (rests_next from old new space kept way.rested.rows c.args.dir running next made commits anew.number runs after commit.dir commit.blocks) (rests_unless from old new space c.commit_dir.new.io.space kept running made way commit.fills))
+    (call_did from new kept way.rested.rows running (next_of next).pool (next_commit next) judged made (λ need largest full. (commit.takes.full need largest full).shorter) commits
+    (number_after io last kept.body c.args.dir made next.number number commit.made)
+    (rests_next from io last kept way.rested.rows c.args.dir running next made commits anew.number runs after commit.made) (rests_unless from old new space last.space kept running made way commit.refused.fills))
 
 pub returns-clause-known : goal.returns-clause-known
-returns-clause-known g c = answers_known c.commit_dir.result c.of_committed.result c.of_committed.ensures (λ need largest full. (c.commit_dir.ensures.full need largest full).shorter)
+returns-clause-known g c = answers_known c.commit_dir.result c.of_committed.result c.of_committed.ensures (λ need largest full. (c.commit_dir.ensures.takes.full need largest full).shorter)
 
 pub returns-clause-full : goal.returns-clause-full
-returns-clause-full g c = λ need largest full. c.commit_dir.ensures.full need largest (answers_full c.commit_dir.result c.of_committed.result c.of_committed.ensures need largest full)
+returns-clause-full g c = λ need largest full. c.commit_dir.ensures.takes.full need largest (answers_full c.commit_dir.result c.of_committed.result c.of_committed.ensures need largest full)
 
 pub returns-clause-blocks : goal.returns-clause-blocks
 returns-clause-blocks g c =
     let old = g.D.Disk.state c.args.io.now.disk.now in
     let new = g.D.Disk.state c.commit_dir.new.io.disk.now in
-    answers_ok c.commit_dir.result c.of_committed.result c.of_committed.ensures (λ next. KeepsBlocks old.seen c.args.io.now.space new.seen (free_by next.body)) c.commit_dir.ensures.blocks
+    let Kept : PoolState → Type 0 = λ next. KeepsBlocks old.seen c.args.io.now.space new.seen (free_by next.body) in
+    answers_ok c.commit_dir.result c.of_committed.result c.of_committed.ensures Kept (IfOk-weaker c.commit_dir.result _ Kept (λ next is. is.blocks) c.commit_dir.ensures.made)
 
 pub returns-clause-next : goal.returns-clause-next
 returns-clause-next g c =
-    let commit = c.commit_dir.ensures in
-    answers_follows c.commit_dir.result c.of_committed.result c.of_committed.ensures c.args.io.now.space c.args.kept.now c.args.dir c.commit_dir.new.io.space.end c.in_ok-check_limits.ensures.below commit.dir commit.ends commit.bounded
+    answers_follows c.commit_dir.result c.of_committed.result c.of_committed.ensures c.args.kept.now c.args.dir (io_of c.args.io.now) (io_of c.commit_dir.new.io) c.in_ok-check_limits.ensures.below c.commit_dir.ensures.made
 
 pub returns-clause-commits : goal.returns-clause-commits
 returns-clause-commits g c =
     let commit = c.commit_dir.ensures in
-    answers_ends c.commit_dir.result c.of_committed.result c.of_committed.ensures c.args.kept.now (io_of c.args.io.now) (io_of c.commit_dir.new.io) commit.ready commit.stays commit.size commit.failed commit.cause commit.honest commit.same
+    answers_ends c.commit_dir.result c.of_committed.result c.of_committed.ensures c.args.kept.now c.args.dir (io_of c.args.io.now) (io_of c.commit_dir.new.io) commit.made commit.refused commit.disk commit.cause

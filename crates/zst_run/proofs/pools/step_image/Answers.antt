@@ -10,7 +10,7 @@ pub returns-in_err-kept : goal.returns-in_err-kept
 returns-in_err-kept g c =
     let e = c.in_err-kept.ensures in
     let p = err_from_is_err_and c.from_residual.result c.from_residual.ensures.1 in
-    rw (p.1, p.2) (stepping_unopened c.args.now c.args.command _ _ c.in_err-kept.field-0.0 e.there e.answer e.reads (λ alive. e.synced (λ is. alive (cc is))) e.cause)
+    rw (p.1, p.2) (stepping_unopened c.args.now c.args.command _ _ c.in_err-kept.field-0.0 e.there e.answer e.reads.reads (λ alive. e.synced (λ is. alive (cc is))) e.reads.cause)
 
 pub returns-in_err-reply : goal.returns-in_err-reply
 returns-in_err-reply g c =
@@ -23,8 +23,8 @@ returns-in_err-reply g c =
     let laws : KeepLaws = (rest.same, c.steps_keep_partials.ensures.kept, c.images_keep_partials.ensures) in
     let stepping = stepping_refused laws c.reads_as_one.ensures.rows c.reads_are_kept.ensures c.args.now c.args.command
     (g.D.Disk.state c.args.here.now) (g.D.Disk.state c.new-pool.result.io.disk.now) (g.D.Disk.state c.step-reply.new.self.io.disk.now)
-    c.in_ok-kept.kept c.step-reply.new.self.kept (rw (sym n.disk) at e.there) (λ told. s.settles.honest told) (rw (sym n.disk) at e.answer) (rw (sym n.disk) at e.reads) (rw (sym n.disk) at e.rests)
-    (λ tight rows pool rests same. rest.rests tight c.new-pool.result.io.disk.now c.in_ok-kept.kept rows pool rests same) (rw (sym n.disk) at e.cause.later)
+    c.in_ok-kept.kept c.step-reply.new.self.kept (rw (sym n.disk) at e.there) (λ told. s.settles.honest told) (rw (sym n.disk) at e.answer) (rw (sym n.disk) at e.reads.reads) (rw (sym n.disk) at e.rests)
+    (λ tight rows pool rests same. rest.rests tight c.new-pool.result.io.disk.now c.in_ok-kept.kept rows pool rests same) (rw (sym n.disk) at e.reads.cause.later)
     (λ tight pool told rests. s.did.moments tight pool told (rw (n.kept) rests))
     (λ idle. (s.only_answers idle).reads)
     (g.met.D.Disk.only_now c.args.here.now) (g.met.D.Disk.counts_now c.step-reply.new.self.io.disk.now)
@@ -44,8 +44,8 @@ returns g c =
     let laws : KeepLaws = (rest.same, c.steps_keep_partials.ensures.kept, c.images_keep_partials.ensures) in
     let stepping = stepping_done laws c.reads_as_one.ensures.rows c.reads_are_kept.ensures c.args.now c.args.command
     (g.D.Disk.state c.args.here.now) (g.D.Disk.state c.new-pool.result.io.disk.now) (g.D.Disk.state c.step-reply.new.self.io.disk.now)
-    c.in_ok-kept.kept c.step-reply.new.self.kept (rw (sym n.disk) at e.there) (λ told. s.settles.honest told) (rw (sym n.disk) at e.answer) (rw (sym n.disk) at e.reads) (rw (sym n.disk) at e.rests)
-    (λ tight rows pool rests same. rest.rests tight c.new-pool.result.io.disk.now c.in_ok-kept.kept rows pool rests same) (rw (sym n.disk) at e.cause.later)
+    c.in_ok-kept.kept c.step-reply.new.self.kept (rw (sym n.disk) at e.there) (λ told. s.settles.honest told) (rw (sym n.disk) at e.answer) (rw (sym n.disk) at e.reads.reads) (rw (sym n.disk) at e.rests)
+    (λ tight rows pool rests same. rest.rests tight c.new-pool.result.io.disk.now c.in_ok-kept.kept rows pool rests same) (rw (sym n.disk) at e.reads.cause.later)
     (λ tight pool told rests. s.did.moments tight pool told (rw (n.kept) rests))
     (λ idle. (s.only_answers idle).reads)
     (g.met.D.Disk.only_now c.args.here.now) (g.met.D.Disk.counts_now c.step-reply.new.self.io.disk.now)

@@ -2,6 +2,7 @@ use Rattle.std.proofs.Common.{◌∙◌, ◌*◌, ℕ, arith, rules, subst, sym}
 use Rattle.zst_space.proofs.FreeSectorsLaws.{Rise-end}
 use Rattle.zst_block.specs.Blocks.{FitsDisk}
 use Rattle.zst_block.specs.IoStates.{disk_of}
+use Rattle.zst_block.proofs.BlocksLaws.{Has-label}
 use Rattle.zst_uber.proofs.Stages.{keeps_blocks}
 use Rattle.zst_uber.proofs.commits.commit_event.Goals as goal
 
@@ -10,41 +11,14 @@ commit-outcome-requires-clause-room g c =
     let fits = c.args.io.now.fits in
     omega (arith, Rise-end 8 c.args.io.now.space.end c.args.io.now.space.free fits.extents.extents, fits.extents.end, fits.sectors)
 
+pub returns-then-is_err-clause-commits : goal.returns-then-is_err-clause-commits
+returns-then-is_err-clause-commits g c = c.commit-outcome.ensures.commits
+
 pub returns-then-is_err-clause-images : goal.returns-then-is_err-clause-images
-returns-then-is_err-clause-images g c = λ image told now. keeps_blocks c.args.uber.now (disk_of c.args.io.now) image (c.commit-outcome.ensures.images image told now)
-
-pub returns-else-is_err-clause-images : goal.returns-else-is_err-clause-images
-returns-else-is_err-clause-images g c = λ image told now. keeps_blocks c.args.uber.now (disk_of c.args.io.now) image (c.commit-outcome.ensures.images image told now)
-
-pub returns-then-is_err-clause-moments : goal.returns-then-is_err-clause-moments
-returns-then-is_err-clause-moments g c = search rules
+returns-then-is_err-clause-images g c = λ image told now. keeps_blocks c.args.uber.now (disk_of c.args.io.now) image (c.commit-outcome.ensures.commits.images image told now)
 
 pub returns-then-is_err-clause-kept : goal.returns-then-is_err-clause-kept
-returns-then-is_err-clause-kept g c = search rules
-
-pub returns-then-is_err-clause-writes : goal.returns-then-is_err-clause-writes
-returns-then-is_err-clause-writes g c = search rules
-
-pub returns-then-is_err-clause-stands : goal.returns-then-is_err-clause-stands
-returns-then-is_err-clause-stands g c = search rules
-
-pub returns-then-is_err-clause-following : goal.returns-then-is_err-clause-following
-returns-then-is_err-clause-following g c = search rules
-
-pub returns-then-is_err-clause-durable : goal.returns-then-is_err-clause-durable
-returns-then-is_err-clause-durable g c = search rules
-
-pub returns-then-is_err-clause-label : goal.returns-then-is_err-clause-label
-returns-then-is_err-clause-label g c = search rules
-
-pub returns-then-is_err-clause-uber_fits : goal.returns-then-is_err-clause-uber_fits
-returns-then-is_err-clause-uber_fits g c = search rules
-
-pub returns-then-is_err-clause-cause : goal.returns-then-is_err-clause-cause
-returns-then-is_err-clause-cause g c = search rules
-
-pub returns-then-is_err-clause-only : goal.returns-then-is_err-clause-only
-returns-then-is_err-clause-only g c = search rules
+returns-then-is_err-clause-kept g c = λ space ptr bytes has. Has-label space _ _ ptr bytes c.commit-outcome.ensures.commits.written.writes.seen has
 
 pub returns-then-is_err-clause-failed : goal.returns-then-is_err-clause-failed
 returns-then-is_err-clause-failed g c = search rules
@@ -55,35 +29,14 @@ returns-then-is_err-clause-space g c = search rules
 pub returns-then-is_err-clause-same : goal.returns-then-is_err-clause-same
 returns-then-is_err-clause-same g c = search rules
 
-pub returns-else-is_err-clause-moments : goal.returns-else-is_err-clause-moments
-returns-else-is_err-clause-moments g c = search rules
+pub returns-else-is_err-clause-commits : goal.returns-else-is_err-clause-commits
+returns-else-is_err-clause-commits g c = c.commit-outcome.ensures.commits
+
+pub returns-else-is_err-clause-images : goal.returns-else-is_err-clause-images
+returns-else-is_err-clause-images g c = λ image told now. keeps_blocks c.args.uber.now (disk_of c.args.io.now) image (c.commit-outcome.ensures.commits.images image told now)
 
 pub returns-else-is_err-clause-kept : goal.returns-else-is_err-clause-kept
-returns-else-is_err-clause-kept g c = search rules
-
-pub returns-else-is_err-clause-writes : goal.returns-else-is_err-clause-writes
-returns-else-is_err-clause-writes g c = search rules
-
-pub returns-else-is_err-clause-stands : goal.returns-else-is_err-clause-stands
-returns-else-is_err-clause-stands g c = search rules
-
-pub returns-else-is_err-clause-following : goal.returns-else-is_err-clause-following
-returns-else-is_err-clause-following g c = search rules
-
-pub returns-else-is_err-clause-durable : goal.returns-else-is_err-clause-durable
-returns-else-is_err-clause-durable g c = search rules
-
-pub returns-else-is_err-clause-label : goal.returns-else-is_err-clause-label
-returns-else-is_err-clause-label g c = search rules
-
-pub returns-else-is_err-clause-uber_fits : goal.returns-else-is_err-clause-uber_fits
-returns-else-is_err-clause-uber_fits g c = search rules
-
-pub returns-else-is_err-clause-cause : goal.returns-else-is_err-clause-cause
-returns-else-is_err-clause-cause g c = search rules
-
-pub returns-else-is_err-clause-only : goal.returns-else-is_err-clause-only
-returns-else-is_err-clause-only g c = search rules
+returns-else-is_err-clause-kept g c = λ space ptr bytes has. Has-label space _ _ ptr bytes c.commit-outcome.ensures.commits.written.writes.seen has
 
 pub returns-else-is_err-clause-failed : goal.returns-else-is_err-clause-failed
 returns-else-is_err-clause-failed g c = search rules
@@ -97,7 +50,7 @@ returns-else-is_err-clause-same g c = search rules
 -- the disk is as long as it was, and what is kept stands behind sectors 0 to 7, which alone are written
 pub invariant_of-io : goal.invariant_of-io
 invariant_of-io g c =
-    let writes = c.commit-outcome.ensures.writes in
+    let writes = c.commit-outcome.ensures.commits.written.writes in
     record {
       fits = subst (λ (size : ℕ). FitsDisk size c.args.io.now.space) (sym writes.size) c.args.io.now.fits;
       told = λ honest sector bytes is.
@@ -108,7 +61,7 @@ invariant_of-io g c =
 
 pub invariant_of-io-else-is_err : goal.invariant_of-io-else-is_err
 invariant_of-io-else-is_err g c =
-    let writes = c.commit-outcome.ensures.writes in
+    let writes = c.commit-outcome.ensures.commits.written.writes in
     record {
       fits = subst (λ (size : ℕ). FitsDisk size c.args.io.now.space) (sym writes.size) c.args.io.now.fits;
       told = λ honest sector bytes is.

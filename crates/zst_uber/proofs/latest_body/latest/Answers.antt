@@ -7,19 +7,19 @@ pub returns-in-Some-clause-there : goal.returns-in-Some-clause-there
 returns-in-Some-clause-there g c = λ uber told is.
     let same : Some c.in-Some.body ≡ latest (g.D.Disk.state c.args.disk.now).seen = sym c.in-Some.is ∙ c.in_ok-slot.ensures.body told ∙ ap latest c.sync.ensures.reads.seen in
     gives_latest (g.D.Disk.state c.args.disk.now).size _ _ uber c.in-Some.body _ c.decode.result
-    (c.bytes.ensures ∙ c.newest.ensures.reads.size ∙ c.sync.ensures.reads.size) same is c.decode.ensures
+    (c.bytes.ensures ∙ c.newest.ensures.reads.reads.size ∙ c.sync.ensures.reads.size) same is c.decode.ensures
 
 pub returns-in-Some-clause-stands : goal.returns-in-Some-clause-stands
 returns-in-Some-clause-stands g c = λ told.
     let same : Some c.in-Some.body ≡ latest (g.D.Disk.state c.args.disk.now).seen = sym c.in-Some.is ∙ c.in_ok-slot.ensures.body told ∙ ap latest c.sync.ensures.reads.seen in
     stands_latest (g.D.Disk.state c.args.disk.now).size _ _ c.in-Some.body _ c.decode.result
-    (c.bytes.ensures ∙ c.newest.ensures.reads.size ∙ c.sync.ensures.reads.size) same c.decode.ensures
+    (c.bytes.ensures ∙ c.newest.ensures.reads.reads.size ∙ c.sync.ensures.reads.size) same c.decode.ensures
 
 pub returns-in-Some-clause-next : goal.returns-in-Some-clause-next
 returns-in-Some-clause-next g c = λ told.
     let same : Some c.in-Some.body ≡ latest (g.D.Disk.state c.args.disk.now).seen = sym c.in-Some.is ∙ c.in_ok-slot.ensures.body told ∙ ap latest c.sync.ensures.reads.seen in
     next_latest (g.D.Disk.state c.args.disk.now).size _ _ c.in-Some.body _ c.decode.result
-    (c.bytes.ensures ∙ c.newest.ensures.reads.size ∙ c.sync.ensures.reads.size) same c.decode.ensures
+    (c.bytes.ensures ∙ c.newest.ensures.reads.reads.size ∙ c.sync.ensures.reads.size) same c.decode.ensures
 
 pub returns-in_err-sync : goal.returns-in_err-sync
 returns-in_err-sync g c = search rules
@@ -44,6 +44,3 @@ returns-in-Some-clause-label g c = search rules
 
 pub returns-in-Some-clause-reads : goal.returns-in-Some-clause-reads
 returns-in-Some-clause-reads g c = search rules
-
-pub returns-in-Some-clause-cause : goal.returns-in-Some-clause-cause
-returns-in-Some-clause-cause g c = search rules

@@ -11,7 +11,7 @@ pub settle_command-requires-clause-fits : goal.settle_command-requires-clause-fi
 settle_command-requires-clause-fits g c =
     let can = c.requires.works c.if-self.false in
     let body = c.args.self.now.kept.body in
-    subst (λ (size : ℕ). FitsDisk size (free_by body)) (sym c.commit_finished-committed.ensures.commits.size) (free_by_fits (g.D.Disk.state c.args.self.now.io.disk.now).size body can.ready.in_range)
+    subst (λ (size : ℕ). FitsDisk size (free_by body)) (sym c.commit_finished-committed.ensures.commits.disk.size) (free_by_fits (g.D.Disk.state c.args.self.now.io.disk.now).size body can.ready.in_range)
 
 pub settle_command-requires-clause-ready : goal.settle_command-requires-clause-ready
 settle_command-requires-clause-ready g c = c.commit_finished-committed.ensures.commits.ready
@@ -29,6 +29,6 @@ returns g c =
     let keeps = settled.ensures.keeps in
     record {
       puts = puts_committed pool settled.new.self made.new.io made.result settled.result c.if-self.false keeps.kept settled.ensures.space settled.ensures.disk partial_finished c.args.partial (rows_with_finished (pool.kept.body.number + 1) c.args.partial pool.kept.dir)
-          made.ensures.did made.ensures.rows made.ensures.known made.ensures.full made.ensures.grows made.ensures.blocks keeps.number settled.ensures.left;
+          made.ensures.puts keeps.number settled.ensures.left;
       settles = settles_committed pool settled.new.self made.new.io made.result settled.result c.if-self.false keeps.kept settled.ensures.space settled.ensures.disk pool.io.space made.ensures.commits keeps.stays;
     }

@@ -29,7 +29,7 @@ pub settle_command-requires-clause-fits : goal.settle_command-requires-clause-fi
 settle_command-requires-clause-fits g c =
     let ready = c.requires.ready c.if-self.false in
     let body = c.args.self.now.kept.body in
-    subst (λ (size : ℕ). FitsDisk size (free_by body)) (sym c.run-ran.ensures.runs.ran.commits.size) (free_by_fits (g.D.Disk.state c.args.self.now.io.disk.now).size body ready.in_range)
+    subst (λ (size : ℕ). FitsDisk size (free_by body)) (sym c.run-ran.ensures.runs.ran.commits.disk.size) (free_by_fits (g.D.Disk.state c.args.self.now.io.disk.now).size body ready.in_range)
 
 pub settle_command-requires-clause-ready : goal.settle_command-requires-clause-ready
 settle_command-requires-clause-ready g c = c.run-ran.ensures.runs.ran.commits.ready
