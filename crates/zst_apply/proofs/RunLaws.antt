@@ -1,7 +1,7 @@
 -- WRITE records of neighbouring blocks make what writes of the blocks make.
 use Rattle.std.proofs.Common.{◌≡◌, ℕ, ◌+◌, ◌*◌, ◌<◌, nat_lt, Bool, true, max, List, [], ◌∷◌, length, take, drop, refl, sym, ◌∙◌, ap, subst, arith, Option, Some, Result, Ok, Err}
 use Rattle.std.proofs.lemmas.List.{take_all}
-use Rattle.std.specs.Prelude.{IfErr, None}
+use Rattle.std.specs.Prelude.{None}
 use Rattle.zst_block.specs.declared.ptr.Ptr.{Ptr}
 use Rattle.zst_block.specs.declared.fault.BlockFault.TheVariants as blocks
 use Rattle.zst_dnode.specs.declared.dnode.Dnode.{Dnode}
@@ -20,7 +20,7 @@ use Rattle.zst_model.specs.pools.Step.{of_applying}
 use Rattle.zst_tree.specs.Indices.{Map}
 use Rattle.zst_tree.specs.Leaves.{with_leaf}
 use Rattle.zst_tree.specs.declared.leaf_puts.Leaf.{Leaf}
-use Rattle.zst_objset.specs.Answers.{Changes, NotLimit}
+use Rattle.zst_objset.specs.Answers.{Changes}
 use Rattle.zst_objset.specs.Changes.{block_written}
 use Rattle.zst_objset.specs.Dnodes.{BlockIs, SpillIs}
 use Rattle.zst_objset.specs.BlockRuns.{IsWritten, blocks_written}
@@ -28,7 +28,7 @@ use Rattle.zst_objset.specs.Sets.{IsBounded}
 use Rattle.zst_objset.specs.declared.fault.ObjFault.{ObjFault}
 use Rattle.zst_objset.specs.declared.fault.ObjFault.TheVariants as faults
 use Rattle.zst_objset.proofs.RunLaws.{Anything, IsRun, MayWrite, may_one, may_rest, step, then_is, with_end}
-use Rattle.zst_apply.specs.AppliedRecords.{Applies, LimitOfIndex}
+use Rattle.zst_apply.specs.AppliedRecords.{Applies}
 use Rattle.zst_apply.specs.AppliedRuns.{run_received}
 use Rattle.zst_apply.proofs.ByteRanges.{ends_past}
 use Rattle.zst_apply.proofs.EqualChanges.{same_write}

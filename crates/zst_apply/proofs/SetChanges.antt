@@ -16,14 +16,15 @@ use Rattle.zst_model.specs.states.State.{index_bound}
 use Rattle.zst_tree.specs.Sets.{SetFits}
 use Rattle.zst_tree.specs.declared.tree.ObjSet.{ObjSet}
 use Rattle.zst_objset.specs.Answers.{Changes, LimitOnly, NotLimit, NotRedacted, stop_of}
-use Rattle.zst_objset.specs.Damage.{IfSetDamaged}
+use Rattle.zst_objset.specs.Damage.{DamageFact, IfSetDamaged}
+use Rattle.zst_objset.specs.SetChanges.{ChangesSet, ChangesTightSet, KeepsSet, SetHas, SetHasTight}
 use Rattle.zst_objset.specs.Sets.{SetHolds}
 use Rattle.zst_objset.specs.TightSets.{SetIsTight}
 use Rattle.zst_objset.specs.declared.fault.ObjFault.{ObjFault}
 use Rattle.zst_objset.specs.declared.fault.ObjFault.TheVariants as faults
 use Rattle.zst_objset.proofs.LeafLaws.{look_on}
 use Rattle.zst_apply.specs.AppliedRecords.{LimitOfIndex, RefusesRecord, received_all}
-use Rattle.zst_apply.specs.Changed.{Changed, Keeps}
+use Rattle.zst_apply.specs.Changed.{Changed}
 use Rattle.zst_apply.specs.Damage.{apply_damage}
 use Rattle.zst_apply.proofs.RecordAnswers.{all_applied, applies_as, for_record}
 use Rattle.zst_apply.proofs.SetFaults.{told_before}
@@ -57,23 +58,37 @@ pub refused_after : {number most block : ℕ} {old new : IoState} {set : ObjSet}
 refused_after definition fault looks refuses limits unredacted damaged = record {
   changed = refuses;
   tight = λ index state honest tight dated. refuses index state honest tight.holds;
-  keeps = record { limits = limits; never_redacted = unredacted; damaged = damaged; kept = refl; levels = λ fit. fit; works = Works-looks looks };
+  keeps = record { limits = limits; unredacted = unredacted; damaged = damaged; kept = refl; works = Works-looks looks };
+  levels = λ fit. fit;
 }
 
-module _ {number most block : ℕ} {old new : IoState} {set made : ObjSet} where
-  -- a call that answers what the item makes
-  pub changed_by : (item : Item) (makes : DatedState → Result DatedState Refusal) (result : Result (Unit {0}) ObjFault)
-      → ((index : ℕ) (state : DatedState) → new.disk.honest → SetHolds (Has old.disk.seen old.space) set state → received number index item state ≡ for_record index (makes state))
-      → ((state : DatedState) → new.disk.honest → SetHolds (Has old.disk.seen old.space) set state → Changes (SetHolds (Has new.disk.seen new.space) made) (makes state) result)
+-- a call that changes a set keeps to what a record does, where its limits and its damage are a record's
+pub keeps_by : {most block : ℕ} {old new : IoState} {set made : ObjSet} {Limits : ObjFault → Type 0} {damage : DamageFact} (result : Result (Unit {0}) ObjFault)
+    → (IfErr result Limits → IfErr result LimitOfIndex) → (IfSetDamaged result damage → IfSetDamaged result (apply_damage (SparesTaken old.space old.disk.seen) old.disk.size set))
+    → KeepsSet Limits damage most block old new set made result
+    → KeepsSet LimitOfIndex (apply_damage (SparesTaken old.space old.disk.seen) old.disk.size set) most block old new set made result
+keeps_by result limits told keeps = record { limits = limits keeps.limits; unredacted = keeps.unredacted; damaged = λ honest. told (keeps.damaged honest); kept = keeps.kept; works = keeps.works }
+
+-- a call that answers what the item makes
+module _ {number most block : ℕ} {old new : IoState} {set made : ObjSet} {Limits : ObjFault → Type 0} {damage : DamageFact} (item : Item) (makes : DatedState → Result DatedState Refusal) (result : Result (Unit {0}) ObjFault)
+    (is : (index : ℕ) (state : DatedState) → new.disk.honest → SetHolds (Has old.disk.seen old.space) set state → received number index item state ≡ for_record index (makes state))
+    (limits : IfErr result Limits → IfErr result LimitOfIndex) (told : IfSetDamaged result damage → IfSetDamaged result (apply_damage (SparesTaken old.space old.disk.seen) old.disk.size set)) where
+  pub set_changed_by : ChangesSet SetHas makes Limits damage most block old new set made result
       → ((state : DatedState) → new.disk.honest → SetIsTight (Has old.disk.seen old.space) set state → DatedUpTo number state → Changes (SetIsTight (Has new.disk.seen new.space) made) (makes state) result)
-      → Keeps most block old new set made result
+      → (SetFits set → SetFits made)
       → Changed number (λ index. received number index item) most block old new set made result
-  changed_by item makes result is changes tightly keeps = record {
-    changed = λ index state honest holds. applies_as number index item state (makes state) (is index state honest holds) (SetHolds (Has new.disk.seen new.space) made) result (changes state honest holds);
+  set_changed_by changes tightly levels = record {
+    changed = λ index state honest holds. applies_as number index item state (makes state) (is index state honest holds) (SetHolds (Has new.disk.seen new.space) made) result (changes.changed state honest holds);
     tight = λ index state honest tight dated. applies_as number index item state (makes state) (is index state honest tight.holds) (SetIsTight (Has new.disk.seen new.space) made) result (tightly state honest tight dated);
-    keeps = keeps;
+    keeps = keeps_by result limits told changes.keeps;
+    levels = levels;
   }
 
+  pub changed_by : ChangesTightSet SetHas SetHasTight SetFits number makes Limits damage most block old new set made result
+      → Changed number (λ index. received number index item) most block old new set made result
+  changed_by changes = set_changed_by changes.set changes.tight (fits_then set made result changes.set.keeps.kept changes.levels)
+
+module _ {number most block : ℕ} {old new : IoState} {set made : ObjSet} where
   -- an item is all that a record says; what it may take is more
   pub record_changed : {fewer other : ℕ} (item : Item) (result : Result (Unit {0}) ObjFault) → Changed number (λ index. received number index item) fewer other old new set made result
       → Works most block old new (stop_of result)
@@ -81,14 +96,8 @@ module _ {number most block : ℕ} {old new : IoState} {set made : ObjSet} where
   record_changed item result did works = record {
     changed = λ index state honest holds. all_applied number index item state (SetHolds (Has new.disk.seen new.space) made) result (did.changed index state honest holds);
     tight = λ index state honest tight dated. all_applied number index item state (SetIsTight (Has new.disk.seen new.space) made) result (did.tight index state honest tight dated);
-    keeps = record {
-      limits = did.keeps.limits;
-      never_redacted = did.keeps.never_redacted;
-      damaged = did.keeps.damaged;
-      kept = did.keeps.kept;
-      levels = did.keeps.levels;
-      works = works;
-    };
+    keeps = record { limits = did.keeps.limits; unredacted = did.keeps.unredacted; damaged = did.keeps.damaged; kept = did.keeps.kept; works = works };
+    levels = did.levels;
   }
 
   -- a call behind one that read
@@ -99,10 +108,10 @@ module _ {number most block : ℕ} {old new : IoState} {set made : ObjSet} where
     tight = λ index state honest tight dated. did.tight index state honest (look_on (λ (seen : List ℕ) (free : FreeSectors). SetIsTight (Has seen free) set state) looks tight) dated;
     keeps = record {
       limits = did.keeps.limits;
-      never_redacted = did.keeps.never_redacted;
+      unredacted = did.keeps.unredacted;
       damaged = λ honest. told_before looks set result (did.keeps.damaged honest);
       kept = did.keeps.kept;
-      levels = did.keeps.levels;
       works = Works-after looks did.keeps.works;
     };
+    levels = did.levels;
   }

@@ -1,14 +1,17 @@
 //! WRITE records of neighbouring blocks of an object, applied at once.
-ghost use Rattle.std.specs.Prelude.{◌≡◌, ◌+◌, ◌*◌, ◌/◌, ◌%◌, ◌^◌, ◌<◌, ◌≤◌, ℕ, List, Some, length, true, false};
-ghost use Rattle.zst_block.specs.IoStates.{IsHonest, blocks_of, io_of};
+ghost use Rattle.std.specs.Prelude.{◌≡◌, ◌+◌, ◌*◌, ◌/◌, ◌^◌, ◌<◌, ℕ, List, Some, length, true, false};
+ghost use Rattle.zst_block.specs.IoStates.{IsHonest, IsSparedBy, blocks_of, disk_of, io_of};
 ghost use Rattle.zst_model.specs.pools.Soundness.{DatedUpTo};
 ghost use Rattle.zst_model.specs.states.DatedState.{DatedState};
 ghost use Rattle.zst_model.specs.states.State.{Object, is_block_size, is_odd_size};
+ghost use Rattle.zst_tree.specs.Sets.{SetFits};
+ghost use Rattle.zst_objset.specs.BlockRuns.{IsBlockRun};
+ghost use Rattle.zst_objset.specs.SetChanges.{KeepsSet};
 ghost use Rattle.zst_objset.specs.Sets.{SetHolds};
 ghost use Rattle.zst_objset.specs.TightSets.{SetIsTight};
-ghost use Rattle.zst_apply.specs.AppliedRecords.{Applies};
+ghost use Rattle.zst_apply.specs.AppliedRecords.{Applies, LimitOfIndex};
 ghost use Rattle.zst_apply.specs.AppliedRuns.{run_received};
-ghost use Rattle.zst_apply.specs.Changed.{Keeps};
+ghost use Rattle.zst_apply.specs.Damage.{apply_damage};
 
 use zst_block::Io;
 use zst_laws::applied_is_state;
@@ -31,16 +34,16 @@ pub fn write_run<D: Disk>(
     requires size { is_block_size size ≡ true }
     requires even { is_odd_size size ≡ false }
     requires some { 0 < count }
-    requires group { index % 128 + count ≤ 128 }
-    requires inside { index + count ≤ 2 ^ 43 }
-    requires long { length bytes.now ≡ count * size }
+    requires run { IsBlockRun index size count (length bytes.now) }
     ensures changed { (records : List (ℕ × ℕ)) (thing : Object) (state : DatedState) → IsHonest io.new → SetHolds (blocks_of io.old) set.old state
         → state.state object ≡ Some thing → thing.attr.block_size ≡ size → length records ≡ count
         → Applies 0 (SetHolds (blocks_of io.new) set.new) (run_received number object size (index * size) records bytes.now state) result }
     ensures tight { (records : List (ℕ × ℕ)) (thing : Object) (state : DatedState) → IsHonest io.new → SetIsTight (blocks_of io.old) set.old state → DatedUpTo number state
         → state.state object ≡ Some thing → thing.attr.block_size ≡ size → length records ≡ count
         → Applies 0 (SetIsTight (blocks_of io.new) set.new) (run_received number object size (index * size) records bytes.now state) result }
-    ensures keeps { Keeps (count * (size / 512) + 464) (size / 512) (io_of io.old) (io_of io.new) set.old set.new result }
+    ensures keeps { KeepsSet LimitOfIndex (apply_damage (IsSparedBy io.old) (disk_of io.old).size set.old) (count * (size / 512) + 464) (size / 512)
+        (io_of io.old) (io_of io.new) set.old set.new result }
+    ensures levels { SetFits set.old → SetFits set.new }
 {
     applied_is_state();
     write_blocks(set, io, object, index, size, count, bytes, number)

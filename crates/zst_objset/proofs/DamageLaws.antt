@@ -1,6 +1,6 @@
 -- What may be told as damaged of a set, from the block up.
 use Rattle.std.proofs.Common.{◌≡◌, ◌⊎◌, inl, inr, ⊎_elim, ℕ, zero, suc, ◌*◌, ◌^◌, ◌<◌, ◌≤◌, List, length, refl, sym, ◌∙◌, ap, subst, arith}
-use Rattle.std.specs.Prelude.{Option, Some, Result, Ok, Err, OnOk}
+use Rattle.std.specs.Prelude.{Option, Some, None, Result, Ok, Err, OnOk}
 use Rattle.std.proofs.lemmas.Bool.{cases_lt}
 use Rattle.zst_bytes.specs.Bytes.{bytes_at}
 use Rattle.zst_fletcher.specs.WeightSum.{parts_of}
@@ -21,7 +21,9 @@ use Rattle.zst_tree.proofs.Damage.{HangsBelow-grows, MayHave-more}
 use Rattle.zst_tree.proofs.ChangedTrees.{block_same, block_whole}
 use Rattle.zst_tree.proofs.LaterDamage.{IsBelow-more, seen_spared, spares_before}
 use Rattle.zst_tree.specs.Damage.{HangsBelow, HangsIn, IsSeen, IsWithin, MayHave, NamesNode, SumsUp, TellsNode}
+use Rattle.zst_tree.specs.Indices.{IsNoDamage}
 use Rattle.zst_tree.specs.declared.tree.ObjSet.{ObjSet}
+use Rattle.zst_objset.specs.Answers.{stop_of}
 use Rattle.zst_objset.specs.Damage.{AreAbsent, HasAllSlots, IsSetWithin, DamageFact, HasSlot, IfDamage, IfDamaged, IfSetDamaged, IsDamagedLeaf, IsDamagedObject, IsDamagedSet, IsLoaded, IsNoLeaf, IsToldOf, LacksSlot, SlotStands, StandsIn, TellsLacking}
 use Rattle.zst_objset.specs.declared.fault.ObjFault.{ObjFault}
 use Rattle.zst_objset.specs.declared.fault.ObjFault.TheVariants as faults
@@ -251,3 +253,24 @@ pub within_after : (old mid : DiskState) (space less : FreeSectors) → FillsFre
 within_after old mid space less fills set fewer made (Ok done) within =
     set_within (SparesTaken space old.seen) old.size mid.size set (SparesTaken less mid.seen) set fewer made fills.size (set_now old mid space less fills set) within
 within_after old mid space less fills set fewer made (Err fault) within = tt
+
+-- what a call tells of a node of the set's tree, and of a set of too many levels
+pub node_told : (images : List ℕ → Type 0) (size : ℕ) (set : ObjSet) (fault : BlockFault) → TellsNode images size NamesNode set.tree.levels set.tree.root fault → IfDamage fault (IsDamagedSet images size set)
+node_told images size set (Full need largest) told = tt
+node_told images size set (Damaged sector stated found) told = inr (inl told)
+node_told images size set DiskFault told = tt
+
+pub tall_told : (images : List ℕ → Type 0) (size : ℕ) (set : ObjSet) (fault : BlockFault) → fault ≡ Damaged set.tree.root.sector (parts_of set.tree.root.sum) (parts_of set.tree.root.sum) → 7 < set.tree.levels → IfDamage fault (IsDamagedSet images size set)
+tall_told images size set fault is tall = rw is (inl (record { tall = tall; sector_is = refl; stated_is = refl; found_is = refl }))
+
+-- a fault that tells no damage, and one of no block
+pub undamaged : (P : DamageFact) (fault : BlockFault) → IsNoDamage fault → IfDamage fault P
+undamaged P (Full need largest) is = tt
+undamaged P (Damaged sector stated found) is = absurd is
+undamaged P DiskFault is = tt
+
+pub unstopped : (T U : Type 0) (P : DamageFact) (fault : ObjFault) → stop_of {T = T} (Err fault) ≡ None → IfSetDamaged {T = U} (Err fault) P
+unstopped T U P (faults.CannotApply fault) is = tt
+unstopped T U P (faults.Redacted object block) is = tt
+unstopped T U P (faults.Limit which number) is = tt
+unstopped T U P (faults.Block fault) is = absurd (let e = is in cc)

@@ -154,22 +154,5 @@ absent_found has snap k date slot is found = none_found has snap k (subst (SlotI
 pub there_found : (has : Blocks) (snap : DatedState) (k : ℕ) (dnode : Dnode) (slot : Slot) → slot ≡ There dnode → SlotIs has snap k slot → DnodeIs has snap k (Some dnode)
 there_found has snap k dnode slot is found = dnode_found has snap k dnode (subst (SlotIs has snap k) is found)
 
--- the calls on the disk of a search in the tree of a set, and of one more call
-pub within_one_more : (before now : ℕ) → now ≤ before + 7 → now ≤ before + 8
-within_one_more before now few = omega arith
-
-pub calls_then : (before mid now : ℕ) → mid ≤ before + 7 → now ≤ mid + 1 → now ≤ before + 8
-calls_then before mid now few one = omega arith
-
--- the calls on the disk of a look at an object, at a leaf of its tree and at a block
-pub calls_more : (before now : ℕ) → now ≤ before + 8 → now ≤ before + 16
-calls_more before now few = omega arith
-
-pub calls_to_leaf : (before mid now : ℕ) → mid ≤ before + 8 → now ≤ mid + 7 → now ≤ before + 16
-calls_to_leaf before mid now first second = omega arith
-
-pub calls_through : (before mid late now : ℕ) → mid ≤ before + 8 → late ≤ mid + 7 → now ≤ late + 1 → now ≤ before + 16
-calls_through before mid late now first second third = omega arith
-
 pub same_calls : (now : ℕ) → now ≤ now + 1
 same_calls now = omega arith

@@ -10,6 +10,7 @@ pub mod LimitLaws
 pub mod ObjectLaws
 pub mod RangeLaws
 pub mod SearchLaws
+pub mod SetChangeLaws
 pub mod SetGrowth
 pub mod SetLaws
 pub mod OneState

@@ -14,13 +14,14 @@ use Rattle.zst_model.specs.declared.states.item.Change.{Change}
 use Rattle.zst_model.specs.declared.states.item.Change.TheVariants.{Write}
 use Rattle.zst_model.specs.states.AppliedItems.{apply, apply_change, is_unaligned, unless}
 use Rattle.zst_model.specs.states.DatedState.{DatedState, size_at}
-use Rattle.zst_model.specs.states.State.{Block, Data, IsObject, IsState, Object, index_bound, is_block_size, is_hole, is_odd_size, past_last}
+use Rattle.zst_model.specs.states.State.{Block, Data, IsObject, IsState, Object, index_bound, is_block_size, is_hole, is_odd_size, largest_block, past_last}
 use Rattle.zst_model.specs.pools.Step.{in_indices, of_applying}
 use Rattle.zst_tree.specs.Indices.{Blocks}
 use Rattle.zst_tree.specs.declared.tree.Tree.{Tree}
 use Rattle.zst_objset.specs.Answers.{FindsThere, Refuses}
 use Rattle.zst_objset.specs.Changes.{block_written, indices_changed}
 use Rattle.zst_objset.specs.Dnodes.{IsThere, tree_of}
+use Rattle.zst_objset.specs.BlockRuns.{IsWholeBlock}
 use Rattle.zst_objset.specs.BlockWrites.{PutsDataRoot, write_judged}
 use Rattle.zst_objset.specs.declared.fault.ObjFault.{ObjFault}
 use Rattle.zst_objset.specs.declared.fault.ObjFault.TheVariants as faults
@@ -131,6 +132,10 @@ block_some size is = grind (arith, nat_tests)
 pub block_whole : (size : ℕ) → is_block_size size ≡ true → size % 512 ≡ 0
 unfolding is_block_size
 block_whole size is = grind (arith, nat_tests)
+
+pub whole_block : (size : ℕ) → is_block_size size ≡ true → IsWholeBlock size
+unfolding is_block_size largest_block
+whole_block size is = record { some = block_some size is; whole = block_whole size is; small = grind (arith, nat_tests) }
 
 -- the write of one that is there
 module _ (has : Blocks) (number k i : ℕ) (bytes : List ℕ) (snap : DatedState) (dnode : Dnode) (there : IsThere has snap k dnode) (lawful : IsState snap.state) where

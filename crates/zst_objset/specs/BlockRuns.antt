@@ -1,5 +1,5 @@
 -- Neighbouring blocks of an object that are written one after another.
-use Rattle.std.specs.Prelude.{◌≡◌, ℕ, zero, suc, ◌+◌, ◌<◌, ◌*◌, length, List, [], ◌∷◌, take, drop, get_or, Result, Ok}
+use Rattle.std.specs.Prelude.{◌≡◌, ℕ, zero, suc, ◌+◌, ◌<◌, ◌≤◌, ◌*◌, ◌%◌, ◌^◌, length, List, [], ◌∷◌, take, drop, get_or, Result, Ok}
 use Rattle.zst_model.specs.declared.refusals.refusal.Refusal.{Refusal}
 use Rattle.zst_model.specs.states.AppliedItems.{◌>>=◌}
 use Rattle.zst_model.specs.states.DatedState.{DatedState}
@@ -10,6 +10,19 @@ use Rattle.zst_tree.specs.declared.leaf_puts.Leaf.{Leaf}
 use Rattle.zst_tree.specs.declared.tree.Tree.{Tree}
 use Rattle.zst_objset.specs.Changes.{block_written}
 use Rattle.zst_objset.specs.Dnodes.{BlockIs}
+
+-- so many neighbouring blocks, of so many bytes each, from this index on: their bytes are so long, and they stand below one node of the object's tree
+pub record IsBlockRun (index size count long : ℕ) : Type 0 where
+  -- a node has 128 pointers
+  pub group : index % 128 + count ≤ 128
+  pub inside : index + count ≤ 2 ^ 43
+  pub long_is : long ≡ count * size
+
+-- a block of so many bytes is whole sectors, as a pointer can say
+pub record IsWholeBlock (size : ℕ) : Type 0 where
+  pub some : 0 < size
+  pub whole : size % 512 ≡ 0
+  pub small : size < 2 ^ 32
 
 -- neighbouring whole blocks of so many bytes, written one after another
 unfoldable pub blocks_written : (number k size count i : ℕ) → List ℕ → DatedState → Result DatedState Refusal

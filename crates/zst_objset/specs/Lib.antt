@@ -11,3 +11,4 @@ pub mod Sets
 pub mod TightSets
 pub mod BlockWrites
 pub mod BlockRuns
+pub mod SetChanges

@@ -1,26 +1,24 @@
 //! The call that allocates an object, or gives it other attributes.
-ghost use Rattle.std.specs.Prelude.{◌≡◌, ◌<◌, ◌≤◌, ℕ, true, List, IfSome, OnErr, OnOk, ◌+◌, IfErr};
+ghost use Rattle.std.specs.Prelude.{◌≡◌, ◌<◌, ◌≤◌, ℕ, true, List, IfSome, OnOk, ◌+◌};
 ghost use Rattle.zst_space.specs.FreeSectors.{FreeSectors};
 ghost use Rattle.zst_block.specs.Blocks.{Has};
-ghost use Rattle.zst_block.specs.IoStates.{IsHonest, blocks_of, disk_of, io_of, IsSparedBy};
-ghost use Rattle.zst_block.specs.IoCalls.{Works};
+ghost use Rattle.zst_block.specs.IoStates.{IsHonest, disk_of, io_of, IsSparedBy};
 ghost use Rattle.zst_dnode.specs.Dnode.{DnodeFits};
 ghost use Rattle.zst_dnode.specs.declared.slot.Slot.TheVariants.{There};
 ghost use Rattle.zst_model.specs.declared.refusals.faults.Quantity.TheVariants as quantities;
 ghost use Rattle.zst_model.specs.declared.states.item.Change.TheVariants.{Put};
-ghost use Rattle.zst_model.specs.pools.Soundness.{DatedUpTo};
 ghost use Rattle.zst_model.specs.pools.Step.{filled};
 ghost use Rattle.zst_model.specs.states.DatedState.{DatedState};
 ghost use Rattle.zst_model.specs.states.State.{IsBonus, IsHead, is_number, number_bound};
 ghost use Rattle.zst_tree.specs.Sets.{SetFits};
 ghost use Rattle.zst_objset.specs.KeptBlocks.{kept_blocks, kept_spill, no_blocks};
-ghost use Rattle.zst_objset.specs.Answers.{Changes, LimitOnly, stop_of, NotRedacted};
+ghost use Rattle.zst_objset.specs.Answers.{LimitOnly};
 ghost use Rattle.zst_objset.specs.Changes.{object_put};
-ghost use Rattle.zst_objset.specs.Damage.{IfSetDamaged, IsDamagedSet, IsSetWithin};
+ghost use Rattle.zst_objset.specs.Damage.{IsDamagedSet, IsSetWithin};
 ghost use Rattle.zst_objset.specs.Dnodes.{DnodeIs};
 ghost use Rattle.zst_objset.specs.SlotPuts.{MakesDnode};
-ghost use Rattle.zst_objset.specs.Sets.{date_in, SetHolds};
-ghost use Rattle.zst_objset.specs.TightSets.{SetIsTight};
+ghost use Rattle.zst_objset.specs.Sets.{date_in};
+ghost use Rattle.zst_objset.specs.SetChanges.{ChangesTightSet, SetHas, SetHasTight};
 
 use crate::changes::put_dnode;
 use crate::fault::ObjFault;
@@ -137,17 +135,9 @@ pub(crate) fn put_object<D: Disk>(
     requires object { 0 < object }
     requires head { IsHead head }
     requires bonus { IsBonus bonus.now }
-    ensures changed { (state : DatedState) → IsHonest io.new → SetHolds (blocks_of io.old) set.old state
-        → Changes (SetHolds (blocks_of io.new) set.new) (object_put number object head bonus.now keep_spill state) result }
-    ensures tight { (state : DatedState) → IsHonest io.new → SetIsTight (blocks_of io.old) set.old state → DatedUpTo number state
-        → Changes (SetIsTight (blocks_of io.new) set.new) (object_put number object head bonus.now keep_spill state) result }
-    ensures limits { IfErr result (LimitOnly quantities.Object number_bound (object + 1)) }
-    ensures unredacted { IfErr result NotRedacted }
-    ensures damaged { IsHonest io.new → IfSetDamaged result (IsDamagedSet (IsSparedBy io.old) (disk_of io.old).size set.old) }
+    ensures changes { ChangesTightSet SetHas SetHasTight SetFits number (object_put number object head bonus.now keep_spill) (LimitOnly quantities.Object number_bound (object + 1))
+        (IsDamagedSet (IsSparedBy io.old) (disk_of io.old).size set.old) 640 16 (io_of io.old) (io_of io.new) set.old set.new result }
     ensures within { IsHonest io.new → OnOk result (IsSetWithin (IsSparedBy io.old) (disk_of io.old).size set.old (IsSparedBy io.new) set.new) }
-    ensures kept { OnErr result (set.new ≡ set.old) }
-    ensures levels { OnOk result (SetFits set.new) }
-    ensures works { Works 640 16 (io_of io.old) (io_of io.new) (stop_of result) }
 {
     if object >= NUMBER_BOUND {
         return Err(ObjFault::Limit {

@@ -1,8 +1,7 @@
 //! The calls that read a set.
-ghost use Rattle.std.specs.Prelude.{◌≡◌, ◌+◌, ◌<◌, ◌≤◌, ◌^◌, false, IfErr, IfOk, IfSome, OnOk, List, ℕ, Some, length};
+ghost use Rattle.std.specs.Prelude.{◌≡◌, ◌+◌, ◌<◌, ◌^◌, false, IfErr, IfOk, IfSome, OnOk, List, ℕ, Some, length};
 ghost use Rattle.zst_block.specs.Ptr.{is_flat};
 ghost use Rattle.zst_block.specs.IoStates.{IsHonest, blocks_of, disk_of, io_of};
-ghost use Rattle.zst_block.specs.IoCalls.{Looks};
 ghost use Rattle.zst_dnode.specs.Dnode.{DnodeFits};
 ghost use Rattle.zst_dnode.specs.Slot.{SlotFits};
 ghost use Rattle.zst_dnode.specs.declared.slot.Slot.TheVariants.{There};
@@ -10,6 +9,7 @@ ghost use Rattle.zst_model.specs.states.DatedState.{DatedState};
 ghost use Rattle.zst_model.specs.declared.refusals.faults.Quantity.TheVariants as quantities;
 ghost use Rattle.zst_model.specs.states.State.{Block, BlockFits, Object, index_bound};
 ghost use Rattle.zst_tree.specs.Damage.{IsSeen};
+ghost use Rattle.zst_tree.specs.Steps.{LooksAtMost};
 ghost use Rattle.zst_objset.specs.Answers.{FindsObject, FindsSlot, FindsThere, IsOfBlock, LimitOnly, NotLimit, ReadsBlock, ReadsData, stop_of, NotRedacted};
 ghost use Rattle.zst_objset.specs.Changes.{block_found, found_at};
 ghost use Rattle.zst_objset.specs.Damage.{IfSetDamaged, IsDamagedBlock, IsDamagedData, IsDamagedSet, StandsIn};
@@ -35,8 +35,7 @@ pub(crate) fn slot<D: Disk>(set: &ObjSet, io: &mut Io<'_, D>, object: u64) -> Re
     ensures ranges { IfOk result SlotFits }
     ensures known { IfErr result IsOfBlock }
     ensures damaged { IsHonest io.new → IfSetDamaged result (IsDamagedSet (IsSeen (disk_of io.old).seen) (disk_of io.old).size set.now) }
-    ensures looks { Looks (io_of io.old) (io_of io.new) (stop_of result) }
-    ensures calls { (disk_of io.new).calls ≤ (disk_of io.old).calls + 8 }
+    ensures looks { LooksAtMost 8 (io_of io.old) (io_of io.new) (stop_of result) }
 {
     match slot_at(set, io, object) {
         Ok(slot) => Ok(slot),
@@ -56,8 +55,7 @@ pub(crate) fn attr<D: Disk>(
     ensures ranges { IfOk result (λ found. IfSome found DnodeFits) }
     ensures known { IfErr result IsOfBlock }
     ensures damaged { IsHonest io.new → IfSetDamaged result (IsDamagedSet (IsSeen (disk_of io.old).seen) (disk_of io.old).size set.now) }
-    ensures looks { Looks (io_of io.old) (io_of io.new) (stop_of result) }
-    ensures calls { (disk_of io.new).calls ≤ (disk_of io.old).calls + 8 }
+    ensures looks { LooksAtMost 8 (io_of io.old) (io_of io.new) (stop_of result) }
 {
     match dnode_at(set, io, object) {
         Ok(found) => Ok(found),
@@ -82,8 +80,7 @@ pub(crate) fn object_there<D: Disk>(
     ensures bound { OnOk result (object < 2 ^ 48) }
     ensures stands { IsHonest io.new → IfOk result (StandsIn (IsSeen (disk_of io.old).seen) set.now) }
     ensures damaged { IsHonest io.new → IfSetDamaged result (IsDamagedSet (IsSeen (disk_of io.old).seen) (disk_of io.old).size set.now) }
-    ensures looks { Looks (io_of io.old) (io_of io.new) (stop_of result) }
-    ensures calls { (disk_of io.new).calls ≤ (disk_of io.old).calls + 8 }
+    ensures looks { LooksAtMost 8 (io_of io.old) (io_of io.new) (stop_of result) }
 {
     match dnode_at(set, io, object) {
         Ok(Some(dnode)) => Ok(dnode),
@@ -105,8 +102,7 @@ fn read_leaf<D: Disk>(
         → ReadsBlock (block_found object index block) into.new result }
     ensures limits { IfErr result NotLimit }
     ensures damaged { IsHonest io.new → IfSetDamaged result (IsDamagedData (IsSeen (disk_of io.old).seen) (disk_of io.old).size (length into.old) ptr) }
-    ensures looks { Looks (io_of io.old) (io_of io.new) (stop_of result) }
-    ensures calls { (disk_of io.new).calls ≤ (disk_of io.old).calls + 1 }
+    ensures looks { LooksAtMost 1 (io_of io.old) (io_of io.new) (stop_of result) }
 {
     match ptr.kind {
         0 => {
@@ -127,8 +123,7 @@ fn read_data<D: Disk>(io: &mut Io<'_, D>, ptr: Ptr, into: &mut [u8]) -> Result<C
     ensures read { (bytes : List ℕ) → IsHonest io.new → blocks_of io.old ptr bytes → length bytes ≡ length into.old → ReadsData bytes into.new result }
     ensures limits { IfErr result NotLimit }
     ensures damaged { is_flat ptr ≡ false → IsHonest io.new → IfSetDamaged result (IsDamagedData (IsSeen (disk_of io.old).seen) (disk_of io.old).size (length into.old) ptr) }
-    ensures looks { Looks (io_of io.old) (io_of io.new) (stop_of result) }
-    ensures calls { (disk_of io.new).calls ≤ (disk_of io.old).calls + 1 }
+    ensures looks { LooksAtMost 1 (io_of io.old) (io_of io.new) (stop_of result) }
 {
     if ptr.length as usize != into.len() {
         return Err(ObjFault::Block(BlockFault::of_layout(&ptr)));
@@ -153,8 +148,7 @@ pub(crate) fn read_block<D: Disk>(
         → ((there : Object) → snap.state object ≡ Some there → length into.old ≡ there.attr.block_size) → ReadsBlock (found_at object index snap) into.new result }
     ensures limits { IfErr result (LimitOnly quantities.Block index_bound (index + 1)) }
     ensures damaged { IsHonest io.new → IfSetDamaged result (IsDamagedBlock (IsSeen (disk_of io.old).seen) (disk_of io.old).size (length into.old) set.now) }
-    ensures looks { Looks (io_of io.old) (io_of io.new) (stop_of result) }
-    ensures calls { (disk_of io.new).calls ≤ (disk_of io.old).calls + 16 }
+    ensures looks { LooksAtMost 16 (io_of io.old) (io_of io.new) (stop_of result) }
 {
     let dnode = match object_there(set, io, object) {
         Ok(dnode) => dnode,

@@ -1,22 +1,19 @@
 //! The calls that write blocks of an object.
-ghost use Rattle.std.specs.Prelude.{true, false, ℕ, List, ◌*◌, ◌≡◌, ◌+◌, ◌/◌, ◌%◌, ◌<◌, ◌≤◌, ◌^◌, ◌&&◌, not, nat_lt, IfErr, IfOk, None, OnErr, OnOk, length};
+ghost use Rattle.std.specs.Prelude.{true, false, ℕ, List, ◌*◌, ◌≡◌, ◌+◌, ◌/◌, ◌<◌, ◌≤◌, ◌^◌, ◌&&◌, not, nat_lt, IfErr, IfOk, None, OnOk, length};
 ghost use Rattle.zst_block.specs.IoStates.{IsHonest, blocks_of, disk_of, io_of, IsSparedBy};
 ghost use Rattle.zst_block.specs.IoCalls.{Works, stop_of as block_stop};
 ghost use Rattle.zst_model.specs.declared.refusals.faults.Quantity.TheVariants as quantities;
-ghost use Rattle.zst_model.specs.pools.Soundness.{DatedUpTo};
-ghost use Rattle.zst_model.specs.states.DatedState.{DatedState};
 ghost use Rattle.zst_model.specs.states.State.{index_bound, is_block_size, is_odd_size};
 ghost use Rattle.zst_tree.specs.Changes.{TreeDatedUpTo};
 ghost use Rattle.zst_tree.specs.Damage.{NamesDamage, NamesNode};
 ghost use Rattle.zst_tree.specs.Indices.{Delivers, Map, TreeIs};
 ghost use Rattle.zst_tree.specs.Sets.{SetFits};
-ghost use Rattle.zst_objset.specs.BlockRuns.{AreSoFar, PutsBlocks, blocks_written};
-ghost use Rattle.zst_objset.specs.Answers.{Changes, stop_of, LimitOnly, NotLimit, NotRedacted};
+ghost use Rattle.zst_objset.specs.BlockRuns.{AreSoFar, IsBlockRun, IsWholeBlock, PutsBlocks, blocks_written};
+ghost use Rattle.zst_objset.specs.Answers.{stop_of, LimitOnly, NotLimit, NotRedacted};
 ghost use Rattle.zst_objset.specs.Changes.{block_written};
-ghost use Rattle.zst_objset.specs.Damage.{IfSetDamaged, IsDamagedObject};
-ghost use Rattle.zst_objset.specs.Sets.{SetHolds};
-ghost use Rattle.zst_objset.specs.TightSets.{SetIsTight};
+ghost use Rattle.zst_objset.specs.Damage.{IsDamagedObject};
 ghost use Rattle.zst_objset.specs.BlockWrites.{PutsData, PutsDataRoot, write_judged};
+ghost use Rattle.zst_objset.specs.SetChanges.{ChangesTightSet, SetHas, SetHasTight};
 
 use crate::answers::object_there;
 use crate::changes::{put_there, with_tree};
@@ -71,9 +68,7 @@ fn put_data<D: Disk>(
 ) -> Result<Tree, BlockFault>
     requires levels { tree.levels ≤ 7 }
     requires index { index < 2 ^ 44 }
-    requires some { 0 < length bytes.now }
-    requires whole { length bytes.now % 512 ≡ 0 }
-    requires small { length bytes.now < 2 ^ 32 }
+    requires block { IsWholeBlock (length bytes.now) }
     ensures puts { (map : Map) → IsHonest io.new → TreeIs (blocks_of io.old) tree map
         → Delivers (PutsData (blocks_of io.new) map index bytes.now number) result }
     ensures dated { (map : Map) → IsHonest io.new → TreeIs (blocks_of io.old) tree map → TreeDatedUpTo number tree → IfOk result (TreeDatedUpTo number) }
@@ -98,16 +93,8 @@ pub(crate) fn write_block<D: Disk>(
     number: u64,
 ) -> Result<(), ObjFault>
     requires object { 0 < object }
-    ensures changed { (state : DatedState) → IsHonest io.new → SetHolds (blocks_of io.old) set.old state
-        → Changes (SetHolds (blocks_of io.new) set.new) (block_written number object index bytes.now state) result }
-    ensures tight { (state : DatedState) → IsHonest io.new → SetIsTight (blocks_of io.old) set.old state → DatedUpTo number state
-        → Changes (SetIsTight (blocks_of io.new) set.new) (block_written number object index bytes.now state) result }
-    ensures limits { IfErr result (LimitOnly quantities.Block index_bound (index + 1)) }
-    ensures unredacted { IfErr result NotRedacted }
-    ensures damaged { IsHonest io.new → IfSetDamaged result (IsDamagedObject (IsSparedBy io.old) (disk_of io.old).size NamesNode set.old) }
-    ensures kept { OnErr result (set.new ≡ set.old) }
-    ensures levels { OnOk result (SetFits set.new) }
-    ensures works { Works (640 + length bytes.now / 512) (length bytes.now / 512) (io_of io.old) (io_of io.new) (stop_of result) }
+    ensures changes { ChangesTightSet SetHas SetHasTight SetFits number (block_written number object index bytes.now) (LimitOnly quantities.Block index_bound (index + 1))
+        (IsDamagedObject (IsSparedBy io.old) (disk_of io.old).size NamesNode set.old) (640 + length bytes.now / 512) (length bytes.now / 512) (io_of io.old) (io_of io.new) set.old set.new result }
 {
     applied_is_state();
     let dnode = match object_there(set, io, object) {
@@ -134,9 +121,7 @@ fn write_each<D: Disk>(
     number: u64,
     into: &mut [Leaf],
 ) -> Result<(), BlockFault>
-    requires some { 0 < size }
-    requires whole { size % 512 ≡ 0 }
-    requires small { size < 2 ^ 32 }
+    requires block { IsWholeBlock size }
     requires long { length bytes.now ≡ length into.old * size }
     requires index { index + length into.old < 2 ^ 64 }
     ensures written { OnOk result (AreSoFar (blocks_of io.new) number size index bytes.now into.new (length into.old)) }
@@ -168,12 +153,8 @@ fn put_blocks<D: Disk>(
 ) -> Result<Tree, BlockFault>
     requires leaves { length leaves.old ≡ count }
     requires levels { tree.levels ≤ 7 }
-    requires group { index % 128 + count ≤ 128 }
-    requires inside { index + count ≤ 2 ^ 43 }
-    requires some { 0 < size }
-    requires whole { size % 512 ≡ 0 }
-    requires small { size < 2 ^ 32 }
-    requires long { length bytes.now ≡ count * size }
+    requires run { IsBlockRun index size count (length bytes.now) }
+    requires block { IsWholeBlock size }
     ensures puts { (map : Map) → IsHonest io.new → TreeIs (blocks_of io.old) tree map
         → Delivers (PutsBlocks (blocks_of io.new) map number size count index bytes.now) result }
     ensures dated { (map : Map) → IsHonest io.new → TreeIs (blocks_of io.old) tree map → TreeDatedUpTo number tree → IfOk result (TreeDatedUpTo number) }
@@ -203,19 +184,9 @@ pub fn write_blocks<D: Disk>(
     requires size { is_block_size size ≡ true }
     requires even { is_odd_size size ≡ false }
     requires some { 0 < count }
-    requires group { index % 128 + count ≤ 128 }
-    requires inside { index + count ≤ 2 ^ 43 }
-    requires long { length bytes.now ≡ count * size }
-    ensures changed { (state : DatedState) → IsHonest io.new → SetHolds (blocks_of io.old) set.old state
-        → Changes (SetHolds (blocks_of io.new) set.new) (blocks_written number object size count index bytes.now state) result }
-    ensures tight { (state : DatedState) → IsHonest io.new → SetIsTight (blocks_of io.old) set.old state → DatedUpTo number state
-        → Changes (SetIsTight (blocks_of io.new) set.new) (blocks_written number object size count index bytes.now state) result }
-    ensures limits { IfErr result NotLimit }
-    ensures unredacted { IfErr result NotRedacted }
-    ensures damaged { IsHonest io.new → IfSetDamaged result (IsDamagedObject (IsSparedBy io.old) (disk_of io.old).size NamesNode set.old) }
-    ensures kept { OnErr result (set.new ≡ set.old) }
-    ensures levels { OnOk result (SetFits set.new) }
-    ensures works { Works (count * (size / 512) + 464) (size / 512) (io_of io.old) (io_of io.new) (stop_of result) }
+    requires run { IsBlockRun index size count (length bytes.now) }
+    ensures changes { ChangesTightSet SetHas SetHasTight SetFits number (blocks_written number object size count index bytes.now) NotLimit
+        (IsDamagedObject (IsSparedBy io.old) (disk_of io.old).size NamesNode set.old) (count * (size / 512) + 464) (size / 512) (io_of io.old) (io_of io.new) set.old set.new result }
 {
     applied_is_state();
     let dnode = match object_there(set, io, object) {

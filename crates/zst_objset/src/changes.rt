@@ -1,22 +1,21 @@
 //! The calls that change a set.
-ghost use Rattle.std.specs.Prelude.{◌≡◌, ◌+◌, ◌/◌, ◌<◌, ◌^◌, ℕ, Ok, OnErr, OnOk, length, IfErr};
+ghost use Rattle.std.specs.Prelude.{◌≡◌, ◌+◌, ◌/◌, ◌<◌, ◌^◌, ℕ, Ok, length};
 ghost use Rattle.zst_block.specs.Ptr.{PtrFits};
 ghost use Rattle.zst_block.specs.IoStates.{IsHonest, blocks_of, disk_of, io_of, IsSparedBy};
-ghost use Rattle.zst_block.specs.IoCalls.{Works};
 ghost use Rattle.zst_dnode.specs.Dnode.{DnodeFits};
 ghost use Rattle.zst_dnode.specs.declared.slot.Slot.TheVariants.{There};
 ghost use Rattle.zst_model.specs.declared.states.item.Change.{Change};
 ghost use Rattle.zst_model.specs.declared.states.item.Item.TheVariants.{At};
-ghost use Rattle.zst_model.specs.pools.Soundness.{DatedUpTo};
 ghost use Rattle.zst_model.specs.states.DatedState.{DatedState};
 ghost use Rattle.zst_model.specs.states.State.{IsSpill};
 ghost use Rattle.zst_tree.specs.Sets.{SetFits};
-ghost use Rattle.zst_objset.specs.Answers.{Changes, stop_of, NotLimit, NotRedacted};
+ghost use Rattle.zst_objset.specs.Answers.{Changes, NotLimit};
 ghost use Rattle.zst_objset.specs.Changes.{changed, spill_put};
-ghost use Rattle.zst_objset.specs.Damage.{IfSetDamaged, IsDamagedSet, IsSetWithin};
+ghost use Rattle.zst_objset.specs.Damage.{IsDamagedSet};
 ghost use Rattle.zst_objset.specs.SlotPuts.{MakesDnode, PutsSlot};
 ghost use Rattle.zst_objset.specs.Sets.{SetHolds};
 ghost use Rattle.zst_objset.specs.TightSets.{IsTightDnode, IsTightSlot, SetIsTight};
+ghost use Rattle.zst_objset.specs.SetChanges.{ChangesTightSet, PutsInSet, SetHas, SetHasTight};
 
 use crate::answers::object_there;
 use crate::fault::ObjFault;
@@ -71,13 +70,7 @@ pub(crate) fn put_there<D: Disk>(
     ensures tight { (before now : DatedState) → IsHonest io.new → SetIsTight (blocks_of io.old) set.old before
         → PutsSlot (blocks_of io.old) before now object (object + 1) (There dnode) → IsTightSlot now object (There dnode)
         → Changes (SetIsTight (blocks_of io.new) set.new) (Ok now) result }
-    ensures limits { IfErr result NotLimit }
-    ensures unredacted { IfErr result NotRedacted }
-    ensures damaged { IsHonest io.new → IfSetDamaged result (IsDamagedSet (IsSparedBy io.old) (disk_of io.old).size set.old) }
-    ensures within { IsHonest io.new → OnOk result (IsSetWithin (IsSparedBy io.old) (disk_of io.old).size set.old (IsSparedBy io.new) set.new) }
-    ensures kept { OnErr result (set.new ≡ set.old) }
-    ensures levels { OnOk result (SetFits set.new) }
-    ensures works { Works 240 16 (io_of io.old) (io_of io.new) (stop_of result) }
+    ensures puts { PutsInSet (io_of io.old) (io_of io.new) set.old set.new result }
 {
     match put_in_leaf(*set, io, object, object + 1, &Slot::There(dnode)) {
         Ok(made) => {
@@ -103,13 +96,7 @@ pub(crate) fn put_dnode<D: Disk>(
     ensures tight { (number : ℕ) (change : Change) (state : DatedState) → IsHonest io.new → SetIsTight (blocks_of io.old) set.old state
         → MakesDnode (blocks_of io.old) number object change state dnode → IsTightDnode number object change state dnode
         → Changes (SetIsTight (blocks_of io.new) set.new) (changed number (At object change) state) result }
-    ensures limits { IfErr result NotLimit }
-    ensures unredacted { IfErr result NotRedacted }
-    ensures damaged { IsHonest io.new → IfSetDamaged result (IsDamagedSet (IsSparedBy io.old) (disk_of io.old).size set.old) }
-    ensures within { IsHonest io.new → OnOk result (IsSetWithin (IsSparedBy io.old) (disk_of io.old).size set.old (IsSparedBy io.new) set.new) }
-    ensures kept { OnErr result (set.new ≡ set.old) }
-    ensures levels { OnOk result (SetFits set.new) }
-    ensures works { Works 240 16 (io_of io.old) (io_of io.new) (stop_of result) }
+    ensures puts { PutsInSet (io_of io.old) (io_of io.new) set.old set.new result }
 {
     applied_is_state();
     put_there(set, io, object, dnode)
@@ -125,16 +112,8 @@ pub(crate) fn put_spill<D: Disk>(
 ) -> Result<(), ObjFault>
     requires object { 0 < object }
     requires spill { IsSpill bytes.now }
-    ensures changed { (state : DatedState) → IsHonest io.new → SetHolds (blocks_of io.old) set.old state
-        → Changes (SetHolds (blocks_of io.new) set.new) (spill_put number object bytes.now state) result }
-    ensures tight { (state : DatedState) → IsHonest io.new → SetIsTight (blocks_of io.old) set.old state → DatedUpTo number state
-        → Changes (SetIsTight (blocks_of io.new) set.new) (spill_put number object bytes.now state) result }
-    ensures limits { IfErr result NotLimit }
-    ensures unredacted { IfErr result NotRedacted }
-    ensures damaged { IsHonest io.new → IfSetDamaged result (IsDamagedSet (IsSparedBy io.old) (disk_of io.old).size set.old) }
-    ensures kept { OnErr result (set.new ≡ set.old) }
-    ensures levels { OnOk result (SetFits set.new) }
-    ensures works { Works (640 + length bytes.now / 512) (length bytes.now / 512) (io_of io.old) (io_of io.new) (stop_of result) }
+    ensures changes { ChangesTightSet SetHas SetHasTight SetFits number (spill_put number object bytes.now) NotLimit
+        (IsDamagedSet (IsSparedBy io.old) (disk_of io.old).size set.old) (640 + length bytes.now / 512) (length bytes.now / 512) (io_of io.old) (io_of io.new) set.old set.new result }
 {
     let dnode = match object_there(set, io, object) {
         Ok(dnode) => dnode,

@@ -1,5 +1,5 @@
 //! The call that frees a range of numbers.
-ghost use Rattle.std.specs.Prelude.{◌≡◌, ◌+◌, ◌*◌, ◌/◌, ◌<◌, ◌≤◌, ◌^◌, IfErr, IfOk, OnErr};
+ghost use Rattle.std.specs.Prelude.{◌+◌, ◌*◌, ◌/◌, ◌<◌, ◌≤◌, ◌^◌, IfOk};
 ghost use Rattle.zst_block.specs.IoStates.{IsHonest, blocks_of, disk_of, io_of, IsSparedBy};
 ghost use Rattle.zst_block.specs.IoCalls.{Works, stop_of as block_stop_of};
 ghost use Rattle.zst_model.specs.declared.refusals.faults.Quantity.TheVariants as quantities;
@@ -7,12 +7,13 @@ ghost use Rattle.zst_model.specs.states.DatedState.{DatedState};
 ghost use Rattle.zst_model.specs.states.State.{number_bound};
 ghost use Rattle.zst_tree.specs.Indices.{Delivers};
 ghost use Rattle.zst_tree.specs.Sets.{SetFits};
-ghost use Rattle.zst_objset.specs.Answers.{Changes, stop_of, LimitOnly, NotRedacted};
+ghost use Rattle.zst_objset.specs.Answers.{Changes, LimitOnly};
 ghost use Rattle.zst_objset.specs.Changes.{objects_freed};
-ghost use Rattle.zst_objset.specs.Damage.{IfDamaged, IfSetDamaged, IsDamagedSet, IsSetWithin};
+ghost use Rattle.zst_objset.specs.Damage.{IfDamaged, IsDamagedSet};
 ghost use Rattle.zst_objset.specs.FreedNumbers.{freed};
 ghost use Rattle.zst_objset.specs.Sets.{SetHolds};
 ghost use Rattle.zst_objset.specs.TightSets.{SetIsTight};
+ghost use Rattle.zst_objset.specs.SetChanges.{ChangesSet, MakesSet, SetHas};
 
 use crate::fault::ObjFault;
 use crate::slot_puts::{put_in_leaf, set_over};
@@ -39,9 +40,7 @@ fn free_in_leaf<D: Disk>(
         → Delivers (λ made. SetHolds (blocks_of io.new) made (freed number first below state)) result }
     ensures tight { (state : DatedState) → IsHonest io.new → SetIsTight (blocks_of io.old) set state
         → IfOk result (λ made. SetIsTight (blocks_of io.new) made (freed number first below state)) }
-    ensures damaged { IsHonest io.new → IfDamaged result (IsDamagedSet (IsSparedBy io.old) (disk_of io.old).size set) }
-    ensures within { IsHonest io.new → IfOk result (IsSetWithin (IsSparedBy io.old) (disk_of io.old).size set (IsSparedBy io.new)) }
-    ensures works { Works 240 16 (io_of io.old) (io_of io.new) (block_stop_of result) }
+    ensures makes { MakesSet 240 (io_of io.old) (io_of io.new) set result }
     ensures levels { SetFits set → IfOk result SetFits }
 {
     if first == below {
@@ -66,9 +65,7 @@ fn free_leaves<D: Disk>(
         → Delivers (λ made. SetHolds (blocks_of io.new) made (freed number (16 * first) (16 * below) state)) result }
     ensures tight { (state : DatedState) → IsHonest io.new → SetIsTight (blocks_of io.old) set state
         → IfOk result (λ made. SetIsTight (blocks_of io.new) made (freed number (16 * first) (16 * below) state)) }
-    ensures damaged { IsHonest io.new → IfDamaged result (IsDamagedSet (IsSparedBy io.old) (disk_of io.old).size set) }
-    ensures within { IsHonest io.new → IfOk result (IsSetWithin (IsSparedBy io.old) (disk_of io.old).size set (IsSparedBy io.new)) }
-    ensures works { Works 320 16 (io_of io.old) (io_of io.new) (block_stop_of result) }
+    ensures makes { MakesSet 320 (io_of io.old) (io_of io.new) set result }
     ensures levels { SetFits set → IfOk result SetFits }
 {
     if first == below {
@@ -122,16 +119,11 @@ pub(crate) fn free_objects<D: Disk>(
     number: u64,
 ) -> Result<(), ObjFault>
     requires first { 0 < first }
-    ensures changed { (state : DatedState) → IsHonest io.new → SetHolds (blocks_of io.old) set.old state
-        → Changes (SetHolds (blocks_of io.new) set.new) (objects_freed number first count state) result }
+    ensures changes { ChangesSet SetHas (objects_freed number first count) (LimitOnly quantities.Object number_bound (first + count))
+        (IsDamagedSet (IsSparedBy io.old) (disk_of io.old).size set.old) 1280 16 (io_of io.old) (io_of io.new) set.old set.new result }
     ensures tight { (state : DatedState) → IsHonest io.new → SetIsTight (blocks_of io.old) set.old state
         → Changes (SetIsTight (blocks_of io.new) set.new) (objects_freed number first count state) result }
-    ensures limits { IfErr result (LimitOnly quantities.Object number_bound (first + count)) }
-    ensures unredacted { IfErr result NotRedacted }
-    ensures damaged { IsHonest io.new → IfSetDamaged result (IsDamagedSet (IsSparedBy io.old) (disk_of io.old).size set.old) }
-    ensures kept { OnErr result (set.new ≡ set.old) }
     ensures levels { SetFits set.old → SetFits set.new }
-    ensures works { Works 1280 16 (io_of io.old) (io_of io.new) (stop_of result) }
 {
     if first.saturating_add(count) > NUMBER_BOUND {
         return Err(ObjFault::Limit {

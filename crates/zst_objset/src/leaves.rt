@@ -7,6 +7,7 @@ ghost use Rattle.zst_dnode.specs.declared.slot.Slot.{Slot};
 ghost use Rattle.zst_model.specs.states.DatedState.{DatedState};
 ghost use Rattle.zst_tree.specs.Damage.{HangsIn, IsSeen, MayHave};
 ghost use Rattle.zst_tree.specs.Indices.{Delivers};
+ghost use Rattle.zst_tree.specs.Steps.{LooksAtMost};
 ghost use Rattle.zst_objset.specs.Damage.{HasAllSlots, IfDamaged, IsDamagedLeaf, IsDamagedSet, IsLoaded, TellsLacking};
 ghost use Rattle.zst_objset.specs.Sets.{HasSlots, HasSlotsIn, LeafIn, LeafIs, NamesSlots, SetHolds, Spells};
 ghost use Rattle.zst_objset.specs.Dnodes.{outside};
@@ -79,8 +80,7 @@ pub(crate) fn find_slots<D: Disk>(
     ensures hangs { IsHonest io.new → IfOk result (HangsIn (MayHave (IsSeen (disk_of io.old).seen)) set.now.tree) }
     ensures loaded { IsHonest io.new → IfOk result (λ was. IsLoaded (IsSeen (disk_of io.old).seen) was io.new.node) }
     ensures damaged { IsHonest io.new → IfDamaged result (IsDamagedSet (IsSeen (disk_of io.old).seen) (disk_of io.old).size set.now) }
-    ensures looks { Looks (io_of io.old) (io_of io.new) (stop_of result) }
-    ensures calls { (disk_of io.new).calls ≤ (disk_of io.old).calls + 8 }
+    ensures looks { LooksAtMost 8 (io_of io.old) (io_of io.new) (stop_of result) }
 {
     if set.tree.levels > 7 {
         return Err(BlockFault::of_layout(&set.tree.root));

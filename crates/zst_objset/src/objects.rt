@@ -1,22 +1,23 @@
-ghost use Rattle.std.specs.Prelude.{◌≡◌, ◌/◌, ◌+◌, ◌<◌, ◌≤◌, ℕ, List, length, IfErr, IfOk, IfSome, OnErr, OnOk, Some};
+ghost use Rattle.std.specs.Prelude.{◌≡◌, ◌/◌, ◌+◌, ◌<◌, ◌≤◌, ℕ, List, length, IfErr, IfOk, IfSome, OnOk, Some};
 ghost use Rattle.zst_space.specs.FreeSectors.{FreeSectors};
 ghost use Rattle.zst_block.specs.Blocks.{Has};
 ghost use Rattle.zst_block.specs.IoStates.{IsHonest, blocks_of, disk_of, io_of, IsSparedBy};
-ghost use Rattle.zst_block.specs.IoCalls.{Looks, Works};
+ghost use Rattle.zst_block.specs.IoCalls.{Looks};
 ghost use Rattle.zst_block.specs.declared.ptr.Ptr.{Ptr};
 ghost use Rattle.zst_dnode.specs.Dnode.{DnodeFits};
 ghost use Rattle.zst_dnode.specs.Slot.{SlotFits};
 ghost use Rattle.zst_model.specs.pools.Pool.{untouched};
-ghost use Rattle.zst_model.specs.pools.Soundness.{DatedUpTo};
 ghost use Rattle.zst_model.specs.states.DatedState.{DatedState};
 ghost use Rattle.zst_model.specs.declared.refusals.faults.Quantity.TheVariants as quantities;
 ghost use Rattle.zst_model.specs.states.State.{Object, IsBonus, IsHead, IsSpill, index_bound, number_bound};
 ghost use Rattle.zst_tree.specs.Damage.{IsSeen, NamesNode, SumsUp};
 ghost use Rattle.zst_tree.specs.Indices.{Blocks};
-ghost use Rattle.zst_objset.specs.Answers.{Changes, FindsObject, FindsSlot, IsOfBlock, LimitOnly, NotLimit, NotRedacted, ReadsBlock, stop_of};
+ghost use Rattle.zst_tree.specs.Steps.{LooksAtMost};
+ghost use Rattle.zst_objset.specs.Answers.{Changes, FindsObject, FindsSlot, IsOfBlock, LimitOnly, NotLimit, ReadsBlock, stop_of};
 ghost use Rattle.zst_objset.specs.Changes.{block_written, found_at, holes_made, object_put, objects_freed, range_redacted, spill_put};
 ghost use Rattle.zst_objset.specs.Damage.{DamageFact, IfSetDamaged};
 ghost use Rattle.zst_objset.specs.Searches.{FindsNext};
+ghost use Rattle.zst_objset.specs.SetChanges.{ChangesSet, ChangesTightSet};
 
 use crate::fault::ObjFault;
 use zst_block::Io;
@@ -67,8 +68,7 @@ pub trait Objects<D: Disk> {
         ensures ranges { IfOk result (λ found. IfSome found DnodeFits) }
         ensures known { IfErr result IsOfBlock }
         ensures damaged { IsHonest io.new → IfSetDamaged result (slot_damage (IsSeen (disk_of io.old).seen) (disk_of io.old).size self.now) }
-        ensures looks { Looks (io_of io.old) (io_of io.new) (stop_of result) }
-        ensures calls { (disk_of io.new).calls ≤ (disk_of io.old).calls + 8 };
+        ensures looks { LooksAtMost 8 (io_of io.old) (io_of io.new) (stop_of result) };
 
     /// What stands at a number: of an absent one its date.
     fn slot(&self, io: &mut Io<'_, D>, object: u64) -> Result<Slot, ObjFault>
@@ -78,8 +78,7 @@ pub trait Objects<D: Disk> {
         ensures ranges { IfOk result SlotFits }
         ensures known { IfErr result IsOfBlock }
         ensures damaged { IsHonest io.new → IfSetDamaged result (slot_damage (IsSeen (disk_of io.old).seen) (disk_of io.old).size self.now) }
-        ensures looks { Looks (io_of io.old) (io_of io.new) (stop_of result) }
-        ensures calls { (disk_of io.new).calls ≤ (disk_of io.old).calls + 8 };
+        ensures looks { LooksAtMost 8 (io_of io.old) (io_of io.new) (stop_of result) };
 
     /// The first object from a number on, with its number. A run of holes costs one look.
     fn next_object(&self, io: &mut Io<'_, D>, from: u64) -> Result<Option<(u64, Dnode)>, ObjFault>
@@ -105,8 +104,7 @@ pub trait Objects<D: Disk> {
             → ReadsBlock (found_at object index state) into.new result }
         ensures limits { IfErr result (LimitOnly quantities.Block index_bound (index + 1)) }
         ensures damaged { IsHonest io.new → IfSetDamaged result (block_damage (IsSeen (disk_of io.old).seen) (disk_of io.old).size (length into.old) self.now) }
-        ensures looks { Looks (io_of io.old) (io_of io.new) (stop_of result) }
-        ensures calls { (disk_of io.new).calls ≤ (disk_of io.old).calls + 16 };
+        ensures looks { LooksAtMost 16 (io_of io.old) (io_of io.new) (stop_of result) };
 
     /// Allocates an object, or gives it other attributes.
     fn put_object(
@@ -121,18 +119,10 @@ pub trait Objects<D: Disk> {
         requires object { 0 < object }
         requires head { IsHead head }
         requires bonus { IsBonus bonus.now }
-        ensures changed { (state : DatedState) → IsHonest io.new → holds self.old (blocks_of io.old) state
-            → Changes (holds self.new (blocks_of io.new)) (object_put number object head bonus.now keep_spill state) result }
-        ensures tight { (state : DatedState) → IsHonest io.new → tight self.old (blocks_of io.old) state → DatedUpTo number state
-            → Changes (tight self.new (blocks_of io.new)) (object_put number object head bonus.now keep_spill state) result }
-        ensures limits { IfErr result (LimitOnly quantities.Object number_bound (object + 1)) }
-        ensures unredacted { IfErr result NotRedacted }
-        ensures damaged { IsHonest io.new → IfSetDamaged result (slot_damage (IsSparedBy io.old) (disk_of io.old).size self.old) }
+        ensures changes { ChangesTightSet holds tight fits number (object_put number object head bonus.now keep_spill) (LimitOnly quantities.Object number_bound (object + 1))
+            (slot_damage (IsSparedBy io.old) (disk_of io.old).size self.old) 640 16 (io_of io.old) (io_of io.new) self.old self.new result }
         ensures within { IsHonest io.new → OnOk result ((sector : ℕ) (stated found : List ℕ) → slot_damage (IsSparedBy io.new) (disk_of io.old).size self.new sector stated found
-            → slot_damage (IsSparedBy io.old) (disk_of io.old).size self.old sector stated found) }
-        ensures kept { OnErr result (self.new ≡ self.old) }
-        ensures levels { OnOk result (fits self.new) }
-        ensures works { Works 640 16 (io_of io.old) (io_of io.new) (stop_of result) };
+            → slot_damage (IsSparedBy io.old) (disk_of io.old).size self.old sector stated found) };
 
     /// Gives an object another spill block.
     fn put_spill(
@@ -144,16 +134,8 @@ pub trait Objects<D: Disk> {
     ) -> Result<(), ObjFault>
         requires object { 0 < object }
         requires spill { IsSpill bytes.now }
-        ensures changed { (state : DatedState) → IsHonest io.new → holds self.old (blocks_of io.old) state
-            → Changes (holds self.new (blocks_of io.new)) (spill_put number object bytes.now state) result }
-        ensures tight { (state : DatedState) → IsHonest io.new → tight self.old (blocks_of io.old) state → DatedUpTo number state
-            → Changes (tight self.new (blocks_of io.new)) (spill_put number object bytes.now state) result }
-        ensures limits { IfErr result NotLimit }
-        ensures unredacted { IfErr result NotRedacted }
-        ensures damaged { IsHonest io.new → IfSetDamaged result (slot_damage (IsSparedBy io.old) (disk_of io.old).size self.old) }
-        ensures kept { OnErr result (self.new ≡ self.old) }
-        ensures levels { OnOk result (fits self.new) }
-        ensures works { Works (640 + length bytes.now / 512) (length bytes.now / 512) (io_of io.old) (io_of io.new) (stop_of result) };
+        ensures changes { ChangesTightSet holds tight fits number (spill_put number object bytes.now) NotLimit
+            (slot_damage (IsSparedBy io.old) (disk_of io.old).size self.old) (640 + length bytes.now / 512) (length bytes.now / 512) (io_of io.old) (io_of io.new) self.old self.new result };
 
     /// Frees `count` numbers.
     fn free_objects(
@@ -164,16 +146,12 @@ pub trait Objects<D: Disk> {
         number: u64,
     ) -> Result<(), ObjFault>
         requires first { 0 < first }
-        ensures changed { (state : DatedState) → IsHonest io.new → holds self.old (blocks_of io.old) state
-            → Changes (holds self.new (blocks_of io.new)) (objects_freed number first count state) result }
+        ensures changes { ChangesSet holds (objects_freed number first count) (LimitOnly quantities.Object number_bound (first + count))
+            (slot_damage (IsSparedBy io.old) (disk_of io.old).size self.old) 1280 16 (io_of io.old) (io_of io.new) self.old self.new result }
+        // The state may have any dates.
         ensures tight { (state : DatedState) → IsHonest io.new → tight self.old (blocks_of io.old) state
             → Changes (tight self.new (blocks_of io.new)) (objects_freed number first count state) result }
-        ensures limits { IfErr result (LimitOnly quantities.Object number_bound (first + count)) }
-        ensures unredacted { IfErr result NotRedacted }
-        ensures damaged { IsHonest io.new → IfSetDamaged result (slot_damage (IsSparedBy io.old) (disk_of io.old).size self.old) }
-        ensures kept { OnErr result (self.new ≡ self.old) }
-        ensures levels { fits self.old → fits self.new }
-        ensures works { Works 1280 16 (io_of io.old) (io_of io.new) (stop_of result) };
+        ensures levels { fits self.old → fits self.new };
 
     /// Writes the whole block of one index.
     fn write_block(
@@ -185,16 +163,8 @@ pub trait Objects<D: Disk> {
         number: u64,
     ) -> Result<(), ObjFault>
         requires object { 0 < object }
-        ensures changed { (state : DatedState) → IsHonest io.new → holds self.old (blocks_of io.old) state
-            → Changes (holds self.new (blocks_of io.new)) (block_written number object index bytes.now state) result }
-        ensures tight { (state : DatedState) → IsHonest io.new → tight self.old (blocks_of io.old) state → DatedUpTo number state
-            → Changes (tight self.new (blocks_of io.new)) (block_written number object index bytes.now state) result }
-        ensures limits { IfErr result (LimitOnly quantities.Block index_bound (index + 1)) }
-        ensures unredacted { IfErr result NotRedacted }
-        ensures damaged { IsHonest io.new → IfSetDamaged result (tree_damage (IsSparedBy io.old) (disk_of io.old).size NamesNode self.old) }
-        ensures kept { OnErr result (self.new ≡ self.old) }
-        ensures levels { OnOk result (fits self.new) }
-        ensures works { Works (640 + length bytes.now / 512) (length bytes.now / 512) (io_of io.old) (io_of io.new) (stop_of result) };
+        ensures changes { ChangesTightSet holds tight fits number (block_written number object index bytes.now) (LimitOnly quantities.Block index_bound (index + 1))
+            (tree_damage (IsSparedBy io.old) (disk_of io.old).size NamesNode self.old) (640 + length bytes.now / 512) (length bytes.now / 512) (io_of io.old) (io_of io.new) self.old self.new result };
 
     /// Makes holes of `count` indices.
     fn punch(
@@ -206,16 +176,8 @@ pub trait Objects<D: Disk> {
         number: u64,
     ) -> Result<(), ObjFault>
         requires object { 0 < object }
-        ensures changed { (state : DatedState) → IsHonest io.new → holds self.old (blocks_of io.old) state
-            → Changes (holds self.new (blocks_of io.new)) (holes_made number object first count state) result }
-        ensures tight { (state : DatedState) → IsHonest io.new → tight self.old (blocks_of io.old) state → DatedUpTo number state
-            → Changes (tight self.new (blocks_of io.new)) (holes_made number object first count state) result }
-        ensures limits { IfErr result (LimitOnly quantities.Block index_bound (first + count)) }
-        ensures unredacted { IfErr result NotRedacted }
-        ensures damaged { IsHonest io.new → IfSetDamaged result (tree_damage (IsSparedBy io.old) (disk_of io.old).size (SumsUp (IsSparedBy io.old)) self.old) }
-        ensures kept { OnErr result (self.new ≡ self.old) }
-        ensures levels { OnOk result (fits self.new) }
-        ensures works { Works 1280 16 (io_of io.old) (io_of io.new) (stop_of result) };
+        ensures changes { ChangesTightSet holds tight fits number (holes_made number object first count) (LimitOnly quantities.Block index_bound (first + count))
+            (tree_damage (IsSparedBy io.old) (disk_of io.old).size (SumsUp (IsSparedBy io.old)) self.old) 1280 16 (io_of io.old) (io_of io.new) self.old self.new result };
 
     /// Redacts `count` indices.
     fn redact_range(
@@ -227,14 +189,6 @@ pub trait Objects<D: Disk> {
         number: u64,
     ) -> Result<(), ObjFault>
         requires object { 0 < object }
-        ensures changed { (state : DatedState) → IsHonest io.new → holds self.old (blocks_of io.old) state
-            → Changes (holds self.new (blocks_of io.new)) (range_redacted number object first count state) result }
-        ensures tight { (state : DatedState) → IsHonest io.new → tight self.old (blocks_of io.old) state → DatedUpTo number state
-            → Changes (tight self.new (blocks_of io.new)) (range_redacted number object first count state) result }
-        ensures limits { IfErr result (LimitOnly quantities.Block index_bound (first + count)) }
-        ensures unredacted { IfErr result NotRedacted }
-        ensures damaged { IsHonest io.new → IfSetDamaged result (tree_damage (IsSparedBy io.old) (disk_of io.old).size NamesNode self.old) }
-        ensures kept { OnErr result (self.new ≡ self.old) }
-        ensures levels { OnOk result (fits self.new) }
-        ensures works { Works 1280 16 (io_of io.old) (io_of io.new) (stop_of result) };
+        ensures changes { ChangesTightSet holds tight fits number (range_redacted number object first count) (LimitOnly quantities.Block index_bound (first + count))
+            (tree_damage (IsSparedBy io.old) (disk_of io.old).size NamesNode self.old) 1280 16 (io_of io.old) (io_of io.new) self.old self.new result };
 }

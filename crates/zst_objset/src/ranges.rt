@@ -1,5 +1,5 @@
 //! The calls that change a range of an object's indices.
-ghost use Rattle.std.specs.Prelude.{◌≡◌, ◌⊎◌, ◌+◌, ◌<◌, ◌≤◌, ◌^◌, ℕ, true, max, IfErr, IfOk, Ok, OnErr, OnOk};
+ghost use Rattle.std.specs.Prelude.{◌≡◌, ◌⊎◌, ◌+◌, ◌<◌, ◌≤◌, ◌^◌, ℕ, true, max, IfErr, IfOk, Ok, OnOk};
 ghost use Rattle.zst_block.specs.IoStates.{IsHonest, blocks_of, disk_of, io_of, IsSparedBy};
 ghost use Rattle.zst_block.specs.IoCalls.{Looks, Works, stop_of as block_stop};
 ghost use Rattle.zst_dnode.specs.Dnode.{DnodeFits};
@@ -13,15 +13,15 @@ ghost use Rattle.zst_model.specs.states.State.{Object, Hole, Redacted, IsState, 
 ghost use Rattle.zst_tree.specs.Damage.{IsSeen, NamesDamage, NamesNode, SumsUp};
 ghost use Rattle.zst_tree.specs.Indices.{Delivers, Map};
 ghost use Rattle.zst_tree.specs.Sets.{SetFits};
-ghost use Rattle.zst_objset.specs.Answers.{Changes, stop_of, LimitOnly, NotRedacted};
+ghost use Rattle.zst_objset.specs.Answers.{LimitOnly, NotRedacted};
 ghost use Rattle.zst_objset.specs.Changes.{changed, indices_changed};
-ghost use Rattle.zst_objset.specs.Damage.{IfSetDamaged, IsDamagedObject};
+ghost use Rattle.zst_objset.specs.Damage.{IsDamagedObject};
 ghost use Rattle.zst_objset.specs.Dnodes.{IsThere, ObjectIs};
 ghost use Rattle.zst_objset.specs.SlotPuts.{MakesDnode};
 ghost use Rattle.zst_objset.specs.Ranges.{IsRightNode, change_of, free_of, range_check, redact_of, redaction_check, with_range};
-ghost use Rattle.zst_objset.specs.Sets.{SetHolds};
-ghost use Rattle.zst_objset.specs.TightSets.{IsTightDnode, IsTightSlot, SetIsTight};
+ghost use Rattle.zst_objset.specs.TightSets.{IsTightDnode, IsTightSlot};
 ghost use Rattle.zst_objset.specs.declared.fault.ObjFault.TheVariants as faults;
+ghost use Rattle.zst_objset.specs.SetChanges.{ChangesTightSet, SetHas, SetHasTight};
 
 use crate::answers::object_there;
 use crate::changes::{put_dnode, with_tree};
@@ -228,16 +228,8 @@ pub(crate) fn change_range<D: Disk>(
     number: u64,
 ) -> Result<(), ObjFault>
     requires object { 0 < object }
-    ensures changed { (state : DatedState) → IsHonest io.new → SetHolds (blocks_of io.old) set.old state
-        → Changes (SetHolds (blocks_of io.new) set.new) (indices_changed (first + count) (changed number (At object (change_of change first count (state.state object))) state)) result }
-    ensures tight { (state : DatedState) → IsHonest io.new → SetIsTight (blocks_of io.old) set.old state → DatedUpTo number state
-        → Changes (SetIsTight (blocks_of io.new) set.new) (indices_changed (first + count) (changed number (At object (change_of change first count (state.state object))) state)) result }
-    ensures limits { IfErr result (LimitOnly quantities.Block index_bound (first + count)) }
-    ensures unredacted { IfErr result NotRedacted }
-    ensures damaged { IsHonest io.new → IfSetDamaged result (IsDamagedObject (IsSparedBy io.old) (disk_of io.old).size (IsRightNode change (IsSparedBy io.old)) set.old) }
-    ensures kept { OnErr result (set.new ≡ set.old) }
-    ensures levels { OnOk result (SetFits set.new) }
-    ensures works { Works 1280 16 (io_of io.old) (io_of io.new) (stop_of result) }
+    ensures changes { ChangesTightSet SetHas SetHasTight SetFits number (λ state. indices_changed (first + count) (changed number (At object (change_of change first count (state.state object))) state)) (LimitOnly quantities.Block index_bound (first + count))
+        (IsDamagedObject (IsSparedBy io.old) (disk_of io.old).size (IsRightNode change (IsSparedBy io.old)) set.old) 1280 16 (io_of io.old) (io_of io.new) set.old set.new result }
 {
     let dnode = object_there(set, io, object)?;
     check_change(&dnode, change, first, count)?;

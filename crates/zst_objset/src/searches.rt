@@ -7,6 +7,7 @@ ghost use Rattle.zst_dnode.specs.declared.slot.Slot.{Slot};
 ghost use Rattle.zst_model.specs.states.DatedState.{DatedState};
 ghost use Rattle.zst_tree.specs.Damage.{IsSeen};
 ghost use Rattle.zst_tree.specs.Indices.{Delivers};
+ghost use Rattle.zst_tree.specs.Steps.{LooksAtMost};
 ghost use Rattle.zst_objset.specs.Answers.{IsOfBlock, stop_of};
 ghost use Rattle.zst_objset.specs.Damage.{IfDamaged, IfSetDamaged, IsDamagedSet, LacksSlot};
 ghost use Rattle.zst_objset.specs.Searches.{FindsNext, IsAfter, ShowsAhead, ShowsSlots};
@@ -61,8 +62,7 @@ fn look_ahead<D: Disk>(
         → Delivers (ShowsAhead (blocks_of io.new) state from) result }
     ensures ranges { IfOk result (IsAfter from) }
     ensures damaged { IsHonest io.new → IfDamaged result (IsDamagedSet (IsSeen (disk_of io.old).seen) (disk_of io.old).size set.now) }
-    ensures looks { Looks (io_of io.old) (io_of io.new) (block_stop_of result) }
-    ensures calls { (disk_of io.new).calls ≤ (disk_of io.old).calls + 8 }
+    ensures looks { LooksAtMost 8 (io_of io.old) (io_of io.new) (block_stop_of result) }
 {
     if set.tree.levels > 7 {
         return Err(BlockFault::of_layout(&set.tree.root));

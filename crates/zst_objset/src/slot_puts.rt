@@ -1,15 +1,14 @@
 //! A slot, put at some numbers of one leaf of a set.
 ghost use Rattle.std.specs.Prelude.{◌≡◌, ◌+◌, ◌*◌, ◌/◌, ◌<◌, ◌≤◌, ◌^◌, ℕ, IfOk};
-ghost use Rattle.zst_block.specs.IoStates.{IsHonest, blocks_of, disk_of, io_of, IsSparedBy};
-ghost use Rattle.zst_block.specs.IoCalls.{Works, stop_of};
+ghost use Rattle.zst_block.specs.IoStates.{IsHonest, blocks_of, io_of};
 ghost use Rattle.zst_dnode.specs.Slot.{SlotFits};
 ghost use Rattle.zst_model.specs.states.DatedState.{DatedState};
 ghost use Rattle.zst_tree.specs.Indices.{Delivers};
 ghost use Rattle.zst_tree.specs.Sets.{SetFits};
-ghost use Rattle.zst_objset.specs.Damage.{IfDamaged, IsDamagedSet, IsSetWithin};
 ghost use Rattle.zst_objset.specs.SlotPuts.{PutsSlot};
 ghost use Rattle.zst_objset.specs.Sets.{SetHolds};
 ghost use Rattle.zst_objset.specs.TightSets.{IsTightSlot, SetIsTight};
+ghost use Rattle.zst_objset.specs.SetChanges.{MakesSet};
 
 use crate::leaves::{find_slots, save_slots};
 use crate::slots::put_slots;
@@ -46,9 +45,7 @@ pub(crate) fn put_in_leaf<D: Disk>(
     ensures tight { (snap after : DatedState) → IsHonest io.new → SetIsTight (blocks_of io.old) set snap
         → PutsSlot (blocks_of io.old) snap after first below slot.now → ((k : ℕ) → first ≤ k → k < below → IsTightSlot after k slot.now)
         → IfOk result (λ made. SetIsTight (blocks_of io.new) made after) }
-    ensures damaged { IsHonest io.new → IfDamaged result (IsDamagedSet (IsSparedBy io.old) (disk_of io.old).size set) }
-    ensures within { IsHonest io.new → IfOk result (IsSetWithin (IsSparedBy io.old) (disk_of io.old).size set (IsSparedBy io.new)) }
-    ensures works { Works 240 16 (io_of io.old) (io_of io.new) (stop_of result) }
+    ensures makes { MakesSet 240 (io_of io.old) (io_of io.new) set result }
     ensures levels { IfOk result SetFits }
 {
     let leaf = first / 16;

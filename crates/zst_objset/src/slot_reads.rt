@@ -1,13 +1,14 @@
 //! What stands at a number of a set.
-ghost use Rattle.std.specs.Prelude.{◌+◌, ◌<◌, ◌≤◌, ◌^◌, IfOk, IfSome};
+ghost use Rattle.std.specs.Prelude.{◌<◌, ◌^◌, IfOk, IfSome};
 ghost use Rattle.zst_block.specs.IoStates.{IsHonest, blocks_of, disk_of, io_of};
-ghost use Rattle.zst_block.specs.IoCalls.{Looks, stop_of};
+ghost use Rattle.zst_block.specs.IoCalls.{stop_of};
 ghost use Rattle.zst_dnode.specs.Dnode.{DnodeFits};
 ghost use Rattle.zst_dnode.specs.Slot.{SlotFits};
 ghost use Rattle.zst_dnode.specs.declared.slot.Slot.TheVariants.{There};
 ghost use Rattle.zst_model.specs.states.DatedState.{DatedState};
 ghost use Rattle.zst_tree.specs.Damage.{IsSeen};
 ghost use Rattle.zst_tree.specs.Indices.{Delivers};
+ghost use Rattle.zst_tree.specs.Steps.{LooksAtMost};
 ghost use Rattle.zst_objset.specs.Damage.{IfDamaged, IsDamagedSet, SlotStands, StandsIn};
 ghost use Rattle.zst_objset.specs.Dnodes.{DnodeIs, SlotIs};
 ghost use Rattle.zst_objset.specs.Sets.{SetHolds};
@@ -34,8 +35,7 @@ pub(crate) fn slot_at<D: Disk>(
     ensures ranges { IfOk result SlotFits }
     ensures stands { IsHonest io.new → IfOk result (SlotStands (IsSeen (disk_of io.old).seen) set.now) }
     ensures damaged { IsHonest io.new → IfDamaged result (IsDamagedSet (IsSeen (disk_of io.old).seen) (disk_of io.old).size set.now) }
-    ensures looks { Looks (io_of io.old) (io_of io.new) (stop_of result) }
-    ensures calls { (disk_of io.new).calls ≤ (disk_of io.old).calls + 8 }
+    ensures looks { LooksAtMost 8 (io_of io.old) (io_of io.new) (stop_of result) }
 {
     let was = find_slots(set, io, object / 16)?;
     let place = (object % 16) as usize;
@@ -60,8 +60,7 @@ pub(crate) fn dnode_at<D: Disk>(
     ensures bound { IfOk result (λ found. IfSome found (λ dnode. object < 2 ^ 48)) }
     ensures stands { IsHonest io.new → IfOk result (λ found. IfSome found (StandsIn (IsSeen (disk_of io.old).seen) set.now)) }
     ensures damaged { IsHonest io.new → IfDamaged result (IsDamagedSet (IsSeen (disk_of io.old).seen) (disk_of io.old).size set.now) }
-    ensures looks { Looks (io_of io.old) (io_of io.new) (stop_of result) }
-    ensures calls { (disk_of io.new).calls ≤ (disk_of io.old).calls + 8 }
+    ensures looks { LooksAtMost 8 (io_of io.old) (io_of io.new) (stop_of result) }
 {
     if object >= NUMBER_BOUND {
         return Ok(None);

@@ -1,10 +1,11 @@
 //! The tree of an object, and the leaf of an index of a tree.
 ghost use Rattle.std.specs.Prelude.{◌≡◌, ◌+◌, ◌^◌, ◌<◌, ◌≤◌, IfOk};
 ghost use Rattle.zst_block.specs.IoStates.{IsHonest, blocks_of, disk_of, io_of};
-ghost use Rattle.zst_block.specs.IoCalls.{Looks, stop_of};
+ghost use Rattle.zst_block.specs.IoCalls.{stop_of};
 ghost use Rattle.zst_tree.specs.Damage.{HangsIn, IsSeen, MayHave, NamesDamage, NamesNode};
 ghost use Rattle.zst_tree.specs.Lookups.{Shows};
 ghost use Rattle.zst_tree.specs.Indices.{Delivers, Map, TreeIs};
+ghost use Rattle.zst_tree.specs.Steps.{LooksAtMost};
 ghost use Rattle.zst_objset.specs.Dnodes.{tree_of};
 
 use std::marker::Brand;
@@ -36,8 +37,7 @@ pub(crate) fn leaf_at<D: Disk>(
     ensures shows { (map : Map) → IsHonest io.new → TreeIs (blocks_of io.old) tree.now map → Delivers (λ ptr. ptr ≡ map index) result }
     ensures hangs { IsHonest io.new → IfOk result (HangsIn (MayHave (IsSeen (disk_of io.old).seen)) tree.now) }
     ensures damaged { IsHonest io.new → NamesDamage (IsSeen (disk_of io.old).seen) (disk_of io.old).size NamesNode tree.now.levels tree.now.root result }
-    ensures looks { Looks (io_of io.old) (io_of io.new) (stop_of result) }
-    ensures calls { (disk_of io.new).calls ≤ (disk_of io.old).calls + 7 }
+    ensures looks { LooksAtMost 7 (io_of io.old) (io_of io.new) (stop_of result) }
 {
     let found = run_at(tree, io, index)?;
     Ok(found.0)
@@ -55,8 +55,7 @@ pub(crate) fn run_at<D: Disk>(
     ensures range { IfOk result (λ found. (0 < found.1) × (index + found.1 ≤ 2 ^ 49)) }
     ensures hangs { IsHonest io.new → IfOk result (λ found. HangsIn (MayHave (IsSeen (disk_of io.old).seen)) tree.now found.0) }
     ensures damaged { IsHonest io.new → NamesDamage (IsSeen (disk_of io.old).seen) (disk_of io.old).size NamesNode tree.now.levels tree.now.root result }
-    ensures looks { Looks (io_of io.old) (io_of io.new) (stop_of result) }
-    ensures calls { (disk_of io.new).calls ≤ (disk_of io.old).calls + 7 }
+    ensures looks { LooksAtMost 7 (io_of io.old) (io_of io.new) (stop_of result) }
 {
     counted::<D, Brand>(tree, io, index, Blank::new(1))
 }
@@ -77,8 +76,7 @@ fn counted<D: Disk, L: Ledger>(
     ensures range { IfOk result (λ found. (0 < found.1) × (index + found.1 ≤ 2 ^ 49)) }
     ensures hangs { IsHonest io.new → IfOk result (λ found. HangsIn (MayHave (IsSeen (disk_of io.old).seen)) tree.now found.0) }
     ensures damaged { IsHonest io.new → NamesDamage (IsSeen (disk_of io.old).seen) (disk_of io.old).size NamesNode tree.now.levels tree.now.root result }
-    ensures looks { Looks (io_of io.old) (io_of io.new) (stop_of result) }
-    ensures calls { (disk_of io.new).calls ≤ (disk_of io.old).calls + 7 }
+    ensures looks { LooksAtMost 7 (io_of io.old) (io_of io.new) (stop_of result) }
 {
     let mut steps = Steps::<L>::new(blank);
     tree.get(io, index, &mut steps)

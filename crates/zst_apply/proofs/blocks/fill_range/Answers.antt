@@ -16,7 +16,7 @@ use Rattle.zst_apply.specs.Fills.{change_of}
 use Rattle.zst_apply.proofs.ByteRanges.{change_refused, no_change}
 use Rattle.zst_apply.proofs.ReceivedRecords.{free_received, number_of, redact_received}
 use Rattle.zst_apply.proofs.RecordAnswers.{not_there, refused}
-use Rattle.zst_apply.proofs.SetChanges.{changed_after, changed_by, fits_then, no_limit, of_index, refused_after}
+use Rattle.zst_apply.proofs.SetChanges.{changed_after, changed_by, no_limit, of_index, refused_after}
 use Rattle.zst_apply.proofs.SetFaults.{names_told, read_told}
 use Rattle.zst_apply.proofs.blocks.fill_range.Goals as goal
 
@@ -48,7 +48,7 @@ pub returns-in-Holes : goal.returns-in-Holes
 returns-in-Holes g c = record {
   changed =
       let looks = c.in_ok-dnode.ensures.looks in
-      let punched = c.punch.ensures in
+      let punched = c.punch.ensures.changes in
       let result = c.punch.result in
       let indices = c.freed_indices-indices in
       let change = free_change c.args.offset c.args.length in
@@ -56,40 +56,24 @@ returns-in-Holes g c = record {
       (changed_by (At c.args.object change) (holes_made c.args.number c.args.object indices.result.first indices.result.count) result
       (λ index state honest holds.
       let held = look_back (λ (seen : List ℕ) (space : FreeSectors). SetHolds (Has seen space) c.args.set.now state) looks holds in
-      let there = c.in_ok-dnode.ensures.found state (punched.works.fills.honest honest) held in
+      let there = c.in_ok-dnode.ensures.found state (punched.set.keeps.works.fills.honest honest) held in
       free_received _ c.args.number index c.args.object state c.in_ok-dnode.dnode held.lawful there c.args.offset c.args.length indices.result.first indices.result.count
       (number_of state c.args.object c.requires.object held.lawful there.object there.there) (rw c.in-Holes.is at (sym c.in_ok-check_range.ensures)) indices.ensures.inside (rw c.from-size.ensures at indices.ensures.same))
-      punched.changed punched.tight
-      (record {
-        limits = of_index _ result punched.limits;
-        never_redacted = punched.unredacted;
-        damaged = punched.damaged;
-        kept = punched.kept;
-        levels = fits_then _ _ result punched.kept punched.levels;
-        works = punched.works;
-      })));
+      (of_index _ result) (λ told. told) punched));
 }
 
 pub returns-in-Redacted : goal.returns-in-Redacted
 returns-in-Redacted g c = record {
   changed =
       let looks = c.in_ok-dnode.ensures.looks in
-      let redacted = c.redact_range.ensures in
+      let redacted = c.redact_range.ensures.changes in
       let result = c.redact_range.result in
       let change = Redact c.args.offset c.args.length in
       rw c.in-Redacted.is (changed_after (λ index. received c.args.number index (At c.args.object change)) result looks
       (changed_by (At c.args.object change) (range_redacted c.args.number c.args.object _ _) result
       (λ index state honest holds.
       let held = look_back (λ (seen : List ℕ) (space : FreeSectors). SetHolds (Has seen space) c.args.set.now state) looks holds in
-      let there = c.in_ok-dnode.ensures.found state (redacted.works.fills.honest honest) held in
+      let there = c.in_ok-dnode.ensures.found state (redacted.set.keeps.works.fills.honest honest) held in
       rw c.from-size.ensures (redact_received _ c.args.number index c.args.object state c.in_ok-dnode.dnode held.lawful there c.args.offset c.args.length (rw c.in-Redacted.is at (sym c.in_ok-check_range.ensures))))
-      redacted.changed redacted.tight
-      (record {
-        limits = of_index _ result redacted.limits;
-        never_redacted = redacted.unredacted;
-        damaged = λ honest. names_told _ _ c.args.set.now result (redacted.damaged honest);
-        kept = redacted.kept;
-        levels = fits_then _ _ result redacted.kept redacted.levels;
-        works = redacted.works;
-      })));
+      (of_index _ result) (names_told _ _ c.args.set.now result) redacted));
 }

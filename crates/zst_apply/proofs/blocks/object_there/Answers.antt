@@ -21,3 +21,8 @@ returns-in_err-attr-clause-found g c = λ state honest holds.
 
 pub returns-clause-size : goal.returns-clause-size
 returns-clause-size g c = sized c.in_ok-attr.field-0 _ c.ok_or.result c.ok_or.ensures.value c.in_ok-attr.ensures.ranges
+
+pub returns-in_err-attr-clause-looks : goal.returns-in_err-attr-clause-looks
+returns-in_err-attr-clause-looks g c =
+    let p = err_from_is_err_and c.from_residual.result c.from_residual.ensures.1 in
+    rw (p.1, p.2) c.in_err-attr.ensures.looks.looks

@@ -14,7 +14,7 @@ use Rattle.zst_objset.proofs.LeafLaws.{look_back}
 use Rattle.zst_apply.proofs.ByteRanges.{no_write, write_refused}
 use Rattle.zst_apply.proofs.ReceivedRecords.{write_received}
 use Rattle.zst_apply.proofs.RecordAnswers.{not_there, refused}
-use Rattle.zst_apply.proofs.SetChanges.{changed_after, changed_by, fits_then, no_limit, of_index, refused_after}
+use Rattle.zst_apply.proofs.SetChanges.{changed_after, changed_by, no_limit, of_index, refused_after}
 use Rattle.zst_apply.proofs.SetFaults.{names_told, read_told}
 use Rattle.zst_apply.proofs.blocks.write_block.Goals as goal
 
@@ -46,22 +46,14 @@ pub returns : goal.returns
 returns g c = record {
   changed = λ kind.
       let looks = c.in_ok-dnode.ensures.looks in
-      let wrote = c.write_block.ensures in
+      let wrote = c.write_block.ensures.changes in
       let result = c.write_block.result in
       let change = Write c.args.offset kind c.args.bytes.now in
       changed_after (λ index. received c.args.number index (At c.args.object change)) result looks
       (changed_by (At c.args.object change) (block_written c.args.number c.args.object _ c.args.bytes.now) result
       (λ index state honest holds.
       let held = look_back (λ (seen : List ℕ) (space : FreeSectors). SetHolds (Has seen space) c.args.set.now state) looks holds in
-      let there = c.in_ok-dnode.ensures.found state (wrote.works.fills.honest honest) held in
+      let there = c.in_ok-dnode.ensures.found state (wrote.set.keeps.works.fills.honest honest) held in
       rw c.from.ensures (write_received _ c.args.number index c.args.object state c.in_ok-dnode.dnode held.lawful there c.args.offset kind c.args.bytes.now (sym c.in_ok-check_write.ensures)))
-      wrote.changed wrote.tight
-      (record {
-        limits = of_index _ result wrote.limits;
-        never_redacted = wrote.unredacted;
-        damaged = λ honest. names_told _ _ c.args.set.now result (wrote.damaged honest);
-        kept = wrote.kept;
-        levels = fits_then _ _ result wrote.kept wrote.levels;
-        works = wrote.works;
-      }));
+      (of_index _ result) (names_told _ _ c.args.set.now result) wrote);
 }

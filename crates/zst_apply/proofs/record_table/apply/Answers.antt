@@ -12,7 +12,7 @@ use Rattle.zst_stream.specs.Items.{free_change}
 use Rattle.zst_objset.specs.Changes.{object_put, objects_freed, spill_put}
 use Rattle.zst_apply.proofs.ReceivedRecords.{freed_received, over_none, put_received, spill_received, under_bound}
 use Rattle.zst_apply.proofs.RecordCosts.{works_sized}
-use Rattle.zst_apply.proofs.SetChanges.{changed_by, fits_then, no_limit, record_changed}
+use Rattle.zst_apply.proofs.SetChanges.{changed_by, no_limit, record_changed, set_changed_by}
 use Rattle.zst_apply.proofs.SetFaults.{inside, slots_told}
 use Rattle.zst_apply.proofs.record_table.apply.Goals as goal
 
@@ -56,21 +56,13 @@ returns-in-Object g c = record {
       let less = under_bound k (stated k ((rw c.in-Object.is at c.requires.record).1.object_fits)) in
       let head : ObjectHead = record { type_ = c.in-Object.type_; bonus_type = c.in-Object.bonus_type; block_size = c.in-Object.block_size } in
       let bonus = take c.in-Object.bonus_len c.args.covered.now.payload.now in
-      let put = c.put_object.ensures in
+      let put = c.put_object.ensures.changes in
       let result = c.put_object.result in
       rw (c.in-Object.is, sym c.keeps_spill.ensures) (record_changed (At k (Put head bonus c.keeps_spill.result c.in-Object.max_block)) result
       (changed_by (At k (Put head bonus c.keeps_spill.result c.in-Object.max_block)) (object_put c.args.number k head bonus c.keeps_spill.result) result
       (λ index state honest holds. put_received c.args.number index k head bonus c.keeps_spill.result c.in-Object.max_block state less)
-      put.changed put.tight
-      (record {
-        limits = inside quantities.Object number_bound (k + 1) result (below k less) put.limits;
-        never_redacted = put.unredacted;
-        damaged = λ honest. slots_told _ _ c.args.set.now result (put.damaged honest);
-        kept = put.kept;
-        levels = fits_then _ _ result put.kept put.levels;
-        works = put.works;
-      }))
-      (Works-block put.works));
+      (inside quantities.Object number_bound (k + 1) result (below k less)) (slots_told _ _ c.args.set.now result) put)
+      (Works-block put.set.keeps.works));
 }
 
 pub returns-in-FreeObjects : goal.returns-in-FreeObjects
@@ -83,18 +75,11 @@ returns-in-FreeObjects g c = record {
       let freed = c.free_objects.ensures in
       let result = c.free_objects.result in
       rw c.in-FreeObjects.is (record_changed (FreeObjects first count) result
-      (changed_by (FreeObjects first count) (objects_freed c.args.number numbers.result.first numbers.result.count) result
+      (set_changed_by (FreeObjects first count) (objects_freed c.args.number numbers.result.first numbers.result.count) result
       (λ index state honest holds. freed_received c.args.number index first count numbers.result.first numbers.result.count state holds.lawful within_numbers (cut_same first count numbers.result.first numbers.result.count numbers.ensures.same))
-      freed.changed (λ state honest tight dated. freed.tight state honest tight)
-      (record {
-        limits = inside quantities.Object number_bound (numbers.result.first + numbers.result.count) result within_numbers freed.limits;
-        never_redacted = freed.unredacted;
-        damaged = λ honest. slots_told _ _ c.args.set.now result (freed.damaged honest);
-        kept = freed.kept;
-        levels = freed.levels;
-        works = freed.works;
-      }))
-      (Works-block freed.works));
+      (inside quantities.Object number_bound (numbers.result.first + numbers.result.count) result within_numbers) (slots_told _ _ c.args.set.now result)
+      freed.changes (λ state honest tight dated. freed.tight state honest tight) freed.levels)
+      (Works-block freed.changes.keeps.works));
 }
 
 pub returns-in-Write : goal.returns-in-Write
@@ -117,21 +102,13 @@ returns-in-Spill g c = record {
   changed =
       let k = c.in-Spill.object in
       let bytes = c.args.covered.now.payload.now in
-      let put = c.put_spill.ensures in
+      let put = c.put_spill.ensures.changes in
       let result = c.put_spill.result in
       rw c.in-Spill.is (record_changed (At k (Spill bytes)) result
       (changed_by (At k (Spill bytes)) (spill_put c.args.number k bytes) result
       (λ index state honest holds. spill_received c.args.number index k bytes state)
-      put.changed put.tight
-      (record {
-        limits = no_limit result put.limits;
-        never_redacted = put.unredacted;
-        damaged = λ honest. slots_told _ _ c.args.set.now result (put.damaged honest);
-        kept = put.kept;
-        levels = fits_then _ _ result put.kept put.levels;
-        works = put.works;
-      }))
-      (works_sized (rw c.in-Spill.is at c.requires.payload) put.works));
+      (no_limit result) (slots_told _ _ c.args.set.now result) put)
+      (works_sized (rw c.in-Spill.is at c.requires.payload) put.set.keeps.works));
 }
 
 pub returns-in-Redact : goal.returns-in-Redact

@@ -2,7 +2,7 @@ use Rattle.zst_objset.proofs.AnswerLaws.{disk_fault}
 use Rattle.zst_objset.proofs.answers.object_there.Goals as goal
 
 pub returns-in-Err-clause-found : goal.returns-in-Err-clause-found
-returns-in-Err-clause-found g c = λ snap honest holds. disk_fault c.in-Err.fault (c.in-Err.ensures.found snap honest holds) c.in-Err.ensures.looks.never_full
+returns-in-Err-clause-found g c = λ snap honest holds. disk_fault c.in-Err.fault (c.in-Err.ensures.found snap honest holds) c.in-Err.ensures.looks.looks.never_full
 
 pub returns-in-Ok-Some-clause-tight : goal.returns-in-Ok-Some-clause-tight
 returns-in-Ok-Some-clause-tight g c = λ snap honest tight. rw c.in-Ok-Some.field-0-is at (c.in-Ok-Some.ensures.tight snap honest tight)
@@ -13,20 +13,11 @@ dnode_at-requires g c = record { object = c.requires.object }
 pub returns-in-Ok-Some-clause-looks : goal.returns-in-Ok-Some-clause-looks
 returns-in-Ok-Some-clause-looks g c = c.in-Ok-Some.ensures.looks
 
-pub returns-in-Ok-Some-clause-calls : goal.returns-in-Ok-Some-clause-calls
-returns-in-Ok-Some-clause-calls g c = c.in-Ok-Some.ensures.calls
-
 pub returns-in-Ok-None-clause-looks : goal.returns-in-Ok-None-clause-looks
 returns-in-Ok-None-clause-looks g c = c.in-Ok-None.ensures.looks
 
-pub returns-in-Ok-None-clause-calls : goal.returns-in-Ok-None-clause-calls
-returns-in-Ok-None-clause-calls g c = c.in-Ok-None.ensures.calls
-
 pub returns-in-Err-clause-looks : goal.returns-in-Err-clause-looks
 returns-in-Err-clause-looks g c = c.in-Err.ensures.looks
-
-pub returns-in-Err-clause-calls : goal.returns-in-Err-clause-calls
-returns-in-Err-clause-calls g c = c.in-Err.ensures.calls
 
 pub returns-in-Ok-Some-clause-limits : goal.returns-in-Ok-Some-clause-limits
 returns-in-Ok-Some-clause-limits g c = tt

@@ -9,6 +9,9 @@ use Rattle.zst_objset.proofs.ChangePuts.{changed_to, makes_dnode}
 use Rattle.zst_objset.proofs.TightLaws.{change_tight}
 use Rattle.zst_objset.proofs.changes.put_dnode.Goals as goal
 
+pub returns-clause-puts : goal.returns-clause-puts
+returns-clause-puts g c = c.put_there.ensures.puts
+
 pub returns-clause-changed : goal.returns-clause-changed
 returns-clause-changed g c = λ number change state honest holds makes.
     let does = makes_dnode (blocks_of c.args.io.now) number c.args.object change state c.args.dnode holds.lawful holds.bounded c.applied_is_state.ensures makes in
@@ -26,24 +29,3 @@ put_there-requires-clause-object g c = c.requires.object
 
 pub put_there-requires-clause-dnode : goal.put_there-requires-clause-dnode
 put_there-requires-clause-dnode g c = c.requires.dnode
-
-pub returns-clause-limits : goal.returns-clause-limits
-returns-clause-limits g c = c.put_there.ensures.limits
-
-pub returns-clause-unredacted : goal.returns-clause-unredacted
-returns-clause-unredacted g c = c.put_there.ensures.unredacted
-
-pub returns-clause-damaged : goal.returns-clause-damaged
-returns-clause-damaged g c = c.put_there.ensures.damaged
-
-pub returns-clause-within : goal.returns-clause-within
-returns-clause-within g c = c.put_there.ensures.within
-
-pub returns-clause-kept : goal.returns-clause-kept
-returns-clause-kept g c = c.put_there.ensures.kept
-
-pub returns-clause-levels : goal.returns-clause-levels
-returns-clause-levels g c = c.put_there.ensures.levels
-
-pub returns-clause-works : goal.returns-clause-works
-returns-clause-works g c = c.put_there.ensures.works

@@ -1,4 +1,4 @@
-use Rattle.std.proofs.Common.{refl, ◌≡◌, arith, ap, subst, sym, ◌∙◌, true}
+use Rattle.std.proofs.Common.{◌≡◌, arith, ap, subst, sym, ◌∙◌, true}
 use Rattle.zst_block.specs.Blocks.{KeepsBlocks}
 use Rattle.zst_block.specs.IoStates.{blocks_of}
 use Rattle.zst_block.specs.declared.ptr.Ptr.{Ptr}
@@ -11,12 +11,83 @@ use Rattle.zst_dnode.specs.Dnode.{DnodeFits}
 use Rattle.zst_dnode.specs.declared.dnode.Dnode.{Dnode}
 use Rattle.zst_objset.proofs.LeafLaws.{is_number_at, keeps_on}
 use Rattle.zst_objset.proofs.SetGrowth.{IsThere-grows, SetHolds-grows}
-use Rattle.zst_objset.proofs.DamageLaws.{set_after, set_spared}
+use Rattle.zst_objset.proofs.DamageLaws.{set_after, set_spared, undamaged}
 use Rattle.std.proofs.Common.{inl, ◌≤◌}
 use Rattle.zst_dnode.specs.declared.slot.Slot.TheVariants.{There}
 use Rattle.zst_objset.specs.Sets.{date_in}
 use Rattle.zst_objset.proofs.TightLaws.{tight_dated, tight_grows}
+use Rattle.zst_objset.proofs.SetChangeLaws.{refused}
 use Rattle.zst_objset.proofs.changes.put_spill.Goals as goal
+
+pub returns-in-Err : goal.returns-in-Err
+returns-in-Err g c = record {
+  changes = refused _ _ (λ state honest holds.
+      change_not_there (blocks_of c.object_there.new.io) c.args.number c.args.object (Spill c.args.bytes.now) state c.in-Err.fault (no_spill c.args.bytes.now) (c.in-Err.ensures.found state honest holds))
+      c.in-Err.ensures.limits c.in-Err.ensures.unredacted (λ honest. set_spared _ _ _ c.args.set.now Dnode (Unit {0}) c.in-Err.fault (c.in-Err.ensures.damaged honest)) (Works-looks c.in-Err.ensures.looks.looks);
+}
+
+pub returns-in-Err-write : goal.returns-in-Err-write
+returns-in-Err-write g c = record {
+  changes = refused _ _ (λ state honest holds.
+      let there = c.in-Ok.ensures.found state (c.in-Err-write.ensures.block.works.fills.honest honest) holds in
+      stops _ _ c.in-Err-write.fault (spill_is c.args.number c.args.object c.args.bytes.now state there.object there.there) (undamaged_write c.in-Err-write.fault c.in-Err-write.ensures.block.never_damaged))
+      tt tt (λ honest. undamaged _ c.in-Err-write.fault (undamaged_write c.in-Err-write.fault c.in-Err-write.ensures.block.never_damaged)) (Works-after c.in-Ok.ensures.looks.looks (Works-more (omega arith) c.in-Err-write.ensures.block.works));
+}
+
+pub returns : goal.returns
+returns g c = record {
+  changes = record {
+    set = record {
+      changed = λ state honest holds.
+          let was_written = c.put_dnode.ensures.puts.keeps.works.fills.honest honest in
+          let wrote = c.in-Ok-write.ensures.block in
+          let there = c.in-Ok.ensures.found state (wrote.works.fills.honest was_written) holds in
+          let mid = g.D.Disk.state c.object_there.new.io.disk.now in
+          let new = g.D.Disk.state c.write.new.io.disk.now in
+          let has = blocks_of c.write.new.io in
+          let writing : KeepsBlocks mid.seen c.object_there.new.io.space new.seen c.write.new.io.space = KeepsBlocks-fills _ _ _ _ wrote.works.fills in
+          let grown = SetHolds-grows (blocks_of c.args.io.now) has (keeps_on c.in-Ok.ensures.looks.looks wrote.works.fills) c.args.set.now state holds in
+          let here = IsThere-grows (blocks_of c.object_there.new.io) has writing state c.args.object c.in-Ok.dnode there in
+          let kind = ap (λ (ptr : Ptr). ptr.kind) wrote.pointer in
+          let size : is_spill_size c.in-Ok-write.ptr.length ≡ true = ap (λ (ptr : Ptr). is_spill_size ptr.length) wrote.pointer ∙ c.requires.spill in
+          let made = c.with_spill.ensures in
+          let number = is_number_at c.args.object (omega arith) (omega (arith, c.in-Ok.ensures.bound)) in
+          let makes = spill_makes_dnode has c.args.number c.args.object c.args.bytes.now state c.in-Ok.dnode c.with_spill.result c.in-Ok-write.ptr here number c.requires.spill kind wrote.wrote made.made
+          (spill_fits c.in-Ok.dnode c.in-Ok-write.ptr c.args.number c.in-Ok.ensures.ranges made.fits made.date kind size) in
+          c.put_dnode.ensures.changed c.args.number (Spill c.args.bytes.now) state honest grown makes;
+      keeps = record {
+        limits = c.put_dnode.ensures.puts.keeps.limits;
+        unredacted = c.put_dnode.ensures.puts.keeps.unredacted;
+        damaged = λ honest.
+            let filled = (Works-after c.in-Ok.ensures.looks.looks c.in-Ok-write.ensures.block.works).fills in
+            set_after _ _ _ _ filled c.args.set.now c.put_dnode.result (c.put_dnode.ensures.puts.keeps.damaged honest);
+        kept = c.put_dnode.ensures.puts.keeps.kept;
+        works = Works-after c.in-Ok.ensures.looks.looks (Works-more (omega arith) (Works-then c.in-Ok-write.ensures.block.works (Works-block c.put_dnode.ensures.puts.keeps.works)));
+      };
+    };
+    tight = λ state honest tight dated.
+        let was_written = c.put_dnode.ensures.puts.keeps.works.fills.honest honest in
+        let wrote = c.in-Ok-write.ensures.block in
+        let there = c.in-Ok.ensures.found state (wrote.works.fills.honest was_written) tight.holds in
+        let old = g.D.Disk.state c.args.io.now.disk.now in
+        let mid = g.D.Disk.state c.object_there.new.io.disk.now in
+        let new = g.D.Disk.state c.write.new.io.disk.now in
+        let has = blocks_of c.write.new.io in
+        let writing : KeepsBlocks mid.seen c.object_there.new.io.space new.seen c.write.new.io.space = KeepsBlocks-fills _ _ _ _ wrote.works.fills in
+        let grown = tight_grows c.args.set.now old.seen c.args.io.now.space new.seen c.write.new.io.space state (keeps_on c.in-Ok.ensures.looks.looks wrote.works.fills) tight in
+        let here = IsThere-grows (blocks_of c.object_there.new.io) has writing state c.args.object c.in-Ok.dnode there in
+        let kind = ap (λ (ptr : Ptr). ptr.kind) wrote.pointer in
+        let size : is_spill_size c.in-Ok-write.ptr.length ≡ true = ap (λ (ptr : Ptr). is_spill_size ptr.length) wrote.pointer ∙ c.requires.spill in
+        let made = c.with_spill.ensures in
+        let number = is_number_at c.args.object (omega arith) (omega (arith, c.in-Ok.ensures.bound)) in
+        let makes = spill_makes_dnode has c.args.number c.args.object c.args.bytes.now state c.in-Ok.dnode c.with_spill.result c.in-Ok-write.ptr here number c.requires.spill kind wrote.wrote made.made
+        (spill_fits c.in-Ok.dnode c.in-Ok-write.ptr c.args.number c.in-Ok.ensures.ranges made.fits made.date kind size) in
+        let was = tight_dated c.args.number state c.args.object (There c.in-Ok.dnode) dated (c.in-Ok.ensures.tight state (wrote.works.fills.honest was_written) tight) in
+        let early = subst (λ (dnode : Dnode). date_in (There dnode) ≤ c.args.number) (sym made.made) (omega (arith, was)) in
+        c.put_dnode.ensures.tight c.args.number (Spill c.args.bytes.now) state honest grown makes (inl early);
+    levels = c.put_dnode.ensures.puts.levels;
+  };
+}
 
 pub write-requires-clause-some : goal.write-requires-clause-some
 write-requires-clause-some g c = spill_some _ c.requires.spill
@@ -27,40 +98,6 @@ write-requires-clause-whole g c = spill_whole _ c.requires.spill
 pub write-requires-clause-small : goal.write-requires-clause-small
 write-requires-clause-small g c = spill_small _ c.requires.spill
 
-pub returns-in-Err-clause-changed : goal.returns-in-Err-clause-changed
-returns-in-Err-clause-changed g c = λ state honest holds.
-    change_not_there (blocks_of c.object_there.new.io) c.args.number c.args.object (Spill c.args.bytes.now) state c.in-Err.fault (no_spill c.args.bytes.now) (c.in-Err.ensures.found state honest holds)
-
-pub returns-in-Err-write-clause-changed : goal.returns-in-Err-write-clause-changed
-returns-in-Err-write-clause-changed g c = λ state honest holds.
-    let there = c.in-Ok.ensures.found state (c.in-Err-write.ensures.block.works.fills.honest honest) holds in
-    stops _ _ c.in-Err-write.fault (spill_is c.args.number c.args.object c.args.bytes.now state there.object there.there) (undamaged_write c.in-Err-write.fault c.in-Err-write.ensures.block.never_damaged)
-
-pub returns-in-Err-write-clause-works : goal.returns-in-Err-write-clause-works
-returns-in-Err-write-clause-works g c = Works-after c.in-Ok.ensures.looks (Works-more (omega arith) c.in-Err-write.ensures.block.works)
-
-pub returns-clause-works : goal.returns-clause-works
-returns-clause-works g c = Works-after c.in-Ok.ensures.looks (Works-more (omega arith) (Works-then c.in-Ok-write.ensures.block.works (Works-block c.put_dnode.ensures.works)))
-
-pub returns-clause-changed : goal.returns-clause-changed
-returns-clause-changed g c = λ state honest holds.
-    let was_written = c.put_dnode.ensures.works.fills.honest honest in
-    let wrote = c.in-Ok-write.ensures.block in
-    let there = c.in-Ok.ensures.found state (wrote.works.fills.honest was_written) holds in
-    let mid = g.D.Disk.state c.object_there.new.io.disk.now in
-    let new = g.D.Disk.state c.write.new.io.disk.now in
-    let has = blocks_of c.write.new.io in
-    let writing : KeepsBlocks mid.seen c.object_there.new.io.space new.seen c.write.new.io.space = KeepsBlocks-fills _ _ _ _ wrote.works.fills in
-    let grown = SetHolds-grows (blocks_of c.args.io.now) has (keeps_on c.in-Ok.ensures.looks wrote.works.fills) c.args.set.now state holds in
-    let here = IsThere-grows (blocks_of c.object_there.new.io) has writing state c.args.object c.in-Ok.dnode there in
-    let kind = ap (λ (ptr : Ptr). ptr.kind) wrote.pointer in
-    let size : is_spill_size c.in-Ok-write.ptr.length ≡ true = ap (λ (ptr : Ptr). is_spill_size ptr.length) wrote.pointer ∙ c.requires.spill in
-    let made = c.with_spill.ensures in
-    let number = is_number_at c.args.object (omega arith) (omega (arith, c.in-Ok.ensures.bound)) in
-    let makes = spill_makes_dnode has c.args.number c.args.object c.args.bytes.now state c.in-Ok.dnode c.with_spill.result c.in-Ok-write.ptr here number c.requires.spill kind wrote.wrote made.made
-    (spill_fits c.in-Ok.dnode c.in-Ok-write.ptr c.args.number c.in-Ok.ensures.ranges made.fits made.date kind size) in
-    c.put_dnode.ensures.changed c.args.number (Spill c.args.bytes.now) state honest grown makes
-
 pub put_dnode-requires-clause-dnode : goal.put_dnode-requires-clause-dnode
 put_dnode-requires-clause-dnode g c =
     let made = c.with_spill.ensures in
@@ -68,83 +105,8 @@ put_dnode-requires-clause-dnode g c =
     let size : is_spill_size c.in-Ok-write.ptr.length ≡ true = ap (λ (ptr : Ptr). is_spill_size ptr.length) wrote.pointer ∙ c.requires.spill in
     subst (λ (dnode : Dnode). DnodeFits dnode) (sym made.made) (spill_fits c.in-Ok.dnode c.in-Ok-write.ptr c.args.number c.in-Ok.ensures.ranges made.fits made.date (ap (λ (ptr : Ptr). ptr.kind) wrote.pointer) size)
 
-pub returns-in-Err-clause-damaged : goal.returns-in-Err-clause-damaged
-returns-in-Err-clause-damaged g c = λ honest. set_spared _ _ _ c.args.set.now Dnode (Unit {0}) c.in-Err.fault (c.in-Err.ensures.damaged honest)
-
-pub returns-clause-damaged : goal.returns-clause-damaged
-returns-clause-damaged g c = λ honest.
-    let filled = (Works-after c.in-Ok.ensures.looks c.in-Ok-write.ensures.block.works).fills in
-    set_after _ _ _ _ filled c.args.set.now c.put_dnode.result (c.put_dnode.ensures.damaged honest)
-
-pub returns-in-Err-clause-tight : goal.returns-in-Err-clause-tight
-returns-in-Err-clause-tight g c = λ state honest tight dated. returns-in-Err-clause-changed g c state honest tight.holds
-
-pub returns-in-Err-write-clause-tight : goal.returns-in-Err-write-clause-tight
-returns-in-Err-write-clause-tight g c = λ state honest tight dated. returns-in-Err-write-clause-changed g c state honest tight.holds
-
-pub returns-clause-tight : goal.returns-clause-tight
-returns-clause-tight g c = λ state honest tight dated.
-    let was_written = c.put_dnode.ensures.works.fills.honest honest in
-    let wrote = c.in-Ok-write.ensures.block in
-    let there = c.in-Ok.ensures.found state (wrote.works.fills.honest was_written) tight.holds in
-    let old = g.D.Disk.state c.args.io.now.disk.now in
-    let mid = g.D.Disk.state c.object_there.new.io.disk.now in
-    let new = g.D.Disk.state c.write.new.io.disk.now in
-    let has = blocks_of c.write.new.io in
-    let writing : KeepsBlocks mid.seen c.object_there.new.io.space new.seen c.write.new.io.space = KeepsBlocks-fills _ _ _ _ wrote.works.fills in
-    let grown = tight_grows c.args.set.now old.seen c.args.io.now.space new.seen c.write.new.io.space state (keeps_on c.in-Ok.ensures.looks wrote.works.fills) tight in
-    let here = IsThere-grows (blocks_of c.object_there.new.io) has writing state c.args.object c.in-Ok.dnode there in
-    let kind = ap (λ (ptr : Ptr). ptr.kind) wrote.pointer in
-    let size : is_spill_size c.in-Ok-write.ptr.length ≡ true = ap (λ (ptr : Ptr). is_spill_size ptr.length) wrote.pointer ∙ c.requires.spill in
-    let made = c.with_spill.ensures in
-    let number = is_number_at c.args.object (omega arith) (omega (arith, c.in-Ok.ensures.bound)) in
-    let makes = spill_makes_dnode has c.args.number c.args.object c.args.bytes.now state c.in-Ok.dnode c.with_spill.result c.in-Ok-write.ptr here number c.requires.spill kind wrote.wrote made.made
-    (spill_fits c.in-Ok.dnode c.in-Ok-write.ptr c.args.number c.in-Ok.ensures.ranges made.fits made.date kind size) in
-    let was = tight_dated c.args.number state c.args.object (There c.in-Ok.dnode) dated (c.in-Ok.ensures.tight state (wrote.works.fills.honest was_written) tight) in
-    let early = subst (λ (dnode : Dnode). date_in (There dnode) ≤ c.args.number) (sym made.made) (omega (arith, was)) in
-    c.put_dnode.ensures.tight c.args.number (Spill c.args.bytes.now) state honest grown makes (inl early)
-
 pub object_there-requires : goal.object_there-requires
 object_there-requires g c = record { object = c.requires.object }
 
-pub returns-in-Err-clause-limits : goal.returns-in-Err-clause-limits
-returns-in-Err-clause-limits g c = c.in-Err.ensures.limits
-
-pub returns-in-Err-clause-unredacted : goal.returns-in-Err-clause-unredacted
-returns-in-Err-clause-unredacted g c = c.in-Err.ensures.unredacted
-
-pub returns-in-Err-clause-kept : goal.returns-in-Err-clause-kept
-returns-in-Err-clause-kept g c = refl
-
-pub returns-in-Err-clause-levels : goal.returns-in-Err-clause-levels
-returns-in-Err-clause-levels g c = tt
-
-pub returns-in-Err-clause-works : goal.returns-in-Err-clause-works
-returns-in-Err-clause-works g c = Works-looks c.in-Err.ensures.looks
-
-pub returns-in-Err-write-clause-limits : goal.returns-in-Err-write-clause-limits
-returns-in-Err-write-clause-limits g c = tt
-
-pub returns-in-Err-write-clause-unredacted : goal.returns-in-Err-write-clause-unredacted
-returns-in-Err-write-clause-unredacted g c = tt
-
-pub returns-in-Err-write-clause-kept : goal.returns-in-Err-write-clause-kept
-returns-in-Err-write-clause-kept g c = refl
-
-pub returns-in-Err-write-clause-levels : goal.returns-in-Err-write-clause-levels
-returns-in-Err-write-clause-levels g c = tt
-
 pub put_dnode-requires-clause-object : goal.put_dnode-requires-clause-object
 put_dnode-requires-clause-object g c = (c.requires.object, c.in-Ok.ensures.bound)
-
-pub returns-clause-limits : goal.returns-clause-limits
-returns-clause-limits g c = c.put_dnode.ensures.limits
-
-pub returns-clause-unredacted : goal.returns-clause-unredacted
-returns-clause-unredacted g c = c.put_dnode.ensures.unredacted
-
-pub returns-clause-kept : goal.returns-clause-kept
-returns-clause-kept g c = c.put_dnode.ensures.kept
-
-pub returns-clause-levels : goal.returns-clause-levels
-returns-clause-levels g c = c.put_dnode.ensures.levels

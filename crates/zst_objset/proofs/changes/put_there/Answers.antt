@@ -4,6 +4,32 @@ use Rattle.zst_objset.specs.TightSets.{IsTightSlot}
 use Rattle.zst_objset.proofs.SpillLaws.{stops}
 use Rattle.zst_objset.proofs.changes.put_there.Goals as goal
 
+pub returns-in-Ok-clause-puts : goal.returns-in-Ok-clause-puts
+returns-in-Ok-clause-puts g c = record {
+  keeps = record {
+    limits = tt;
+    unredacted = tt;
+    damaged = λ honest. tt;
+    kept = tt;
+    works = c.in-Ok.ensures.makes.works;
+  };
+  within = c.in-Ok.ensures.makes.within;
+  levels = c.in-Ok.ensures.levels;
+}
+
+pub returns-in-Err-clause-puts : goal.returns-in-Err-clause-puts
+returns-in-Err-clause-puts g c = record {
+  keeps = record {
+    limits = tt;
+    unredacted = tt;
+    damaged = c.in-Err.ensures.makes.damaged;
+    kept = refl;
+    works = c.in-Err.ensures.makes.works;
+  };
+  within = λ honest. tt;
+  levels = tt;
+}
+
 pub returns-in-Ok-clause-changed : goal.returns-in-Ok-clause-changed
 returns-in-Ok-clause-changed g c = λ before now honest holds puts. (now, refl, c.in-Ok.ensures.put before now honest holds puts)
 
@@ -25,45 +51,3 @@ put_in_leaf-requires-clause-first g c = c.requires.object.0
 
 pub put_in_leaf-requires-clause-slot : goal.put_in_leaf-requires-clause-slot
 put_in_leaf-requires-clause-slot g c = c.requires.dnode
-
-pub returns-in-Ok-clause-limits : goal.returns-in-Ok-clause-limits
-returns-in-Ok-clause-limits g c = tt
-
-pub returns-in-Ok-clause-unredacted : goal.returns-in-Ok-clause-unredacted
-returns-in-Ok-clause-unredacted g c = tt
-
-pub returns-in-Ok-clause-damaged : goal.returns-in-Ok-clause-damaged
-returns-in-Ok-clause-damaged g c = λ honest. tt
-
-pub returns-in-Ok-clause-within : goal.returns-in-Ok-clause-within
-returns-in-Ok-clause-within g c = c.in-Ok.ensures.within
-
-pub returns-in-Ok-clause-kept : goal.returns-in-Ok-clause-kept
-returns-in-Ok-clause-kept g c = tt
-
-pub returns-in-Ok-clause-levels : goal.returns-in-Ok-clause-levels
-returns-in-Ok-clause-levels g c = c.in-Ok.ensures.levels
-
-pub returns-in-Ok-clause-works : goal.returns-in-Ok-clause-works
-returns-in-Ok-clause-works g c = c.in-Ok.ensures.works
-
-pub returns-in-Err-clause-limits : goal.returns-in-Err-clause-limits
-returns-in-Err-clause-limits g c = tt
-
-pub returns-in-Err-clause-unredacted : goal.returns-in-Err-clause-unredacted
-returns-in-Err-clause-unredacted g c = tt
-
-pub returns-in-Err-clause-damaged : goal.returns-in-Err-clause-damaged
-returns-in-Err-clause-damaged g c = c.in-Err.ensures.damaged
-
-pub returns-in-Err-clause-within : goal.returns-in-Err-clause-within
-returns-in-Err-clause-within g c = λ honest. tt
-
-pub returns-in-Err-clause-kept : goal.returns-in-Err-clause-kept
-returns-in-Err-clause-kept g c = refl
-
-pub returns-in-Err-clause-levels : goal.returns-in-Err-clause-levels
-returns-in-Err-clause-levels g c = tt
-
-pub returns-in-Err-clause-works : goal.returns-in-Err-clause-works
-returns-in-Err-clause-works g c = c.in-Err.ensures.works

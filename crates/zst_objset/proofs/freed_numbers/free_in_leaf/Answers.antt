@@ -1,3 +1,4 @@
+use Rattle.zst_block.proofs.IoCallLemmas.{Looks-none, Works-looks}
 use Rattle.zst_objset.proofs.FreeLaws.{freed_puts}
 use Rattle.zst_objset.proofs.TightLaws.{freed_tight}
 use Rattle.std.proofs.Common.{subst, sym}
@@ -6,12 +7,16 @@ use Rattle.zst_objset.specs.TightSets.{SetIsTight}
 use Rattle.zst_objset.proofs.FreeLaws.{freed-none}
 use Rattle.zst_objset.proofs.freed_numbers.free_in_leaf.Goals as goal
 
+pub returns-then-first-below-clause-makes : goal.returns-then-first-below-clause-makes
+returns-then-first-below-clause-makes g c = record {
+  damaged = λ honest. tt;
+  within = λ honest sector stated found damaged. damaged;
+  works = Works-looks (Looks-none _);
+}
+
 pub returns-clause-frees : goal.returns-clause-frees
 returns-clause-frees g c = λ state honest holds.
     c.put_in_leaf.ensures.put state _ honest holds (freed_puts c.args.number c.args.first c.args.below state _ holds.lawful holds.bounded)
-
-pub returns-then-first-below-clause-within : goal.returns-then-first-below-clause-within
-returns-then-first-below-clause-within g c = λ honest sector stated found damaged. damaged
 
 pub returns-clause-tight : goal.returns-clause-tight
 returns-clause-tight g c = λ state honest tight.

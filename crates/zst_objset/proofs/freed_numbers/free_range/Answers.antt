@@ -19,45 +19,45 @@ returns-in_err-begun-clause-frees g c = λ state honest holds.
 pub returns-in_err-made-clause-frees : goal.returns-in_err-made-clause-frees
 returns-in_err-made-clause-frees g c = λ state honest holds.
     let p = err_from_is_err_and c.from_residual-in_err-made.result c.from_residual-in_err-made.ensures.1 in
-    let begun = c.in_ok-begun.ensures.frees state (c.in_err-made.ensures.works.fills.honest honest) holds in
+    let begun = c.in_ok-begun.ensures.frees state (c.in_err-made.ensures.makes.works.fills.honest honest) holds in
     rw (p.1, p.2) (c.in_err-made.ensures.frees _ honest begun)
 
 pub returns-in_err-made-clause-works : goal.returns-in_err-made-clause-works
 returns-in_err-made-clause-works g c =
     let p = err_from_is_err_and c.from_residual-in_err-made.result c.from_residual-in_err-made.ensures.1 in
-    rw (p.1, p.2) (Works-more (omega arith) (Works-then c.in_ok-begun.ensures.works c.in_err-made.ensures.works))
+    rw (p.1, p.2) (Works-more (omega arith) (Works-then c.in_ok-begun.ensures.makes.works c.in_err-made.ensures.makes.works))
 
 pub returns-clause-frees : goal.returns-clause-frees
 returns-clause-frees g c = λ state honest holds.
-    let was_made = c.free_in_leaf-3.ensures.works.fills.honest honest in
-    let begun = c.in_ok-begun.ensures.frees state (c.in_ok-made.ensures.works.fills.honest was_made) holds in
+    let was_made = c.free_in_leaf-3.ensures.makes.works.fills.honest honest in
+    let begun = c.in_ok-begun.ensures.frees state (c.in_ok-made.ensures.makes.works.fills.honest was_made) holds in
     let made = c.in_ok-made.ensures.frees _ was_made begun in
     subst (λ (after : DatedState). Delivers (λ set. SetHolds (blocks_of c.free_in_leaf-3.new.io) set after) c.free_in_leaf-3.result)
     (freed-parts c.args.number c.args.first (16 * c.div_ceil-whole.result) (16 * (c.args.below / 16)) c.args.below state (omega arith) (omega arith) (omega arith))
     (c.free_in_leaf-3.ensures.frees _ honest made)
 
 pub returns-clause-works : goal.returns-clause-works
-returns-clause-works g c = Works-then (Works-then c.in_ok-begun.ensures.works c.in_ok-made.ensures.works) c.free_in_leaf-3.ensures.works
+returns-clause-works g c = Works-then (Works-then c.in_ok-begun.ensures.makes.works c.in_ok-made.ensures.makes.works) c.free_in_leaf-3.ensures.makes.works
 
 pub returns-in_err-made-clause-damaged : goal.returns-in_err-made-clause-damaged
 returns-in_err-made-clause-damaged g c = λ honest.
     let p = err_from_is_err_and c.from_residual-in_err-made.result c.from_residual-in_err-made.ensures.1 in
     let begun = c.in_ok-begun.ensures in
-    rw (p.1, p.2) (fault_within _ _ _ c.args.set _ c.in_ok-begun.begun begun.works.fills.size (begun.within (c.in_err-made.ensures.works.fills.honest honest)) _ (c.in_err-made.ensures.damaged honest))
+    rw (p.1, p.2) (fault_within _ _ _ c.args.set _ c.in_ok-begun.begun begun.makes.works.fills.size (begun.makes.within (c.in_err-made.ensures.makes.works.fills.honest honest)) _ (c.in_err-made.ensures.makes.damaged honest))
 
 pub returns-clause-damaged : goal.returns-clause-damaged
 returns-clause-damaged g c = λ honest.
     let begun = c.in_ok-begun.ensures in
     let made = c.in_ok-made.ensures in
-    let was_made = c.free_in_leaf-3.ensures.works.fills.honest honest in
-    let filled = (Works-then begun.works made.works).fills in
-    let within = set_within _ _ _ c.args.set _ c.in_ok-begun.begun _ c.in_ok-made.made begun.works.fills.size (begun.within (made.works.fills.honest was_made)) (made.within was_made) in
-    result_within _ _ _ c.args.set _ c.in_ok-made.made filled.size within c.free_in_leaf-3.result (c.free_in_leaf-3.ensures.damaged honest)
+    let was_made = c.free_in_leaf-3.ensures.makes.works.fills.honest honest in
+    let filled = (Works-then begun.makes.works made.makes.works).fills in
+    let within = set_within _ _ _ c.args.set _ c.in_ok-begun.begun _ c.in_ok-made.made begun.makes.works.fills.size (begun.makes.within (made.makes.works.fills.honest was_made)) (made.makes.within was_made) in
+    result_within _ _ _ c.args.set _ c.in_ok-made.made filled.size within c.free_in_leaf-3.result (c.free_in_leaf-3.ensures.makes.damaged honest)
 
 pub returns-clause-tight : goal.returns-clause-tight
 returns-clause-tight g c = λ state honest tight.
-    let was_made = c.free_in_leaf-3.ensures.works.fills.honest honest in
-    let begun = c.in_ok-begun.ensures.tight state (c.in_ok-made.ensures.works.fills.honest was_made) tight in
+    let was_made = c.free_in_leaf-3.ensures.makes.works.fills.honest honest in
+    let begun = c.in_ok-begun.ensures.tight state (c.in_ok-made.ensures.makes.works.fills.honest was_made) tight in
     let made = c.in_ok-made.ensures.tight _ was_made begun in
     subst (λ (after : DatedState). IfOk c.free_in_leaf-3.result (λ set. SetIsTight (blocks_of c.free_in_leaf-3.new.io) set after))
     (freed-parts c.args.number c.args.first (16 * c.div_ceil-whole.result) (16 * (c.args.below / 16)) c.args.below state (omega arith) (omega arith) (omega arith))
@@ -79,13 +79,13 @@ pub returns-then-last-whole-clause-tight : goal.returns-then-last-whole-clause-t
 returns-then-last-whole-clause-tight g c = c.free_in_leaf.ensures.tight
 
 pub returns-then-last-whole-clause-damaged : goal.returns-then-last-whole-clause-damaged
-returns-then-last-whole-clause-damaged g c = c.free_in_leaf.ensures.damaged
+returns-then-last-whole-clause-damaged g c = c.free_in_leaf.ensures.makes.damaged
 
 pub returns-then-last-whole-clause-levels : goal.returns-then-last-whole-clause-levels
 returns-then-last-whole-clause-levels g c = c.free_in_leaf.ensures.levels
 
 pub returns-then-last-whole-clause-works : goal.returns-then-last-whole-clause-works
-returns-then-last-whole-clause-works g c = Works-more (omega arith) c.free_in_leaf.ensures.works
+returns-then-last-whole-clause-works g c = Works-more (omega arith) c.free_in_leaf.ensures.makes.works
 
 pub free_in_leaf-requires-2-clause-first : goal.free_in_leaf-requires-2-clause-first
 free_in_leaf-requires-2-clause-first g c = c.requires.first
@@ -103,12 +103,12 @@ returns-in_err-begun-clause-levels g c = λ fits.
 pub returns-in_err-begun-clause-damaged : goal.returns-in_err-begun-clause-damaged
 returns-in_err-begun-clause-damaged g c = λ honest.
     let p = err_from_is_err_and c.from_residual.result c.from_residual.ensures.1 in
-    rw (p.1, p.2) (c.in_err-begun.ensures.damaged honest)
+    rw (p.1, p.2) (c.in_err-begun.ensures.makes.damaged honest)
 
 pub returns-in_err-begun-clause-works : goal.returns-in_err-begun-clause-works
 returns-in_err-begun-clause-works g c =
     let p = err_from_is_err_and c.from_residual.result c.from_residual.ensures.1 in
-    rw (p.1, p.2) (Works-more (omega arith) c.in_err-begun.ensures.works)
+    rw (p.1, p.2) (Works-more (omega arith) c.in_err-begun.ensures.makes.works)
 
 pub returns-in_err-made-clause-tight : goal.returns-in_err-made-clause-tight
 returns-in_err-made-clause-tight g c = λ state honest tight.

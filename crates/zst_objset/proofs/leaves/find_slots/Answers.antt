@@ -1,15 +1,32 @@
-use Rattle.std.proofs.Common.{subst, sym, ℕ, List}
+use Rattle.std.proofs.Common.{arith, subst, sym, ℕ, List}
 use Rattle.std.proofs.lemmas.Result.{err_from_is_err_and}
 use Rattle.zst_space.specs.FreeSectors.{FreeSectors}
 use Rattle.zst_block.specs.Blocks.{Has}
 use Rattle.zst_block.specs.IoStates.{blocks_of}
 use Rattle.zst_block.specs.declared.ptr.Ptr.{Ptr}
 use Rattle.zst_objset.specs.Sets.{HasSlots, LeafIs}
-use Rattle.zst_objset.proofs.LeafLaws.{calls_then, look_on, look_back, within_one_more}
+use Rattle.zst_objset.proofs.LeafLaws.{look_on, look_back}
 use Rattle.zst_objset.specs.TightSets.{IsTightLeaf}
 use Rattle.zst_objset.proofs.TightLaws.{loaded_tight}
-use Rattle.zst_block.proofs.IoCallLemmas.{Looks-then}
+use Rattle.zst_tree.proofs.StepLooks.{AtMost-more, AtMost-none, AtMost-then}
+use Rattle.zst_objset.proofs.SetChangeLaws.{most_told}
 use Rattle.zst_objset.proofs.leaves.find_slots.Goals as goal
+
+pub returns-then-set-gt7-clause-looks : goal.returns-then-set-gt7-clause-looks
+returns-then-set-gt7-clause-looks g c = most_told _ c.of_layout.ensures (AtMost-none _)
+
+pub returns-in_err-was-clause-looks : goal.returns-in_err-was-clause-looks
+returns-in_err-was-clause-looks g c =
+    let p = err_from_is_err_and c.from_residual.result c.from_residual.ensures.1 in
+    rw (p.1, p.2) (AtMost-more (omega arith) c.in_err-was.ensures.looks)
+
+pub returns-in_err-load_slots-clause-looks : goal.returns-in_err-load_slots-clause-looks
+returns-in_err-load_slots-clause-looks g c =
+    let p = err_from_is_err_and c.from_residual-in_err-load_slots.result c.from_residual-in_err-load_slots.ensures.1 in
+    rw (p.1, p.2) (AtMost-then {more = 1} (omega arith) c.in_ok-was.ensures.looks (record { looks = c.in_err-load_slots.ensures.looks; calls = c.in_err-load_slots.ensures.calls }))
+
+pub returns-clause-looks : goal.returns-clause-looks
+returns-clause-looks g c = AtMost-then {more = 1} (omega arith) c.in_ok-was.ensures.looks (record { looks = c.in_ok-load_slots.ensures.looks; calls = c.in_ok-load_slots.ensures.calls })
 
 pub returns-in_err-was-clause-slots : goal.returns-in_err-was-clause-slots
 returns-in_err-was-clause-slots g c = λ snap honest holds.
@@ -21,7 +38,7 @@ returns-in_err-load_slots-clause-slots g c = λ snap honest holds.
     let p = err_from_is_err_and c.from_residual-in_err-load_slots.result c.from_residual-in_err-load_slots.ensures.1 in
     let found = c.in_ok-was.ensures in
     let same = found.shows holds.map (c.load_slots.ensures.looks.reads.honest honest) holds.tree in
-    let leaf = look_on (λ (seen : List ℕ) (space : FreeSectors). LeafIs (Has seen space) snap c.args.leaf c.in_ok-was.was') found.looks
+    let leaf = look_on (λ (seen : List ℕ) (space : FreeSectors). LeafIs (Has seen space) snap c.args.leaf c.in_ok-was.was') found.looks.looks
     (subst (λ (ptr : Ptr). LeafIs (blocks_of c.args.io.now) snap c.args.leaf ptr) (sym same) (holds.leaves c.args.leaf c.requires.leaf)) in
     rw (p.1, p.2) (c.in_err-load_slots.ensures.slots snap honest leaf)
 
@@ -29,9 +46,9 @@ pub returns-clause-slots : goal.returns-clause-slots
 returns-clause-slots g c = λ snap honest holds.
     let found = c.in_ok-was.ensures in
     let same = found.shows holds.map (c.load_slots.ensures.looks.reads.honest honest) holds.tree in
-    let leaf = look_on (λ (seen : List ℕ) (space : FreeSectors). LeafIs (Has seen space) snap c.args.leaf c.in_ok-was.was') found.looks
+    let leaf = look_on (λ (seen : List ℕ) (space : FreeSectors). LeafIs (Has seen space) snap c.args.leaf c.in_ok-was.was') found.looks.looks
     (subst (λ (ptr : Ptr). LeafIs (blocks_of c.args.io.now) snap c.args.leaf ptr) (sym same) (holds.leaves c.args.leaf c.requires.leaf)) in
-    look_back (λ (seen : List ℕ) (space : FreeSectors). HasSlots (Has seen space) snap c.args.leaf c.load_slots.new.io.node) found.looks
+    look_back (λ (seen : List ℕ) (space : FreeSectors). HasSlots (Has seen space) snap c.args.leaf c.load_slots.new.io.node) found.looks.looks
     (c.in_ok-load_slots.ensures.slots snap honest leaf)
 
 pub returns-clause-tight : goal.returns-clause-tight
@@ -39,9 +56,9 @@ returns-clause-tight g c = λ snap honest tight.
     let found = c.in_ok-was.ensures in
     let has = blocks_of c.args.io.now in
     let same = found.shows tight.holds.map (c.load_slots.ensures.looks.reads.honest honest) tight.holds.tree in
-    let leaf = look_on (λ (seen : List ℕ) (space : FreeSectors). LeafIs (Has seen space) snap c.args.leaf c.in_ok-was.was') found.looks
+    let leaf = look_on (λ (seen : List ℕ) (space : FreeSectors). LeafIs (Has seen space) snap c.args.leaf c.in_ok-was.was') found.looks.looks
     (subst (λ (ptr : Ptr). LeafIs has snap c.args.leaf ptr) (sym same) (tight.holds.leaves c.args.leaf c.requires.leaf)) in
-    let leaf_tight = look_on (λ (seen : List ℕ) (space : FreeSectors). IsTightLeaf (Has seen space) snap c.args.leaf c.in_ok-was.was') found.looks
+    let leaf_tight = look_on (λ (seen : List ℕ) (space : FreeSectors). IsTightLeaf (Has seen space) snap c.args.leaf c.in_ok-was.was') found.looks.looks
     (subst (λ (ptr : Ptr). IsTightLeaf has snap c.args.leaf ptr) (sym same) (tight.tight c.args.leaf c.requires.leaf)) in
     loaded_tight _ _ snap c.args.leaf c.in_ok-was.was' _ leaf leaf_tight (c.in_ok-load_slots.ensures.slots snap honest leaf) (c.in_ok-load_slots.ensures.loaded honest)
 
@@ -103,30 +120,8 @@ returns-in_err-load_slots-clause-tight g c = λ snap honest tight.
     let p = err_from_is_err_and c.from_residual-in_err-load_slots.result c.from_residual-in_err-load_slots.ensures.1 in
     rw p.1 tt
 
-pub returns-in_err-was-clause-looks : goal.returns-in_err-was-clause-looks
-returns-in_err-was-clause-looks g c =
-    let p = err_from_is_err_and c.from_residual.result c.from_residual.ensures.1 in
-    rw (p.1, p.2) c.in_err-was.ensures.looks
-
-pub returns-in_err-was-clause-calls : goal.returns-in_err-was-clause-calls
-returns-in_err-was-clause-calls g c = within_one_more _ _ c.in_err-was.ensures.calls
-
-pub returns-in_err-load_slots-clause-looks : goal.returns-in_err-load_slots-clause-looks
-returns-in_err-load_slots-clause-looks g c =
-    let p = err_from_is_err_and c.from_residual-in_err-load_slots.result c.from_residual-in_err-load_slots.ensures.1 in
-    rw (p.1, p.2) (Looks-then c.in_ok-was.ensures.looks c.in_err-load_slots.ensures.looks)
-
-pub returns-in_err-load_slots-clause-calls : goal.returns-in_err-load_slots-clause-calls
-returns-in_err-load_slots-clause-calls g c = calls_then _ _ _ c.in_ok-was.ensures.calls c.in_err-load_slots.ensures.calls
-
 pub returns-clause-damaged : goal.returns-clause-damaged
 returns-clause-damaged g c = λ honest. tt
-
-pub returns-clause-looks : goal.returns-clause-looks
-returns-clause-looks g c = Looks-then c.in_ok-was.ensures.looks c.in_ok-load_slots.ensures.looks
-
-pub returns-clause-calls : goal.returns-clause-calls
-returns-clause-calls g c = calls_then _ _ _ c.in_ok-was.ensures.calls c.in_ok-load_slots.ensures.calls
 
 pub returns-clause-hangs : goal.returns-clause-hangs
 returns-clause-hangs g c = λ honest. c.in_ok-was.ensures.hangs (c.in_ok-load_slots.ensures.looks.reads.honest honest)

@@ -31,3 +31,8 @@ returns-in-None-clause-end g c = λ object date dates map honest is.
     let found : FindsLast map 0 c.args.first c.in_ok-last.field-0 = c.in_ok-last.ensures.last map honest (tree_is has c.args.dnode.now _ map c.tree_of.ensures is.tree) in
     end_none has c.args.dnode.now object date dates map c.args.first c.args.count is (omega arith) (omega arith)
     (subst (λ (o : Option ℕ). FindsLast map 0 c.args.first o) c.in-None.is found)
+
+pub returns-in_err-last-clause-looks : goal.returns-in_err-last-clause-looks
+returns-in_err-last-clause-looks g c =
+    let p = err_from_is_err_and c.from_residual.result c.from_residual.ensures.1 in
+    rw (p.1, p.2) c.in_err-last.ensures.looks.looks

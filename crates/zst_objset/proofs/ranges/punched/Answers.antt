@@ -40,20 +40,20 @@ returns-in_err-punch-clause-made g c = λ k state honest number lawful there.
     let p = err_from_is_err_and c.from_residual-in_err-punch.result c.from_residual-in_err-punch.ensures.1 in
     let had : TreeIs (blocks_of c.args.io.now) c.tree_of-tree.result there.map = tree_is _ c.args.dnode _ there.map c.tree_of-tree.ensures there.is.tree in
     let tree = look_on (λ (seen : List ℕ) (space : FreeSectors). TreeIs (Has seen space) c.tree_of-tree.result there.map) c.in_ok-end.ensures.looks had in
-    rw (p.1, p.2) (c.in_err-punch.ensures.puts there.map _ honest tree (Puts-range c.args.first c.count_in_tree.result (hole_of c.args.number) there.map))
+    rw (p.1, p.2) (c.in_err-punch.ensures.changes.puts there.map _ honest tree (Puts-range c.args.first c.count_in_tree.result (hole_of c.args.number) there.map))
 
 pub returns-in_err-punch-clause-works : goal.returns-in_err-punch-clause-works
 returns-in_err-punch-clause-works g c =
     let p = err_from_is_err_and c.from_residual-in_err-punch.result c.from_residual-in_err-punch.ensures.1 in
-    rw (p.1, p.2) (Works-after c.in_ok-end.ensures.looks c.in_err-punch.ensures.works)
+    rw (p.1, p.2) (Works-after c.in_ok-end.ensures.looks c.in_err-punch.ensures.changes.works)
 
 pub returns-clause-fits : goal.returns-clause-fits
 returns-clause-fits g c =
     let fits = c.requires.dnode in
     let end = c.in_ok-end.ensures.range in
-    let root = root_fits c.args.dnode.block_size (tree_of c.args.dnode) c.punch.new.self (hole_of c.args.number) (dnode_root c.args.dnode fits) (hole_fits c.args.dnode.block_size c.args.number) (rw c.tree_of-tree.ensures at c.in_ok-punch.ensures.root) in
+    let root = root_fits c.args.dnode.block_size (tree_of c.args.dnode) c.punch.new.self (hole_of c.args.number) (dnode_root c.args.dnode fits) (hole_fits c.args.dnode.block_size c.args.number) (rw c.tree_of-tree.ensures at c.in_ok-punch.ensures.changes.root) in
     subst (λ (dnode : Dnode). DnodeFits dnode) (sym c.with_tree.ensures.made)
-    (with_tree_fits c.args.dnode c.punch.new.self c.in_ok-end.end fits c.in_ok-punch.ensures.levels c.with_tree.ensures.root c.with_tree.ensures.past root
+    (with_tree_fits c.args.dnode c.punch.new.self c.in_ok-end.end fits c.in_ok-punch.ensures.changes.levels c.with_tree.ensures.root c.with_tree.ensures.past root
     (omega (arith, end, fits.end)) (λ odd. omega (arith, end, fits.odd odd)))
 
 pub returns-clause-made : goal.returns-clause-made
@@ -61,17 +61,17 @@ returns-clause-made g c = λ k state honest number lawful there.
     let had : TreeIs (blocks_of c.args.io.now) c.tree_of-tree.result there.map = tree_is _ c.args.dnode _ there.map c.tree_of-tree.ensures there.is.tree in
     let tree = look_on (λ (seen : List ℕ) (space : FreeSectors). TreeIs (Has seen space) c.tree_of-tree.result there.map) c.in_ok-end.ensures.looks had in
     let has = blocks_of c.punch.new.io in
-    let is = ObjectIs-grows (blocks_of c.args.io.now) has (keeps_on c.in_ok-end.ensures.looks c.in_ok-punch.ensures.works.fills) c.args.dnode there.object (state.number_date k) (state.index_date k) there.map there.is in
+    let is = ObjectIs-grows (blocks_of c.args.io.now) has (keeps_on c.in_ok-end.ensures.looks c.in_ok-punch.ensures.changes.works.fills) c.args.dnode there.object (state.number_date k) (state.index_date k) there.map there.is in
     let object = object_of (state.state k) there.object there.there (lawful.objects k) in
     let put = put_range c.args.first c.count_in_tree.result (hole_of c.args.number) there.map in
     subst (λ (dnode : Dnode). MakesDnode has c.args.number k (free_of c.args.first c.args.count (state.state k)) state dnode) (sym c.with_tree.ensures.made)
     (makes_range has c.args.number k c.args.first c.args.count (free_of c.args.first c.args.count (state.state k)) Hole (hole_of c.args.number) state c.args.dnode c.punch.new.self c.in_ok-end.end put there.object there.map is
     (Fills-free has c.args.number k c.args.first c.args.count state there.object there.there object number)
     (record {
-      holds = c.in_ok-punch.ensures.puts there.map put honest tree (Puts-range c.args.first c.count_in_tree.result (hole_of c.args.number) there.map);
+      holds = c.in_ok-punch.ensures.changes.puts there.map put honest tree (Puts-range c.args.first c.count_in_tree.result (hole_of c.args.number) there.map);
       puts = λ i less. ap (λ (b : Bool). if b then hole_of c.args.number else there.map i) (c.count_in_tree.ensures.same i less);
     })
-    (c.in_ok-end.ensures.end there.object (state.number_date k) (state.index_date k) there.map (c.in_ok-punch.ensures.works.fills.honest honest) there.is)
+    (c.in_ok-end.ensures.end there.object (state.number_date k) (state.index_date k) there.map (c.in_ok-punch.ensures.changes.works.fills.honest honest) there.is)
     (subst (λ (dnode : Dnode). DnodeFits dnode) c.with_tree.ensures.made (returns-clause-fits g c)))
 
 pub returns-in_err-end-clause-damaged : goal.returns-in_err-end-clause-damaged
@@ -85,7 +85,7 @@ returns-in_err-punch-clause-damaged g c = λ honest.
     let old = g.D.Disk.state c.args.io.now.disk.now in
     rw (p.1, p.2) (TellsNode-sums (SparesTaken c.args.io.now.space old.seen) old.size c.args.dnode.levels c.args.dnode.root _
     (told_before (λ space seen. NamesNode) c.args.dnode.levels c.args.dnode.root c.in_ok-end.ensures.looks _
-    (rw c.tree_of-tree.ensures at (c.in_err-punch.ensures.damaged honest))))
+    (rw c.tree_of-tree.ensures at (c.in_err-punch.ensures.changes.damaged honest))))
 
 pub returns-clause-tight : goal.returns-clause-tight
 returns-clause-tight g c = λ k state honest number lawful there dated tight.
@@ -99,7 +99,7 @@ returns-clause-tight g c = λ k state honest number lawful there dated tight.
     (λ any. ⊎_elim some (λ none. absurd (omega (arith, any, c.count_in_tree.ensures.none (omega (arith, none))))) (cases_lt 0 c.args.count))))
 
 pub returns-clause-works : goal.returns-clause-works
-returns-clause-works g c = Works-after c.in_ok-end.ensures.looks c.in_ok-punch.ensures.works
+returns-clause-works g c = Works-after c.in_ok-end.ensures.looks c.in_ok-punch.ensures.changes.works
 
 pub end_punched-requires-clause-levels : goal.end_punched-requires-clause-levels
 end_punched-requires-clause-levels g c = c.requires.dnode.levels

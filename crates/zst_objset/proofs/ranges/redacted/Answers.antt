@@ -25,15 +25,15 @@ pub returns-in_err-redact-clause-made : goal.returns-in_err-redact-clause-made
 returns-in_err-redact-clause-made g c = λ k state honest number lawful there.
     let p = err_from_is_err_and c.from_residual.result c.from_residual.ensures.1 in
     let tree : TreeIs (blocks_of c.args.io.now) c.tree_of-tree.result there.map = tree_is _ c.args.dnode _ there.map c.tree_of-tree.ensures there.is.tree in
-    rw (p.1, p.2) (c.in_err-redact.ensures.puts there.map _ honest tree (Puts-range c.args.first c.args.count (redacted_of c.args.number) there.map))
+    rw (p.1, p.2) (c.in_err-redact.ensures.changes.puts there.map _ honest tree (Puts-range c.args.first c.args.count (redacted_of c.args.number) there.map))
 
 pub returns-clause-fits : goal.returns-clause-fits
 unfolding index_bound
 returns-clause-fits g c =
     let fits = c.requires.dnode in
-    let root = root_fits c.args.dnode.block_size (tree_of c.args.dnode) c.redact.new.self (redacted_of c.args.number) (dnode_root c.args.dnode fits) (redacted_fits c.args.dnode.block_size c.args.number) (rw c.tree_of-tree.ensures at c.in_ok-redact.ensures.root) in
+    let root = root_fits c.args.dnode.block_size (tree_of c.args.dnode) c.redact.new.self (redacted_of c.args.number) (dnode_root c.args.dnode fits) (redacted_fits c.args.dnode.block_size c.args.number) (rw c.tree_of-tree.ensures at c.in_ok-redact.ensures.changes.root) in
     subst (λ (dnode : Dnode). DnodeFits dnode) (sym c.with_tree.ensures.made)
-    (with_tree_fits c.args.dnode c.redact.new.self c.end_redacted.result fits c.in_ok-redact.ensures.levels c.with_tree.ensures.root c.with_tree.ensures.past root
+    (with_tree_fits c.args.dnode c.redact.new.self c.end_redacted.result fits c.in_ok-redact.ensures.changes.levels c.with_tree.ensures.root c.with_tree.ensures.past root
     (⊎_elim (λ same. omega (arith, same, fits.end)) (λ more. omega (arith, more.1, fits.end, c.requires.range)) c.end_redacted.ensures.range)
     (λ odd. ⊎_elim (λ same. omega (arith, same, fits.odd odd)) (λ more. omega (arith, more.1, fits.odd odd, redacted_odd c.args.dnode c.args.first c.args.count c.requires.checked odd more.0)) c.end_redacted.ensures.range))
 
@@ -43,14 +43,14 @@ returns-clause-made g c = λ k state honest number lawful there.
     let new = g.D.Disk.state c.redact.new.io.disk.now in
     let has = blocks_of c.redact.new.io in
     let tree : TreeIs (blocks_of c.args.io.now) c.tree_of-tree.result there.map = tree_is _ c.args.dnode _ there.map c.tree_of-tree.ensures there.is.tree in
-    let is = ObjectIs-grows (blocks_of c.args.io.now) has (KeepsBlocks-fills old new c.args.io.now.space c.redact.new.io.space c.in_ok-redact.ensures.works.fills) c.args.dnode there.object (state.number_date k) (state.index_date k) there.map there.is in
+    let is = ObjectIs-grows (blocks_of c.args.io.now) has (KeepsBlocks-fills old new c.args.io.now.space c.redact.new.io.space c.in_ok-redact.ensures.changes.works.fills) c.args.dnode there.object (state.number_date k) (state.index_date k) there.map there.is in
     let object = object_of (state.state k) there.object there.there (lawful.objects k) in
     let put = put_range c.args.first c.args.count (redacted_of c.args.number) there.map in
     subst (λ (dnode : Dnode). MakesDnode has c.args.number k (redact_of c.args.first c.args.count (state.state k)) state dnode) (sym c.with_tree.ensures.made)
     (makes_range has c.args.number k c.args.first c.args.count (redact_of c.args.first c.args.count (state.state k)) Redacted (redacted_of c.args.number) state c.args.dnode c.redact.new.self c.end_redacted.result put there.object there.map is
     (Fills-redact has c.args.number k c.args.first c.args.count state there.object there.there object number c.args.dnode there.is.type_is there.is.size_is c.requires.range c.requires.checked)
     (record {
-      holds = c.in_ok-redact.ensures.puts there.map put honest tree (Puts-range c.args.first c.args.count (redacted_of c.args.number) there.map);
+      holds = c.in_ok-redact.ensures.changes.puts there.map put honest tree (Puts-range c.args.first c.args.count (redacted_of c.args.number) there.map);
       puts = λ i less. refl;
     })
     (c.end_redacted.ensures.end there.object there.is.end_is)

@@ -5,9 +5,31 @@ use Rattle.zst_block.specs.Blocks.{Has}
 use Rattle.zst_objset.specs.Sets.{HasSlots, LeafIs}
 use Rattle.zst_objset.proofs.LeafLaws.{look_on}
 use Rattle.zst_objset.proofs.SearchLaws.{from_shown, hole_shown, lacks_none, leaf_shown}
-use Rattle.zst_objset.proofs.LeafLaws.{calls_then, within_one_more}
-use Rattle.zst_block.proofs.IoCallLemmas.{Looks-then}
+use Rattle.zst_tree.proofs.StepLooks.{AtMost-more, AtMost-none, AtMost-then}
+use Rattle.zst_objset.proofs.SetChangeLaws.{most_told}
 use Rattle.zst_objset.proofs.searches.look_ahead.Goals as goal
+
+pub returns-then-set-gt7-clause-looks : goal.returns-then-set-gt7-clause-looks
+returns-then-set-gt7-clause-looks g c = most_told _ c.of_layout.ensures (AtMost-none _)
+
+pub returns-in_err-was-clause-looks : goal.returns-in_err-was-clause-looks
+returns-in_err-was-clause-looks g c =
+    let p = err_from_is_err_and c.from_residual.result c.from_residual.ensures.1 in
+    rw (p.1, p.2) (AtMost-more (omega arith) c.in_err-was.ensures.looks)
+
+pub returns-then-was-eq0-clause-looks : goal.returns-then-was-eq0-clause-looks
+returns-then-was-eq0-clause-looks g c = AtMost-more (omega arith) c.in_ok-was.ensures.looks
+
+pub returns-in_err-load_slots-clause-looks : goal.returns-in_err-load_slots-clause-looks
+returns-in_err-load_slots-clause-looks g c =
+    let p = err_from_is_err_and c.from_residual-in_err-load_slots.result c.from_residual-in_err-load_slots.ensures.1 in
+    rw (p.1, p.2) (AtMost-then {more = 1} (omega arith) c.in_ok-was.ensures.looks (record { looks = c.in_err-load_slots.ensures.looks; calls = c.in_err-load_slots.ensures.calls }))
+
+pub returns-in-Some-clause-looks : goal.returns-in-Some-clause-looks
+returns-in-Some-clause-looks g c = AtMost-then {more = 1} (omega arith) c.in_ok-was.ensures.looks (record { looks = c.in_ok-load_slots.ensures.looks; calls = c.in_ok-load_slots.ensures.calls })
+
+pub returns-in-None-clause-looks : goal.returns-in-None-clause-looks
+returns-in-None-clause-looks g c = most_told _ c.of_layout-in-None.ensures (AtMost-then {more = 1} (omega arith) c.in_ok-was.ensures.looks (record { looks = c.in_ok-load_slots.ensures.looks; calls = c.in_ok-load_slots.ensures.calls }))
 
 pub returns-in_err-was-clause-shows : goal.returns-in_err-was-clause-shows
 returns-in_err-was-clause-shows g c = λ state honest holds.
@@ -23,14 +45,14 @@ returns-in_err-load_slots-clause-shows g c = λ state honest holds.
     let p = err_from_is_err_and c.from_residual-in_err-load_slots.result c.from_residual-in_err-load_slots.ensures.1 in
     let found = c.in_ok-was.ensures in
     rw (p.1, p.2) (c.in_err-load_slots.ensures.slots state honest
-    (look_on (λ (seen : List ℕ) (space : FreeSectors). LeafIs (Has seen space) state (c.args.from / 16) c.in_ok-was.was') found.looks
+    (look_on (λ (seen : List ℕ) (space : FreeSectors). LeafIs (Has seen space) state (c.args.from / 16) c.in_ok-was.was') found.looks.looks
     (leaf_shown _ c.args.set.now state holds (c.args.from / 16) c.in_ok-was.count c.in_ok-was.was' (omega (arith, c.requires.from.1)) (found.shows holds.map (c.in_err-load_slots.ensures.looks.reads.honest honest) holds.tree))))
 
 pub returns-in-None-clause-shows : goal.returns-in-None-clause-shows
 returns-in-None-clause-shows g c = λ state honest holds.
     let found = c.in_ok-was.ensures in
     let loaded = c.in_ok-load_slots.ensures.slots state honest
-    (look_on (λ (seen : List ℕ) (space : FreeSectors). LeafIs (Has seen space) state (c.args.from / 16) c.in_ok-was.was') found.looks
+    (look_on (λ (seen : List ℕ) (space : FreeSectors). LeafIs (Has seen space) state (c.args.from / 16) c.in_ok-was.was') found.looks.looks
     (leaf_shown _ c.args.set.now state holds (c.args.from / 16) c.in_ok-was.count c.in_ok-was.was' (omega (arith, c.requires.from.1)) (found.shows holds.map (c.in_ok-load_slots.ensures.looks.reads.honest honest) holds.tree))) in
     absurd (lacks_none _ loaded.slots loaded.spells c.in-None.ensures.none)
 
@@ -38,7 +60,7 @@ pub returns-in-Some-clause-shows : goal.returns-in-Some-clause-shows
 returns-in-Some-clause-shows g c = λ state honest holds.
     let found = c.in_ok-was.ensures in
     let loaded = c.in_ok-load_slots.ensures.slots state honest
-    (look_on (λ (seen : List ℕ) (space : FreeSectors). LeafIs (Has seen space) state (c.args.from / 16) c.in_ok-was.was') found.looks
+    (look_on (λ (seen : List ℕ) (space : FreeSectors). LeafIs (Has seen space) state (c.args.from / 16) c.in_ok-was.was') found.looks.looks
     (leaf_shown _ c.args.set.now state holds (c.args.from / 16) c.in_ok-was.count c.in_ok-was.was' (omega (arith, c.requires.from.1)) (found.shows holds.map (c.in_ok-load_slots.ensures.looks.reads.honest honest) holds.tree))) in
     let now = look_on (λ (seen : List ℕ) (space : FreeSectors). HasSlots (Has seen space) state (c.args.from / 16) c.load_slots.new.io.node) c.in_ok-load_slots.ensures.looks loaded in
     from_shown _ state c.args.from c.load_slots.new.io.node now c.in-Some.ahead c.requires.from.0 c.requires.from.1 (c.in-Some.ensures.shows now.slots now.spells)
@@ -51,44 +73,13 @@ returns-in_err-was-clause-ranges g c =
     let p = err_from_is_err_and c.from_residual.result c.from_residual.ensures.1 in
     rw p.1 tt
 
-pub returns-in_err-was-clause-looks : goal.returns-in_err-was-clause-looks
-returns-in_err-was-clause-looks g c =
-    let p = err_from_is_err_and c.from_residual.result c.from_residual.ensures.1 in
-    rw (p.1, p.2) c.in_err-was.ensures.looks
-
-pub returns-in_err-was-clause-calls : goal.returns-in_err-was-clause-calls
-returns-in_err-was-clause-calls g c = within_one_more _ _ c.in_err-was.ensures.calls
-
 pub returns-then-was-eq0-clause-damaged : goal.returns-then-was-eq0-clause-damaged
 returns-then-was-eq0-clause-damaged g c = λ honest. tt
-
-pub returns-then-was-eq0-clause-looks : goal.returns-then-was-eq0-clause-looks
-returns-then-was-eq0-clause-looks g c = c.in_ok-was.ensures.looks
-
-pub returns-then-was-eq0-clause-calls : goal.returns-then-was-eq0-clause-calls
-returns-then-was-eq0-clause-calls g c = within_one_more _ _ c.in_ok-was.ensures.calls
 
 pub returns-in_err-load_slots-clause-ranges : goal.returns-in_err-load_slots-clause-ranges
 returns-in_err-load_slots-clause-ranges g c =
     let p = err_from_is_err_and c.from_residual-in_err-load_slots.result c.from_residual-in_err-load_slots.ensures.1 in
     rw p.1 tt
-
-pub returns-in_err-load_slots-clause-looks : goal.returns-in_err-load_slots-clause-looks
-returns-in_err-load_slots-clause-looks g c =
-    let p = err_from_is_err_and c.from_residual-in_err-load_slots.result c.from_residual-in_err-load_slots.ensures.1 in
-    rw (p.1, p.2) (Looks-then c.in_ok-was.ensures.looks c.in_err-load_slots.ensures.looks)
-
-pub returns-in_err-load_slots-clause-calls : goal.returns-in_err-load_slots-clause-calls
-returns-in_err-load_slots-clause-calls g c = calls_then _ _ _ c.in_ok-was.ensures.calls c.in_err-load_slots.ensures.calls
-
-pub returns-in-Some-clause-looks : goal.returns-in-Some-clause-looks
-returns-in-Some-clause-looks g c = Looks-then c.in_ok-was.ensures.looks c.in_ok-load_slots.ensures.looks
-
-pub returns-in-Some-clause-calls : goal.returns-in-Some-clause-calls
-returns-in-Some-clause-calls g c = calls_then _ _ _ c.in_ok-was.ensures.calls c.in_ok-load_slots.ensures.calls
-
-pub returns-in-None-clause-calls : goal.returns-in-None-clause-calls
-returns-in-None-clause-calls g c = calls_then _ _ _ c.in_ok-was.ensures.calls c.in_ok-load_slots.ensures.calls
 
 pub returns-in-Some-clause-damaged : goal.returns-in-Some-clause-damaged
 returns-in-Some-clause-damaged g c = λ honest. tt

@@ -1,4 +1,4 @@
-use Rattle.zst_block.proofs.IoCallLemmas.{Looks-none}
+use Rattle.zst_tree.proofs.StepLooks.{AtMost-none}
 use Rattle.std.proofs.Common.{arith}
 use Rattle.std.proofs.lemmas.Result.{err_from_is_err_and}
 use Rattle.zst_model.specs.states.State.{number_bound}
@@ -41,7 +41,7 @@ pub returns-then-object-ge-NUMBER_BOUND-clause-damaged : goal.returns-then-objec
 returns-then-object-ge-NUMBER_BOUND-clause-damaged g c = λ honest. tt
 
 pub returns-then-object-ge-NUMBER_BOUND-clause-looks : goal.returns-then-object-ge-NUMBER_BOUND-clause-looks
-returns-then-object-ge-NUMBER_BOUND-clause-looks g c = Looks-none _
+returns-then-object-ge-NUMBER_BOUND-clause-looks g c = AtMost-none _
 
 pub returns-in_err-slot_at-clause-tight : goal.returns-in_err-slot_at-clause-tight
 returns-in_err-slot_at-clause-tight g c = λ snap honest tight.
@@ -73,26 +73,17 @@ returns-in_err-slot_at-clause-looks g c =
     let p = err_from_is_err_and c.from_residual.result c.from_residual.ensures.1 in
     rw (p.1, p.2) c.in_err-slot_at.ensures.looks
 
-pub returns-in_err-slot_at-clause-calls : goal.returns-in_err-slot_at-clause-calls
-returns-in_err-slot_at-clause-calls g c = c.in_err-slot_at.ensures.calls
-
 pub returns-in-Absent-clause-damaged : goal.returns-in-Absent-clause-damaged
 returns-in-Absent-clause-damaged g c = λ honest. tt
 
 pub returns-in-Absent-clause-looks : goal.returns-in-Absent-clause-looks
 returns-in-Absent-clause-looks g c = c.in_ok-slot_at.ensures.looks
 
-pub returns-in-Absent-clause-calls : goal.returns-in-Absent-clause-calls
-returns-in-Absent-clause-calls g c = c.in_ok-slot_at.ensures.calls
-
 pub returns-in-There-clause-damaged : goal.returns-in-There-clause-damaged
 returns-in-There-clause-damaged g c = λ honest. tt
 
 pub returns-in-There-clause-looks : goal.returns-in-There-clause-looks
 returns-in-There-clause-looks g c = c.in_ok-slot_at.ensures.looks
-
-pub returns-in-There-clause-calls : goal.returns-in-There-clause-calls
-returns-in-There-clause-calls g c = c.in_ok-slot_at.ensures.calls
 
 pub returns-in-Absent-clause-tight : goal.returns-in-Absent-clause-tight
 returns-in-Absent-clause-tight g c = λ state honest tight. tt

@@ -6,7 +6,11 @@ use Rattle.zst_objset.specs.Dnodes.{SlotIs}
 use Rattle.zst_objset.proofs.DamageLaws.{lacking_told, slot_stands}
 use Rattle.zst_objset.proofs.LeafLaws.{look_on, slot_found, slot_there}
 use Rattle.zst_objset.proofs.TightLaws.{slot_tight}
+use Rattle.zst_objset.proofs.SetChangeLaws.{most_told}
 use Rattle.zst_objset.proofs.slot_reads.slot_at.Goals as goal
+
+pub returns-in-None-clause-looks : goal.returns-in-None-clause-looks
+returns-in-None-clause-looks g c = most_told _ c.of_layout.ensures c.in_ok-was.ensures.looks
 
 pub returns-in_err-was-clause-found : goal.returns-in_err-was-clause-found
 returns-in_err-was-clause-found g c = λ snap honest holds.
@@ -16,7 +20,7 @@ returns-in_err-was-clause-found g c = λ snap honest holds.
 pub returns-in-Some-clause-found : goal.returns-in-Some-clause-found
 returns-in-Some-clause-found g c = λ snap honest holds.
     let found = c.in_ok-was.ensures in
-    look_on (λ (seen : List ℕ) (space : FreeSectors). SlotIs (Has seen space) snap c.args.object c.in-Some.slot) found.looks
+    look_on (λ (seen : List ℕ) (space : FreeSectors). SlotIs (Has seen space) snap c.args.object c.in-Some.slot) found.looks.looks
     (slot_found _ snap c.args.object _ _ c.in-Some.slot (omega arith) (omega arith) (found.slots snap honest holds) c.as_slice.ensures.bytes c.in-Some.ensures.back)
 
 pub returns-in-None-clause-found : goal.returns-in-None-clause-found
@@ -66,17 +70,8 @@ returns-in_err-was-clause-looks g c =
     let p = err_from_is_err_and c.from_residual.result c.from_residual.ensures.1 in
     rw (p.1, p.2) c.in_err-was.ensures.looks
 
-pub returns-in_err-was-clause-calls : goal.returns-in_err-was-clause-calls
-returns-in_err-was-clause-calls g c = c.in_err-was.ensures.calls
-
 pub returns-in-Some-clause-damaged : goal.returns-in-Some-clause-damaged
 returns-in-Some-clause-damaged g c = λ honest. tt
-
-pub returns-in-Some-clause-calls : goal.returns-in-Some-clause-calls
-returns-in-Some-clause-calls g c = c.in_ok-was.ensures.calls
-
-pub returns-in-None-clause-calls : goal.returns-in-None-clause-calls
-returns-in-None-clause-calls g c = c.in_ok-was.ensures.calls
 
 pub returns-in-Some-clause-looks : goal.returns-in-Some-clause-looks
 returns-in-Some-clause-looks g c = c.in_ok-was.ensures.looks

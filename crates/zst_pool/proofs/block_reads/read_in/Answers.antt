@@ -38,13 +38,13 @@ pub returns-in_err-cell-clause-told : goal.returns-in_err-cell-clause-told
 returns-in_err-cell-clause-told g c = λ pool state honest holds.
     let p = err_from_is_err_and c.from_residual-in_err-cell.result c.from_residual-in_err-cell.ensures.1 in
     rw (p.1, p.2) (block_refused pool (found_at c.args.object c.args.index state) c.in_err-cell.field-0.0
-    (c.in_err-cell.ensures.read state honest (look_on (λ (seen : List ℕ) (space : FreeSectors). SetHolds (Has seen space) c.args.set.now state) c.in_ok-dnode.ensures.looks holds)
-    (long_enough _ state c.args.object c.in-Some.dnode c.in_ok-dnode.field-0 c.in-Some.is (c.in_ok-dnode.ensures.found state (c.in_err-cell.ensures.looks.reads.honest honest) holds) (length c.as_mut_slice.result.now) (search rules))))
+    (c.in_err-cell.ensures.read state honest (look_on (λ (seen : List ℕ) (space : FreeSectors). SetHolds (Has seen space) c.args.set.now state) c.in_ok-dnode.ensures.looks.looks holds)
+    (long_enough _ state c.args.object c.in-Some.dnode c.in_ok-dnode.field-0 c.in-Some.is (c.in_ok-dnode.ensures.found state (c.in_err-cell.ensures.looks.looks.reads.honest honest) holds) (length c.as_mut_slice.result.now) (search rules))))
 
 pub returns-in_err-cell-clause-looks : goal.returns-in_err-cell-clause-looks
 returns-in_err-cell-clause-looks g c =
     let p = err_from_is_err_and c.from_residual-in_err-cell.result c.from_residual-in_err-cell.ensures.1 in
-    rw (p.1, p.2) (subst (Looks _ _) (stop_set Reply Cell c.in_err-cell.field-0.0) (Looks-then c.in_ok-dnode.ensures.looks c.in_err-cell.ensures.looks))
+    rw (p.1, p.2) (subst (Looks _ _) (stop_set Reply Cell c.in_err-cell.field-0.0) (Looks-then c.in_ok-dnode.ensures.looks.looks c.in_err-cell.ensures.looks.looks))
 
 pub returns-in_err-cell-clause-limits : goal.returns-in_err-cell-clause-limits
 returns-in_err-cell-clause-limits g c = λ fault is.
@@ -56,8 +56,8 @@ returns-in_err-cell-clause-limits g c = λ fault is.
 pub returns-clause-told : goal.returns-clause-told
 returns-clause-told g c = λ pool state honest holds.
     let definition = found_at c.args.object c.args.index state in
-    let read = c.in_ok-cell.ensures.read state honest (look_on (λ (seen : List ℕ) (space : FreeSectors). SetHolds (Has seen space) c.args.set.now state) c.in_ok-dnode.ensures.looks holds)
-    (long_enough _ state c.args.object c.in-Some.dnode c.in_ok-dnode.field-0 c.in-Some.is (c.in_ok-dnode.ensures.found state (c.in_ok-cell.ensures.looks.reads.honest honest) holds) (length c.as_mut_slice.result.now) (search rules)) in
+    let read = c.in_ok-cell.ensures.read state honest (look_on (λ (seen : List ℕ) (space : FreeSectors). SetHolds (Has seen space) c.args.set.now state) c.in_ok-dnode.ensures.looks.looks holds)
+    (long_enough _ state c.args.object c.in-Some.dnode c.in_ok-dnode.field-0 c.in-Some.is (c.in_ok-dnode.ensures.found state (c.in_ok-cell.ensures.looks.looks.reads.honest honest) holds) (length c.as_mut_slice.result.now) (search rules)) in
     let same = c.as_slice.ensures.value ∙ with_items_is c.in_ok-bytes.bytes c.read_block.new.into (search (rules, places)) in
     let told = c.in_ok-told.ensures definition (subst (λ (b : List ℕ). ReadsCell definition b c.in_ok-cell.cell) (sym same) read) in
     ap (block_told pool) told.1 ∙ ap (answered pool) (sym told.2)
@@ -65,7 +65,7 @@ returns-clause-told g c = λ pool state honest holds.
 pub returns-in_err-dnode-clause-looks : goal.returns-in_err-dnode-clause-looks
 returns-in_err-dnode-clause-looks g c =
     let p = err_from_is_err_and c.from_residual.result c.from_residual.ensures.1 in
-    rw (p.1, p.2) (subst (Looks _ _) (stop_set Reply (Option Dnode) c.in_err-dnode.field-0.0) c.in_err-dnode.ensures.looks)
+    rw (p.1, p.2) (subst (Looks _ _) (stop_set Reply (Option Dnode) c.in_err-dnode.field-0.0) c.in_err-dnode.ensures.looks.looks)
 
 pub returns-in_err-dnode-clause-open_still : goal.returns-in_err-dnode-clause-open_still
 returns-in_err-dnode-clause-open_still g c = λ is.
@@ -80,7 +80,7 @@ returns-in_err-dnode-clause-limits g c = λ fault is.
     absurd (no_plan-block c.in_err-dnode.field-0.0 fault c.in_err-dnode.ensures.known same)
 
 pub returns-in_default-clause-looks : goal.returns-in_default-clause-looks
-returns-in_default-clause-looks g c = c.in_ok-dnode.ensures.looks
+returns-in_default-clause-looks g c = c.in_ok-dnode.ensures.looks.looks
 
 pub returns-in_err-bytes-clause-told : goal.returns-in_err-bytes-clause-told
 returns-in_err-bytes-clause-told g c = λ pool state honest holds.
@@ -91,7 +91,7 @@ pub returns-in_err-bytes-clause-looks : goal.returns-in_err-bytes-clause-looks
 returns-in_err-bytes-clause-looks g c =
     let fell = c.from_residual-in_err-bytes in
     let stop = ap (λ (r : Result Reply PoolFault). stop_of r) (sym (err_is fell.result faults.OutOfMemory fell.ensures.1)) in
-    subst (Looks _ _) stop c.in_ok-dnode.ensures.looks
+    subst (Looks _ _) stop c.in_ok-dnode.ensures.looks.looks
 
 pub returns-in_err-bytes-clause-damaged : goal.returns-in_err-bytes-clause-damaged
 returns-in_err-bytes-clause-damaged g c = λ honest.
@@ -114,7 +114,7 @@ pub returns-in_err-told-clause-looks : goal.returns-in_err-told-clause-looks
 returns-in_err-told-clause-looks g c =
     let fell = c.from_residual-in_err-told in
     let stop = ap (λ (r : Result Reply PoolFault). stop_of r) (sym (err_is fell.result faults.OutOfMemory fell.ensures.1)) in
-    subst (Looks _ _) stop (Looks-then c.in_ok-dnode.ensures.looks c.in_ok-cell.ensures.looks)
+    subst (Looks _ _) stop (Looks-then c.in_ok-dnode.ensures.looks.looks c.in_ok-cell.ensures.looks.looks)
 
 pub returns-in_err-told-clause-damaged : goal.returns-in_err-told-clause-damaged
 returns-in_err-told-clause-damaged g c = λ honest.
@@ -122,4 +122,4 @@ returns-in_err-told-clause-damaged g c = λ honest.
     err_has (IsOf (read_damage (g.D.Disk.state c.args.io.now.disk.now) c.args.set.now)) fell.result faults.OutOfMemory fell.ensures.1 (λ sector stated found same. absurd (cc (same)))
 
 pub returns-clause-looks : goal.returns-clause-looks
-returns-clause-looks g c = Looks-then c.in_ok-dnode.ensures.looks c.in_ok-cell.ensures.looks
+returns-clause-looks g c = Looks-then c.in_ok-dnode.ensures.looks.looks c.in_ok-cell.ensures.looks.looks

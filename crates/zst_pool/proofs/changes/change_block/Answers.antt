@@ -48,14 +48,14 @@ returns-clause-changed g c = λ tight pool head told number holds.
     let k = c.args.object in
     let i = c.args.index in
     let bytes = c.args.bytes.now in
-    let found = c.in_ok-size.ensures.found pool i head (c.write_block.ensures.works.fills.honest told) (SetIs-holds (bound_of tight c.args.number) _ c.args.set.now head holds) in
+    let found = c.in_ok-size.ensures.found pool i head (c.write_block.ensures.changes.set.keeps.works.fills.honest told) (SetIs-holds (bound_of tight c.args.number) _ c.args.set.now head holds) in
     let grown = look_on (λ (seen : List ℕ) (space : FreeSectors). SetIs (bound_of tight c.args.number) (Has seen space) c.args.set.now head) c.in_ok-size.ensures.looks holds in
     let block = c.deref.ensures.value ∙ c.in_ok-block.ensures ∙ ap (λ (size : ℕ). filled size bytes) found in
     let same = ap (λ (b : List ℕ). block_written c.args.number k i b head) block
     ∙ ap (λ (n : ℕ). block_written n k i (filled (size_at (head.state k)) bytes) head) (sym number)
     ∙ c.changes_are_commands.ensures.write pool k i bytes head in
     let known = changes_known tight c.args.number (Has mid.seen less) has c.args.set.now set head (block_written c.args.number k i c.deref.result.now head) c.write_block.result
-    (c.write_block.ensures.changed head told) (c.write_block.ensures.tight head told) (written_dated c.args.number k i c.deref.result.now head) grown in
+    (c.write_block.ensures.changes.set.changed head told) (c.write_block.ensures.changes.tight head told) (written_dated c.args.number k i c.deref.result.now head) grown in
     let is = subst (λ (r : Result DatedState Refusal). Changes (SetIs (bound_of tight c.args.number) has set) r c.write_block.result) same known in
     call_changes c.write_block.result c.answer.result c.answer.ensures (bound_of tight c.args.number) has set (written pool k i bytes head) is
 
@@ -63,7 +63,7 @@ returns-clause-changed g c = λ tight pool head told number holds.
 taken : (g : Over) (c : After-answer g) (size : ℕ) → length c.deref.result.now ≡ size → Works 1 (size / 512) (io_of c.args.io.now) (io_of c.write_block.new.io) (stop_of c.answer.result)
 taken g c size long =
     subst (λ (n : ℕ). Works 1 (n / 512) (io_of c.args.io.now) (io_of c.write_block.new.io) (stop_of c.answer.result)) long
-    (Works-more (omega arith) (Works-after c.in_ok-size.ensures.looks (call_works c.write_block.result c.answer.result c.answer.ensures c.write_block.ensures.works)))
+    (Works-more (omega arith) (Works-after c.in_ok-size.ensures.looks (call_works c.write_block.result c.answer.result c.answer.ensures c.write_block.ensures.changes.set.keeps.works)))
 
 long : (g : Over) (c : After-answer g) → length c.deref.result.now ≡ c.in_ok-size.size
 long g c = ap (λ (b : List ℕ). length b) (c.deref.ensures.value ∙ c.in_ok-block.ensures) ∙ filled_length c.in_ok-size.size c.args.bytes.now c.in_ok-size.ensures.room
@@ -77,7 +77,7 @@ returns-clause-works g c =
 pub returns-clause-exact : goal.returns-clause-exact
 returns-clause-exact g c = λ head told holds.
     let at = (goal.at.returns-clause-exact g c).After-answer in
-    taken g at (size_at (head.state c.args.object)) (long g at ∙ c.in_ok-size.ensures.found (new_pool 0) c.args.index head (c.write_block.ensures.works.fills.honest told) holds)
+    taken g at (size_at (head.state c.args.object)) (long g at ∙ c.in_ok-size.ensures.found (new_pool 0) c.args.index head (c.write_block.ensures.changes.set.keeps.works.fills.honest told) holds)
 
 pub returns-in_err-size-clause-damaged : goal.returns-in_err-size-clause-damaged
 returns-in_err-size-clause-damaged g c = λ told.
@@ -97,7 +97,7 @@ returns-clause-damaged g c = λ told.
     inr (subst (λ (space : FreeSectors). over space old.seen old.size sector stated found) looks.space
     (subst (λ (seen : List ℕ). over c.find_size.new.io.space seen old.size sector stated found) looks.reads.seen
     (subst (λ (size : ℕ). over c.find_size.new.io.space mid.seen size sector stated found) looks.reads.size is))))
-    c.write_block.result c.answer.result c.answer.ensures (c.write_block.ensures.damaged told)
+    c.write_block.result c.answer.result c.answer.ensures (c.write_block.ensures.changes.set.keeps.damaged told)
 
 pub returns-in_err-size-clause-works : goal.returns-in_err-size-clause-works
 returns-in_err-size-clause-works g c =
@@ -114,7 +114,7 @@ returns-in_err-block-clause-works g c =
     (0, omega arith, subst works stop (Works-looks c.in_ok-size.ensures.looks))
 
 pub returns-clause-levels : goal.returns-clause-levels
-returns-clause-levels g c = call_ok c.write_block.result c.answer.result c.answer.ensures (SetFits c.write_block.new.self) c.write_block.ensures.levels
+returns-clause-levels g c = call_ok c.write_block.result c.answer.result c.answer.ensures (SetFits c.write_block.new.self) c.write_block.ensures.changes.levels
 
 pub returns-in_err-size-clause-limits : goal.returns-in_err-size-clause-limits
 returns-in_err-size-clause-limits g c = λ fault is.
@@ -130,7 +130,7 @@ returns-in_err-block-clause-limits g c = λ fault is.
     absurd (cc (told))
 
 pub returns-clause-limits : goal.returns-clause-limits
-returns-clause-limits g c = past_indices (c.args.index + 1) c.write_block.result c.answer.ensures c.write_block.ensures.limits
+returns-clause-limits g c = past_indices (c.args.index + 1) c.write_block.result c.answer.ensures c.write_block.ensures.changes.set.keeps.limits
 
 pub returns-in_err-size-clause-exact : goal.returns-in_err-size-clause-exact
 returns-in_err-size-clause-exact g c = λ head told holds.

@@ -35,14 +35,14 @@ put g c tight old told holds =
     let set = c.put_object.new.self in
     let made = object_put c.args.number c.args.object c.args.head c.as_slice.result.now false old in
     call_changes c.put_object.result c.answer.result c.answer.ensures (bound_of tight c.args.number) has set made
-    (changes_known tight c.args.number before has c.args.set.now set old made c.put_object.result (c.put_object.ensures.changed old told) (c.put_object.ensures.tight old told)
+    (changes_known tight c.args.number before has c.args.set.now set old made c.put_object.result (c.put_object.ensures.changes.set.changed old told) (c.put_object.ensures.changes.tight old told)
     (put_dated c.args.number c.args.object c.args.head c.as_slice.result.now false old) holds)
 
 -- and takes of the free sectors
 takes : (g : Over) (c : After-answer g) (block : ℕ) (answer : Result (Unit {0}) HeadFault) → c.answer.result ≡ answer → blocks.Works 640 block (io_of c.args.io.now) (io_of c.put_object.new.io) (stop_of answer)
 takes g c block answer was =
     subst (λ (r : Result (Unit {0}) HeadFault). blocks.Works 640 block (io_of c.args.io.now) (io_of c.put_object.new.io) (stop_of r)) was
-    (Works-block (call_works c.put_object.result c.answer.result c.answer.ensures c.put_object.ensures.works))
+    (Works-block (call_works c.put_object.result c.answer.result c.answer.ensures c.put_object.ensures.changes.set.keeps.works))
 
 -- the definition of the command
 made : (g : Over) (c : After-answer g) (pool : Pool) (old : DatedState) → pool.number + 1 ≡ c.args.number
@@ -106,10 +106,10 @@ returns-clause-changed g c = λ tight pool old told number holds.
     let has = Has (g.D.Disk.state c.put_spill.new.io.disk.now).seen c.put_spill.new.io.space in
     let set = c.put_spill.new.self in
     let one = subst (ChangesHead (bound_of tight c.args.number) (Has mid.seen c.put_object.new.io.space) c.put_object.new.self (object_put c.args.number c.args.object c.args.head bonus false old)) c.in_ok-answer.was
-    (put g at tight old (c.put_spill.ensures.works.fills.honest told) holds) in
+    (put g at tight old (c.put_spill.ensures.changes.set.keeps.works.fills.honest told) holds) in
     let spilled = spill_put c.args.number c.args.object block one.0 in
     let two = call_changes c.put_spill.result answered c.answer-in-Some.ensures (bound_of tight c.args.number) has set spilled
-    (changes_known tight c.args.number (Has mid.seen c.put_object.new.io.space) has c.put_object.new.self set one.0 spilled c.put_spill.result (c.put_spill.ensures.changed one.0 told) (c.put_spill.ensures.tight one.0 told)
+    (changes_known tight c.args.number (Has mid.seen c.put_object.new.io.space) has c.put_object.new.self set one.0 spilled c.put_spill.result (c.put_spill.ensures.changes.set.changed one.0 told) (c.put_spill.ensures.changes.tight one.0 told)
     (spill_dated c.args.number c.args.object block one.0) one.2) in
     let both = then_spilled (bound_of tight c.args.number) has set c.args.number c.args.object c.args.head bonus block old one.0 answered one.1 two in
     let is : Some block ≡ c.args.spill = ap (λ (b : List ℕ). Some b) c.as_slice-in-Some.ensures ∙ sym c.in-Some.is in
@@ -123,7 +123,7 @@ returns-clause-works g c =
     let bytes = c.as_slice-in-Some.result.now in
     let block = length bytes / 512 in
     let first = takes g at block (Ok c.in_ok-answer.field-0) c.in_ok-answer.was in
-    let second = call_works c.put_spill.result answered c.answer-in-Some.ensures c.put_spill.ensures.works in
+    let second = call_works c.put_spill.result answered c.answer-in-Some.ensures c.put_spill.ensures.changes.set.keeps.works in
     let is : Some bytes ≡ c.args.spill = ap (λ (b : List ℕ). Some b) c.as_slice-in-Some.ensures ∙ sym c.in-Some.is in
     subst (λ (s : Option (List ℕ)). Works (object_cells s) (spill_sectors s) (io_of c.args.io.now) (io_of c.put_spill.new.io) (stop_of answered)) is
     (Works-more (omega arith) (Works-then first second))
@@ -132,7 +132,7 @@ returns-clause-works g c =
 tells : (g : Over) (c : After-answer g) → (g.D.Disk.state c.put_object.new.io.disk.now).honest → IfHeadDamaged c.answer.result (slots_damage (g.D.Disk.state c.args.io.now.disk.now) c.args.io.now.space c.args.set.now)
 tells g c told =
     let Is = slots_damage (g.D.Disk.state c.args.io.now.disk.now) c.args.io.now.space c.args.set.now in
-    damaged_call Is Is (λ sector stated found is. is) c.put_object.result c.answer.result c.answer.ensures (c.put_object.ensures.damaged told)
+    damaged_call Is Is (λ sector stated found is. is) c.put_object.result c.answer.result c.answer.ensures (c.put_object.ensures.changes.set.keeps.damaged told)
 
 pub returns-in_err-answer-clause-damaged : goal.returns-in_err-answer-clause-damaged
 returns-in_err-answer-clause-damaged g c = λ told.
@@ -148,23 +148,23 @@ returns-clause-damaged g c = λ told.
     let mid = g.D.Disk.state c.put_object.new.io.disk.now in
     let less = c.put_object.new.io.space in
     let was = c.put_object.new.self in
-    let first = c.put_object.ensures.works in
+    let first = c.put_object.ensures.changes.set.keeps.works in
     let within = went_well c.put_object.result c.answer.result c.answer.ensures (IsSetWithin (SparesTaken c.args.io.now.space old.seen) old.size c.args.set.now (SparesTaken less mid.seen) was) c.in_ok-answer.field-0 c.in_ok-answer.was
-    (c.put_object.ensures.within (c.put_spill.ensures.works.fills.honest told)) in
+    (c.put_object.ensures.within (c.put_spill.ensures.changes.set.keeps.works.fills.honest told)) in
     damaged_call (IsDamagedSet (SparesTaken less mid.seen) mid.size was) (slots_damage old c.args.io.now.space c.args.set.now)
     (λ sector stated found is. within sector stated found (subst (λ (size : ℕ). IsDamagedSet (SparesTaken less mid.seen) size was sector stated found) first.fills.size is))
-    c.put_spill.result c.answer-in-Some.result c.answer-in-Some.ensures (c.put_spill.ensures.damaged told)
+    c.put_spill.result c.answer-in-Some.result c.answer-in-Some.ensures (c.put_spill.ensures.changes.set.keeps.damaged told)
 
 pub returns-in-None-clause-levels : goal.returns-in-None-clause-levels
-returns-in-None-clause-levels g c = went_well c.put_object.result c.answer.result c.answer.ensures (SetFits c.put_object.new.self) c.in_ok-answer.field-0 c.in_ok-answer.was c.put_object.ensures.levels
+returns-in-None-clause-levels g c = went_well c.put_object.result c.answer.result c.answer.ensures (SetFits c.put_object.new.self) c.in_ok-answer.field-0 c.in_ok-answer.was c.put_object.ensures.changes.levels
 
 pub returns-clause-levels : goal.returns-clause-levels
-returns-clause-levels g c = call_ok c.put_spill.result c.answer-in-Some.result c.answer-in-Some.ensures (SetFits c.put_spill.new.self) c.put_spill.ensures.levels
+returns-clause-levels g c = call_ok c.put_spill.result c.answer-in-Some.result c.answer-in-Some.ensures (SetFits c.put_spill.new.self) c.put_spill.ensures.changes.levels
 
 pub returns-in_err-answer-clause-limits : goal.returns-in_err-answer-clause-limits
 returns-in_err-answer-clause-limits g c = λ fault is.
-    past_numbers (c.args.object + 1) c.put_object.result c.answer.ensures c.put_object.ensures.limits fault
+    past_numbers (c.args.object + 1) c.put_object.result c.answer.ensures c.put_object.ensures.changes.set.keeps.limits fault
     (ap of_change (c.in_err-answer.was ∙ sym (err_is c.from_residual.result c.in_err-answer.field-0.0 c.from_residual.ensures.1)) ∙ is)
 
 pub returns-clause-limits : goal.returns-clause-limits
-returns-clause-limits g c = λ fault is. absurd (no_plan c.put_spill.result c.answer-in-Some.ensures c.put_spill.ensures.limits fault is)
+returns-clause-limits g c = λ fault is. absurd (no_plan c.put_spill.result c.answer-in-Some.ensures c.put_spill.ensures.changes.set.keeps.limits fault is)

@@ -67,7 +67,7 @@ returns-in-Err-clause-moved g c = λ tight state honest stands.
     (refused_is c.args.number c.args.flags covered state c.in-Err.fault refused)
 
 pub returns-in-Err-clause-known : goal.returns-in-Err-clause-known
-returns-in-Err-clause-known g c = subst IsRecordFault (sym c.of_record.ensures) (known_record (covered_of c.args.covered.now).index c.in-Err.fault c.in-Err.ensures.changed.keeps.never_redacted)
+returns-in-Err-clause-known g c = subst IsRecordFault (sym c.of_record.ensures) (known_record (covered_of c.args.covered.now).index c.in-Err.fault c.in-Err.ensures.changed.keeps.unredacted)
 
 pub returns-in-Err-clause-damaged : goal.returns-in-Err-clause-damaged
 returns-in-Err-clause-damaged g c = λ sector stated found honest is.
