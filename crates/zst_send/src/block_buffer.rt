@@ -1,12 +1,13 @@
-ghost use Rattle.std.specs.Prelude.{◌≡◌, ◌%◌, ◌+◌, ◌≤◌, List, None, Some, ℕ, length, take, IfOk, OnOk};
+ghost use Rattle.std.specs.Prelude.{◌≡◌, ◌%◌, ◌≤◌, List, None, Some, ℕ, length, take, IfOk, OnOk};
 ghost use Rattle.zst_block.specs.IoStates.{IsHonest, blocks_of, disk_of, io_of};
-ghost use Rattle.zst_block.specs.IoCalls.{Looks, stop_of};
+ghost use Rattle.zst_block.specs.IoCalls.{stop_of};
 ghost use Rattle.zst_objset.specs.Damage.{IfDamaged};
 ghost use Rattle.zst_send.specs.BufferReads.{ReadsAtMost};
 ghost use Rattle.zst_send.specs.Damage.{IsDamagedLoad, IsDamagedRead};
 ghost use Rattle.zst_send.specs.PendingRecords.{IsLoaded, BufferFits};
 ghost use Rattle.zst_tree.specs.Damage.{IsSeen};
 ghost use Rattle.zst_tree.specs.Indices.{Delivers};
+ghost use Rattle.zst_tree.specs.Steps.{LooksAtMost};
 
 use std::alloc::{AllocError, Global};
 use zst_block::{BlockFault, Io, Ptr, read};
@@ -83,8 +84,7 @@ fn read_front<D: Disk>(io: &mut Io<'_, D>, ptr: Ptr, into: &mut [u8]) -> Result<
     ensures long { length into.new ≡ length into.old }
     ensures whole { OnOk result (ptr.length % 512 ≡ 0) }
     ensures damaged { IsHonest io.new → IfDamaged result (IsDamagedRead (IsSeen (disk_of io.old).seen) (disk_of io.old).size ptr) }
-    ensures looks { Looks (io_of io.old) (io_of io.new) (stop_of result) }
-    ensures calls { (disk_of io.new).calls ≤ (disk_of io.old).calls + 1 }
+    ensures looks { LooksAtMost 1 (io_of io.old) (io_of io.new) (stop_of result) }
 {
     read(io, ptr, &mut into[..ptr.length as usize])
 }

@@ -8,4 +8,4 @@ mod LateObjects
 mod Damage
 mod Indices
 mod NextCells
-mod StepLaws
+mod HeldLeaves

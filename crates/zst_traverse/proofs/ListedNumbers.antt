@@ -17,11 +17,6 @@ use Rattle.zst_traverse.specs.Runs.{FindsIn}
 use Rattle.zst_traverse.specs.declared.walk_entry.WalkEntry.{WalkEntry}
 use Rattle.zst_traverse.specs.declared.walk_entry.WalkEntry.TheVariants as found
 use Rattle.zst_traverse.proofs.Inclusion.{any_some}
-use Rattle.zst_objset.specs.Sets.{LeafIn, SetIn}
-use Rattle.zst_block.specs.declared.ptr.Ptr.{Ptr}
-use Rattle.zst_tree.specs.Lookups.{Shows}
-use Rattle.zst_tree.specs.declared.tree.ObjSet.{ObjSet}
-use Rattle.zst_traverse.specs.declared.leaves.Leaf.{Leaf}
 use Rattle.zst_traverse.proofs.NextCells.{nothing_at, there_of}
 
 -- ---- the first number of a list, and of two
@@ -254,12 +249,7 @@ module _ (listed withheld : Runs) (object end : ℕ) where
   in_withheld None is finds = absurd (cc)
   in_withheld (Some index) is first = record { index = index; under = first.under; has = or_right (has_pair listed object index) (has_pair withheld object index) first.passes }
 
--- ---- an object, in the leaf of its number
-
-pub leaf_there : (has : Blocks) (reads : ℕ → ℕ → Blocks) (set : ObjSet) (snap : DatedState) (holds : SetIn has reads set snap) (index : ℕ) (leaf : Leaf) → index < 2 ^ 44 → leaf.index ≡ index → Shows holds.map index (leaf.ptr, leaf.count) → LeafIn has reads snap leaf.index leaf.ptr
-leaf_there has reads set snap holds index leaf less at shows =
-    let some = shows.some in
-    subst (λ (n : ℕ). LeafIn has reads snap n leaf.ptr) (sym at) (subst (λ (p : Ptr). LeafIn has reads snap index p) (shows.same index (omega arith) (omega arith) less) (holds.leaves index less))
+-- ---- the object of a number
 
 module _ (has : Blocks) (reads : ℕ → ℕ → Blocks) (snap : DatedState) (listed withheld : Runs) (number : ℕ) where
   pub none_told : DnodeIn has reads snap number None → FindsObject has reads snap listed withheld number None

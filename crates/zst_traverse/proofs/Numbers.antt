@@ -10,7 +10,6 @@ use Rattle.zst_dnode.specs.declared.slot.Slot.TheVariants as slots
 use Rattle.zst_model.specs.sends.Inclusion.{includes_number, is_after}
 use Rattle.zst_model.specs.states.DatedState.{DatedState}
 use Rattle.zst_model.specs.states.State.{number_bound}
-use Rattle.zst_tree.specs.Lookups.{Shows}
 use Rattle.zst_tree.specs.Indices.{Blocks}
 use Rattle.zst_tree.specs.declared.tree.ObjSet.{ObjSet}
 use Rattle.zst_objset.proofs.LeafLaws.{hole_in, is_number_at}
@@ -144,10 +143,6 @@ module _ (has : Blocks) (reads : ℕ → ℕ → Blocks) (snap : DatedState) (so
 
   pub none_at_zero : includes_number snap (choice_after source) 0 ≡ false
   none_at_zero = no_number snap source 0 refl
-
--- what a look-up in the tree of a set shows stands for leaves of it
-pub stands_for : (has : Blocks) (reads : ℕ → ℕ → Blocks) (set : ObjSet) (snap : DatedState) (holds : SetIn has reads set snap) (leaf : Leaf) → Shows holds.map leaf.index (leaf.ptr, leaf.count) → StandsFor has reads snap leaf
-stands_for has reads set snap holds leaf shows = λ j over under less. subst (λ (p : Ptr). LeafIn has reads snap j p) (shows.same j over under less) (holds.leaves j less)
 
 -- a number in a leaf that is a hole is absent
 pub hole_none : (has : Blocks) (reads : ℕ → ℕ → Blocks) (snap : DatedState) (leaf : ℕ) (ptr : Ptr) (k : ℕ) → leaf ≡ k / 16 → 0 < k → k < 2 ^ 48 → LeafIn has reads snap leaf ptr → ptr.kind ≡ 0 → snap.state k ≡ None

@@ -1,22 +1,23 @@
 //! The first included number or index at or after a point.
 ghost use Rattle.std.specs.Prelude.{◌≡◌, ◌⊎◌, ◌+◌, ◌*◌, ◌/◌, ◌^◌, ◌<◌, ◌≤◌, false, true, ℕ, IfNone, IfOk, IfSome, Some};
 ghost use Rattle.zst_block.specs.IoStates.{IsHonest, blocks_of, disk_of, io_of};
-ghost use Rattle.zst_block.specs.IoCalls.{Looks, stop_of};
+ghost use Rattle.zst_block.specs.IoCalls.{stop_of};
 ghost use Rattle.zst_dnode.specs.Dnode.{DnodeFits};
 ghost use Rattle.zst_model.specs.states.DatedState.{DatedState};
 ghost use Rattle.zst_model.specs.states.State.{IsState};
 ghost use Rattle.zst_tree.specs.Damage.{HangsIn, IsSeen, MayHave};
 ghost use Rattle.zst_tree.specs.Indices.{Delivers};
 ghost use Rattle.zst_tree.specs.declared.tree.ObjSet.{ObjSet};
+ghost use Rattle.zst_tree.specs.Steps.{LooksBySteps, LooksInSteps};
 ghost use Rattle.zst_objset.specs.Damage.{IfDamaged, StandsIn};
 ghost use Rattle.zst_objset.specs.Dnodes.{DnodeIn, outside};
 ghost use Rattle.zst_objset.specs.Sets.{LeafIn, SetHoldsBut};
 ghost use Rattle.zst_traverse.specs.Cells.{choice_with, FoundFits, IsNextCellIn};
-ghost use Rattle.zst_traverse.specs.Leaves.{StandsFor};
+ghost use Rattle.zst_traverse.specs.Leaves.{HoldsLeaf, HoldsTightLeaf};
 ghost use Rattle.zst_traverse.specs.Runs.{FindsPairs, RunFits};
 ghost use Rattle.zst_traverse.specs.StandingEntries.{FoundStands, RunStands};
 ghost use Rattle.zst_traverse.specs.Damage.{IsDamagedCell};
-ghost use Rattle.zst_objset.specs.TightSets.{IsTightLeaf, SetIsTightIn};
+ghost use Rattle.zst_objset.specs.TightSets.{SetIsTightIn};
 ghost use Rattle.zst_model.specs.sends.Inclusion.{Pairs};
 ghost use Rattle.zst_model.specs.fields.Lists.{has_pair};
 ghost use Rattle.zst_traverse.specs.ListedNumbers.{AreIncluded};
@@ -46,9 +47,7 @@ pub(crate) fn dnode_in<D: Disk, L: Ledger>(
     ensures ranges { IfOk result (λ found. IfSome found DnodeFits) }
     ensures stands { (set : ObjSet) → IsHonest io.new → HangsIn (MayHave (IsSeen (disk_of io.old).seen)) set.tree leaf.now.ptr → IfOk result (λ found. IfSome found (StandsIn (IsSeen (disk_of io.old).seen) set)) }
     ensures damaged { (set : ObjSet) → IsHonest io.new → HangsIn (MayHave (IsSeen (disk_of io.old).seen)) set.tree leaf.now.ptr → IfDamaged result (IsDamagedCell (IsSeen (disk_of io.old).seen) (disk_of io.old).size set) }
-    ensures looks { Looks (io_of io.old) (io_of io.new) (stop_of result) }
-    ensures steps { (steps.old ≤ steps.new) × (steps.new ≤ steps.old + 1) }
-    ensures calls { (disk_of io.new).calls + steps.old ≤ (disk_of io.old).calls + steps.new }
+    ensures looks { LooksInSteps 1 (io_of io.old) (io_of io.new) (stop_of result) steps.old steps.new }
 {
     if leaf.ptr.kind == 0 {
         return Ok(None);
@@ -78,10 +77,8 @@ fn own_pairs<D: Disk, L: Ledger>(
     ensures ranges { IfOk result (λ found. IfSome found (RunFits 0 (2 ^ 43))) }
     ensures stands { (set : ObjSet) → IsHonest io.new → HangsIn (MayHave (IsSeen (disk_of io.old).seen)) set.tree leaf.now.ptr → IfOk result (λ found. IfSome found (RunStands (IsSeen (disk_of io.old).seen) set)) }
     ensures damaged { (set : ObjSet) → IsHonest io.new → HangsIn (MayHave (IsSeen (disk_of io.old).seen)) set.tree leaf.now.ptr → IfDamaged result (IsDamagedCell (IsSeen (disk_of io.old).seen) (disk_of io.old).size set) }
-    ensures looks { Looks (io_of io.old) (io_of io.new) (stop_of result) }
-    ensures steps { (steps.old ≤ steps.new) × (steps.new ≤ steps.old + 21) }
+    ensures looks { LooksInSteps 21 (io_of io.old) (io_of io.new) (stop_of result) steps.old steps.new }
     ensures none { IfOk result (λ found. IfNone found (steps.new ≤ steps.old + 14)) }
-    ensures calls { (disk_of io.new).calls + steps.old ≤ (disk_of io.old).calls + steps.new }
 {
     match dnode_in(io, leaf, point.object, steps)? {
         None => Ok(None),
@@ -116,17 +113,14 @@ fn behind_slot<D: Disk, L: Ledger>(
     requires levels { set.now.tree.levels ≤ 7 }
     requires object { (0 < point.object) × (point.object < 2 ^ 48) × (leaf.now.index ≡ point.object / 16) }
     requires count { (0 < leaf.now.count) × (leaf.now.index + leaf.now.count ≤ 2 ^ 49) }
-    ensures found { (snap : DatedState) → IsHonest io.new → SetHoldsBut (blocks_of io.old) (has_pair withheld.now) set.now snap
-        → StandsFor (blocks_of io.old) (outside (has_pair withheld.now) (blocks_of io.old)) snap leaf.now → Delivers (IsNextCellIn (blocks_of io.old) (outside (has_pair withheld.now) (blocks_of io.old)) snap (choice_with source listed.now withheld.now) point false) result }
+    ensures found { (snap : DatedState) → IsHonest io.new → HoldsLeaf (blocks_of io.old) (outside (has_pair withheld.now) (blocks_of io.old)) set.now snap leaf.now
+        → Delivers (IsNextCellIn (blocks_of io.old) (outside (has_pair withheld.now) (blocks_of io.old)) snap (choice_with source listed.now withheld.now) point false) result }
     ensures ranges { IfOk result (λ found. IfSome found (FoundFits point)) }
     ensures stands { IsHonest io.new → HangsIn (MayHave (IsSeen (disk_of io.old).seen)) set.now.tree leaf.now.ptr → IfOk result (λ found. IfSome found (FoundStands (IsSeen (disk_of io.old).seen) set.now)) }
     ensures damaged { IsHonest io.new → HangsIn (MayHave (IsSeen (disk_of io.old).seen)) set.now.tree leaf.now.ptr → IfDamaged result (IsDamagedCell (IsSeen (disk_of io.old).seen) (disk_of io.old).size set.now) }
-    ensures looks { Looks (io_of io.old) (io_of io.new) (stop_of result) }
-    ensures steps { steps.old ≤ steps.new }
-    ensures few { (snap : DatedState) → IsHonest io.new → SetIsTightIn (blocks_of io.old) (outside (has_pair withheld.now) (blocks_of io.old)) set.now snap
-        → StandsFor (blocks_of io.old) (outside (has_pair withheld.now) (blocks_of io.old)) snap leaf.now → IsTightLeaf (blocks_of io.old) snap leaf.now.index leaf.now.ptr
+    ensures looks { LooksBySteps (io_of io.old) (io_of io.new) (stop_of result) steps.old steps.new }
+    ensures few { (snap : DatedState) → IsHonest io.new → HoldsTightLeaf (blocks_of io.old) (outside (has_pair withheld.now) (blocks_of io.old)) set.now snap leaf.now
         → AreIncluded snap (choice_with source listed.now withheld.now) listed.now withheld.now → steps.new ≤ steps.old + 57 }
-    ensures calls { (disk_of io.new).calls + steps.old ≤ (disk_of io.old).calls + steps.new }
 {
     match own_pairs(io, leaf, source, listed, withheld, point, steps)? {
         Some(run) => Ok(Some(told(point.object, run))),
@@ -176,11 +170,9 @@ pub fn next_cell<D: Disk, L: Ledger>(
     ensures damaged { IsHonest io.new → IfDamaged result (IsDamagedCell (IsSeen (disk_of io.old).seen) (disk_of io.old).size set.now) }
 
     // It only reads, a block each step, and of a set whose slots are tight at most 64, where each number that a list has a pair of is included.
-    ensures looks { Looks (io_of io.old) (io_of io.new) (stop_of result) }
-    ensures steps { steps.old ≤ steps.new }
+    ensures looks { LooksBySteps (io_of io.old) (io_of io.new) (stop_of result) steps.old steps.new }
     ensures few { (snap : DatedState) → IsHonest io.new → SetIsTightIn (blocks_of io.old) (outside (has_pair withheld.now) (blocks_of io.old)) set.now snap
         → AreIncluded snap (choice_with from listed.now withheld.now) listed.now withheld.now → steps.new ≤ steps.old + 64 }
-    ensures calls { (disk_of io.new).calls + steps.old ≤ (disk_of io.old).calls + steps.new }
 {
     if set.tree.levels > 7 {
         return Err(BlockFault::of_layout(&set.tree.root));

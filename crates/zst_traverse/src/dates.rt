@@ -1,10 +1,11 @@
 //! What is dated after a source.
-ghost use Rattle.std.specs.Prelude.{◌≡◌, ◌+◌, ◌^◌, ◌<◌, ◌≤◌, IfOk, IfSome};
+ghost use Rattle.std.specs.Prelude.{◌≡◌, ◌^◌, ◌<◌, ◌≤◌, IfOk, IfSome};
 ghost use Rattle.zst_block.specs.IoStates.{IsHonest, blocks_of, disk_of, io_of};
-ghost use Rattle.zst_block.specs.IoCalls.{Looks, stop_of};
+ghost use Rattle.zst_block.specs.IoCalls.{stop_of};
 ghost use Rattle.zst_model.specs.sends.Inclusion.{is_after};
 ghost use Rattle.zst_tree.specs.Damage.{IsSeen, NamesDamage, SumsUp};
 ghost use Rattle.zst_tree.specs.Indices.{Delivers, Map, TreeIs};
+ghost use Rattle.zst_tree.specs.Steps.{LooksInSteps};
 ghost use Rattle.zst_traverse.specs.Dates.{FindsLate};
 
 use std::sync::ledger::Ledger;
@@ -36,9 +37,7 @@ pub(crate) fn next_late<D: Disk, L: Ledger>(
     ensures late { (map : Map) → IsHonest io.new → TreeIs (blocks_of io.old) tree.now map → Delivers (FindsLate map source from below) result }
     ensures range { IfOk result (λ found. IfSome found (λ first. (from ≤ first) × (first < below))) }
     ensures damaged { IsHonest io.new → NamesDamage (IsSeen (disk_of io.old).seen) (disk_of io.old).size (SumsUp (IsSeen (disk_of io.old).seen)) tree.now.levels tree.now.root result }
-    ensures looks { Looks (io_of io.old) (io_of io.new) (stop_of result) }
-    ensures steps { (steps.old ≤ steps.new) × (steps.new ≤ steps.old + 13) }
-    ensures calls { (disk_of io.new).calls + steps.old ≤ (disk_of io.old).calls + steps.new }
+    ensures looks { LooksInSteps 13 (io_of io.old) (io_of io.new) (stop_of result) steps.old steps.new }
 {
     match source {
         None if from < below => Ok(Some(from)),

@@ -3,20 +3,20 @@ ghost use Rattle.std.specs.Prelude.{◌≡◌, ◌+◌, ◌*◌, ◌^◌, ◌<�
 ghost use Rattle.zst_space.specs.FreeSectors.{FreeSectors};
 ghost use Rattle.zst_block.specs.Blocks.{Has};
 ghost use Rattle.zst_block.specs.IoStates.{IsHonest, blocks_of, disk_of, io_of};
-ghost use Rattle.zst_block.specs.IoCalls.{Looks, stop_of};
+ghost use Rattle.zst_block.specs.IoCalls.{stop_of};
 ghost use Rattle.zst_model.specs.sends.Inclusion.{is_after, Pairs};
 ghost use Rattle.zst_model.specs.states.DatedState.{DatedState};
 ghost use Rattle.zst_tree.specs.Damage.{HangsIn, IsSeen, MayHave, NamesDamage, NamesNode};
 ghost use Rattle.zst_tree.specs.Lookups.{Shows};
 ghost use Rattle.zst_tree.specs.Indices.{Delivers, Map, TreeIs};
 ghost use Rattle.zst_tree.specs.declared.tree.ObjSet.{ObjSet};
+ghost use Rattle.zst_tree.specs.Steps.{LooksInSteps};
 ghost use Rattle.zst_objset.specs.Damage.{IfDamaged, IsDamagedLeaf, IsLoaded};
 ghost use Rattle.zst_objset.specs.Sets.{HasSlotsIn, LeafIn};
 ghost use Rattle.zst_traverse.specs.Cells.{choice_after};
-ghost use Rattle.zst_traverse.specs.Leaves.{AheadFits, EndsLeaf, GoesOn, IfNothing, IsNext, ShowsAhead, StandsFor};
+ghost use Rattle.zst_traverse.specs.Leaves.{AheadFits, EndsLeaf, GoesOn, IsFromIn, IsNext, LooksTightly, ShowsAhead, StandsFor, StandsTightly};
 ghost use Rattle.zst_traverse.specs.StandingEntries.{AheadStands};
 ghost use Rattle.zst_traverse.specs.Damage.{IsDamagedCell};
-ghost use Rattle.zst_objset.specs.TightSets.{IsTightLeaf};
 ghost use Rattle.zst_objset.specs.Dnodes.{outside};
 
 use crate::dates::is_after;
@@ -61,9 +61,7 @@ pub(crate) fn leaf_at<D: Disk, L: Ledger>(
     ensures range { IfOk result (λ leaf. (0 < leaf.count) × (index + leaf.count ≤ 2 ^ 49)) }
     ensures hangs { IsHonest io.new → IfOk result (λ leaf. HangsIn (MayHave (IsSeen (disk_of io.old).seen)) tree.now leaf.ptr) }
     ensures damaged { IsHonest io.new → NamesDamage (IsSeen (disk_of io.old).seen) (disk_of io.old).size NamesNode tree.now.levels tree.now.root result }
-    ensures looks { Looks (io_of io.old) (io_of io.new) (stop_of result) }
-    ensures steps { (steps.old ≤ steps.new) × (steps.new ≤ steps.old + 7) }
-    ensures calls { (disk_of io.new).calls + steps.old ≤ (disk_of io.old).calls + steps.new }
+    ensures looks { LooksInSteps 7 (io_of io.old) (io_of io.new) (stop_of result) steps.old steps.new }
 {
     let (ptr, count) = tree.get(io, index, steps)?;
     Ok(Leaf { index, ptr, count })
@@ -80,9 +78,8 @@ pub(crate) fn load_leaf<D: Disk, L: Ledger>(
         → Delivers (λ done. HasSlotsIn (blocks_of io.old) (outside pairs (blocks_of io.old)) snap leaf.now.index io.new.node) result }
     ensures loaded { IsHonest io.new → OnOk result (IsLoaded (IsSeen (disk_of io.old).seen) leaf.now.ptr io.new.node) }
     ensures damaged { IsHonest io.new → IfDamaged result (IsDamagedLeaf (IsSeen (disk_of io.old).seen) (disk_of io.old).size leaf.now.ptr) }
-    ensures looks { Looks (io_of io.old) (io_of io.new) (stop_of result) }
+    ensures looks { LooksInSteps 1 (io_of io.old) (io_of io.new) (stop_of result) steps.old steps.new }
     ensures steps { steps.new ≡ steps.old + 1 }
-    ensures calls { (disk_of io.new).calls + steps.old ≤ (disk_of io.old).calls + steps.new }
 {
     tick(steps);
     load_slots(io, leaf.ptr, leaf.index)
@@ -117,9 +114,7 @@ pub(crate) fn look<D: Disk, L: Ledger>(
     from: u64,
     steps: &mut Steps<L>,
 ) -> Result<WalkStep, BlockFault>
-    requires index { leaf.now.index < 2 ^ 44 }
-    requires count { (0 < leaf.now.count) × (leaf.now.index + leaf.now.count ≤ 2 ^ 49) }
-    requires from { (0 < from) × (16 * leaf.now.index ≤ from) × (from ≤ 16 * leaf.now.index + 16) }
+    requires leaf { IsFromIn from leaf.now }
     ensures shows { (snap : DatedState) (pairs : Pairs) → IsHonest io.new → StandsFor (blocks_of io.old) (outside pairs (blocks_of io.old)) snap leaf.now
         → Delivers (ShowsAhead (blocks_of io.old) (outside pairs (blocks_of io.old)) snap (choice_after source) from) result }
     ensures ranges { IfOk result (AheadFits from) }
@@ -128,15 +123,9 @@ pub(crate) fn look<D: Disk, L: Ledger>(
     ensures damaged { (set : ObjSet) → IsHonest io.new → HangsIn (MayHave (IsSeen (disk_of io.old).seen)) set.tree leaf.now.ptr → IfDamaged result (IsDamagedCell (IsSeen (disk_of io.old).seen) (disk_of io.old).size set) }
 
     // In a tight leaf an object that may be included is.
-    ensures ends { (snap : DatedState) (pairs : Pairs) → IsHonest io.new → StandsFor (blocks_of io.old) (outside pairs (blocks_of io.old)) snap leaf.now
-        → IsTightLeaf (blocks_of io.old) snap leaf.now.index leaf.now.ptr → IfOk result EndsLeaf }
-    ensures few { (snap : DatedState) (pairs : Pairs) → IsHonest io.new → StandsFor (blocks_of io.old) (outside pairs (blocks_of io.old)) snap leaf.now
-        → IsTightLeaf (blocks_of io.old) snap leaf.now.index leaf.now.ptr → IfOk result (IfNothing (steps.new ≤ steps.old + 1)) }
-    ensures late { (snap : DatedState) (pairs : Pairs) → IsHonest io.new → StandsFor (blocks_of io.old) (outside pairs (blocks_of io.old)) snap leaf.now
-        → IsTightLeaf (blocks_of io.old) snap leaf.now.index leaf.now.ptr → is_after source leaf.now.ptr.number ≡ true → from ≡ 16 * leaf.now.index → IfOk result IsNext }
-    ensures looks { Looks (io_of io.old) (io_of io.new) (stop_of result) }
-    ensures steps { (steps.old ≤ steps.new) × (steps.new ≤ steps.old + 14) }
-    ensures calls { (disk_of io.new).calls + steps.old ≤ (disk_of io.old).calls + steps.new }
+    ensures tightly { (snap : DatedState) (pairs : Pairs) → IsHonest io.new → StandsTightly (blocks_of io.old) (outside pairs (blocks_of io.old)) snap leaf.now
+        → LooksTightly leaf.now source from steps.old steps.new result }
+    ensures looks { LooksInSteps 14 (io_of io.old) (io_of io.new) (stop_of result) steps.old steps.new }
 {
     if leaf.ptr.kind == 0 {
         return Ok(in_hole(leaf, source, from));

@@ -1,19 +1,19 @@
 //! The first included number, where a list's pairs include numbers too.
-ghost use Rattle.std.specs.Prelude.{◌≡◌, ◌+◌, ◌*◌, ◌^◌, ◌<◌, ◌≤◌, ◌||◌, true, false, ℕ, IfOk, IfSome};
+ghost use Rattle.std.specs.Prelude.{◌≡◌, ◌+◌, ◌^◌, ◌<◌, ◌≤◌, ◌||◌, true, false, ℕ, IfOk, IfSome};
 ghost use Rattle.zst_block.specs.IoStates.{IsHonest, blocks_of, disk_of, io_of};
-ghost use Rattle.zst_block.specs.IoCalls.{Looks, stop_of};
+ghost use Rattle.zst_block.specs.IoCalls.{stop_of};
 ghost use Rattle.zst_dnode.specs.Dnode.{DnodeFits};
 ghost use Rattle.zst_model.specs.fields.Lists.{has_pair};
 ghost use Rattle.zst_model.specs.states.DatedState.{DatedState};
 ghost use Rattle.zst_tree.specs.Damage.{HangsIn, IsSeen, MayHave};
 ghost use Rattle.zst_tree.specs.Indices.{Delivers};
+ghost use Rattle.zst_tree.specs.Steps.{LooksBySteps, LooksInSteps};
 ghost use Rattle.zst_objset.specs.Damage.{IfDamaged, StandsIn};
 ghost use Rattle.zst_objset.specs.Dnodes.{outside};
 ghost use Rattle.zst_objset.specs.Sets.{SetHoldsBut};
-ghost use Rattle.zst_objset.specs.TightSets.{IsTightLeaf, SetIsTightIn};
 ghost use Rattle.zst_traverse.specs.Cells.{choice_with};
 ghost use Rattle.zst_traverse.specs.Damage.{IsDamagedCell};
-ghost use Rattle.zst_traverse.specs.Leaves.{FindsNumber, NumberFits, StandsFor};
+ghost use Rattle.zst_traverse.specs.Leaves.{FindsNumber, HoldsLeaf, HoldsTightLeaf, IsFromIn, NumberFits};
 ghost use Rattle.zst_traverse.specs.ListedNumbers.{AreIncluded, FindsListed, FindsObject, FindsOf, first_found, IsListedBelow, or_below};
 ghost use Rattle.zst_traverse.specs.StandingEntries.{NumberStands};
 
@@ -80,9 +80,7 @@ fn listed_object<D: Disk, L: Ledger>(
     ensures ranges { IfOk result (λ found. IfSome found DnodeFits) }
     ensures stands { IsHonest io.new → IfOk result (λ found. IfSome found (StandsIn (IsSeen (disk_of io.old).seen) set.now)) }
     ensures damaged { IsHonest io.new → IfDamaged result (IsDamagedCell (IsSeen (disk_of io.old).seen) (disk_of io.old).size set.now) }
-    ensures looks { Looks (io_of io.old) (io_of io.new) (stop_of result) }
-    ensures steps { (steps.old ≤ steps.new) × (steps.new ≤ steps.old + 8) }
-    ensures calls { (disk_of io.new).calls + steps.old ≤ (disk_of io.old).calls + steps.new }
+    ensures looks { LooksInSteps 8 (io_of io.old) (io_of io.new) (stop_of result) steps.old steps.new }
 {
     let leaf = leaf_at(io, &set.tree, number / 16, steps)?;
     match dnode_in(io, &leaf, number, steps)? {
@@ -122,21 +120,15 @@ pub(crate) fn next_listed<D: Disk, L: Ledger>(
     steps: &mut Steps<L>,
 ) -> Result<Option<WalkEntry>, BlockFault>
     requires levels { set.now.tree.levels ≤ 7 }
-    requires index { leaf.now.index < 2 ^ 44 }
-    requires count { (0 < leaf.now.count) × (leaf.now.index + leaf.now.count ≤ 2 ^ 49) }
-    requires from { (0 < from) × (16 * leaf.now.index ≤ from) × (from ≤ 16 * leaf.now.index + 16) }
-    ensures found { (snap : DatedState) → IsHonest io.new → SetHoldsBut (blocks_of io.old) (has_pair withheld.now) set.now snap
-        → StandsFor (blocks_of io.old) (outside (has_pair withheld.now) (blocks_of io.old)) snap leaf.now
+    requires leaf { IsFromIn from leaf.now }
+    ensures found { (snap : DatedState) → IsHonest io.new → HoldsLeaf (blocks_of io.old) (outside (has_pair withheld.now) (blocks_of io.old)) set.now snap leaf.now
         → Delivers (FindsNumber (blocks_of io.old) (outside (has_pair withheld.now) (blocks_of io.old)) snap (choice_with source listed.now withheld.now) from) result }
     ensures ranges { IfOk result (λ found. IfSome found (NumberFits from)) }
     ensures stands { IsHonest io.new → HangsIn (MayHave (IsSeen (disk_of io.old).seen)) set.now.tree leaf.now.ptr → IfOk result (λ found. IfSome found (NumberStands (IsSeen (disk_of io.old).seen) set.now)) }
     ensures damaged { IsHonest io.new → HangsIn (MayHave (IsSeen (disk_of io.old).seen)) set.now.tree leaf.now.ptr → IfDamaged result (IsDamagedCell (IsSeen (disk_of io.old).seen) (disk_of io.old).size set.now) }
-    ensures looks { Looks (io_of io.old) (io_of io.new) (stop_of result) }
-    ensures steps { steps.old ≤ steps.new }
-    ensures few { (snap : DatedState) → IsHonest io.new → SetIsTightIn (blocks_of io.old) (outside (has_pair withheld.now) (blocks_of io.old)) set.now snap
-        → StandsFor (blocks_of io.old) (outside (has_pair withheld.now) (blocks_of io.old)) snap leaf.now → IsTightLeaf (blocks_of io.old) snap leaf.now.index leaf.now.ptr
+    ensures looks { LooksBySteps (io_of io.old) (io_of io.new) (stop_of result) steps.old steps.new }
+    ensures few { (snap : DatedState) → IsHonest io.new → HoldsTightLeaf (blocks_of io.old) (outside (has_pair withheld.now) (blocks_of io.old)) set.now snap leaf.now
         → AreIncluded snap (choice_with source listed.now withheld.now) listed.now withheld.now → steps.new ≤ steps.old + 43 }
-    ensures calls { (disk_of io.new).calls + steps.old ≤ (disk_of io.old).calls + steps.new }
 {
     let by_date = next_number(io, set, source, leaf, from, steps)?;
     let below = first_found(&by_date);

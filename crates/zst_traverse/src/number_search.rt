@@ -1,17 +1,18 @@
 //! The search for the first included number, which passes over leaves where nothing is late.
-ghost use Rattle.std.specs.Prelude.{◌≡◌, ◌+◌, ◌*◌, ◌%◌, ◌^◌, ◌<◌, ◌≤◌, ℕ, IfOk, IfSome};
+ghost use Rattle.std.specs.Prelude.{◌≡◌, ◌+◌, ◌%◌, ◌^◌, ◌<◌, ◌≤◌, IfOk, IfSome};
 ghost use Rattle.zst_block.specs.IoStates.{IsHonest, blocks_of, disk_of, io_of};
-ghost use Rattle.zst_block.specs.IoCalls.{Looks, stop_of};
+ghost use Rattle.zst_block.specs.IoCalls.{stop_of};
 ghost use Rattle.zst_model.specs.states.DatedState.{DatedState};
 ghost use Rattle.zst_tree.specs.Damage.{HangsIn, IsSeen, MayHave};
 ghost use Rattle.zst_tree.specs.Indices.{Delivers};
+ghost use Rattle.zst_tree.specs.Steps.{LooksBySteps, LooksInSteps};
 ghost use Rattle.zst_objset.specs.Damage.{IfDamaged};
 ghost use Rattle.zst_objset.specs.Sets.{SetHoldsBut};
 ghost use Rattle.zst_traverse.specs.Cells.{choice_after};
-ghost use Rattle.zst_traverse.specs.Leaves.{AheadFits, EndsAll, FindsNumber, GoesOn, NumberFits, ShowsAhead, StandsFor};
+ghost use Rattle.zst_traverse.specs.Leaves.{AheadFits, EndsAll, FindsNumber, GoesOn, HoldsLeaf, HoldsTightLeaf, IsFromIn, NumberFits, ShowsAhead};
 ghost use Rattle.zst_traverse.specs.StandingEntries.{AheadStands, NumberStands};
 ghost use Rattle.zst_traverse.specs.Damage.{IsDamagedCell};
-ghost use Rattle.zst_objset.specs.TightSets.{IsTightLeaf, SetIsTightIn};
+ghost use Rattle.zst_objset.specs.TightSets.{SetIsTightIn};
 ghost use Rattle.zst_objset.specs.Dnodes.{outside};
 ghost use Rattle.zst_model.specs.sends.Inclusion.{Pairs};
 
@@ -44,9 +45,7 @@ fn look_on<D: Disk, L: Ledger>(
     ensures stands { IsHonest io.new → IfOk result (AheadStands (IsSeen (disk_of io.old).seen) set.now) }
     ensures damaged { IsHonest io.new → IfDamaged result (IsDamagedCell (IsSeen (disk_of io.old).seen) (disk_of io.old).size set.now) }
     ensures ends { (snap : DatedState) (pairs : Pairs) → IsHonest io.new → SetIsTightIn (blocks_of io.old) (outside pairs (blocks_of io.old)) set.now snap → from % 16 ≡ 0 → IfOk result EndsAll }
-    ensures looks { Looks (io_of io.old) (io_of io.new) (stop_of result) }
-    ensures steps { (steps.old ≤ steps.new) × (steps.new ≤ steps.old + 34) }
-    ensures calls { (disk_of io.new).calls + steps.old ≤ (disk_of io.old).calls + steps.new }
+    ensures looks { LooksInSteps 34 (io_of io.old) (io_of io.new) (stop_of result) steps.old steps.new }
 {
     match next_late(io, &set.tree, source, from / 16, LEAF_BOUND, steps)? {
         None => Ok(WalkStep::Nothing {
@@ -69,19 +68,14 @@ pub(crate) fn next_number<D: Disk, L: Ledger>(
     steps: &mut Steps<L>,
 ) -> Result<Option<WalkEntry>, BlockFault>
     requires levels { set.now.tree.levels ≤ 7 }
-    requires index { leaf.now.index < 2 ^ 44 }
-    requires count { (0 < leaf.now.count) × (leaf.now.index + leaf.now.count ≤ 2 ^ 49) }
-    requires from { (0 < from) × (16 * leaf.now.index ≤ from) × (from ≤ 16 * leaf.now.index + 16) }
-    ensures found { (snap : DatedState) (pairs : Pairs) → IsHonest io.new → SetHoldsBut (blocks_of io.old) pairs set.now snap
-        → StandsFor (blocks_of io.old) (outside pairs (blocks_of io.old)) snap leaf.now → Delivers (FindsNumber (blocks_of io.old) (outside pairs (blocks_of io.old)) snap (choice_after source) from) result }
+    requires leaf { IsFromIn from leaf.now }
+    ensures found { (snap : DatedState) (pairs : Pairs) → IsHonest io.new → HoldsLeaf (blocks_of io.old) (outside pairs (blocks_of io.old)) set.now snap leaf.now
+        → Delivers (FindsNumber (blocks_of io.old) (outside pairs (blocks_of io.old)) snap (choice_after source) from) result }
     ensures ranges { IfOk result (λ found. IfSome found (NumberFits from)) }
     ensures stands { IsHonest io.new → HangsIn (MayHave (IsSeen (disk_of io.old).seen)) set.now.tree leaf.now.ptr → IfOk result (λ found. IfSome found (NumberStands (IsSeen (disk_of io.old).seen) set.now)) }
     ensures damaged { IsHonest io.new → HangsIn (MayHave (IsSeen (disk_of io.old).seen)) set.now.tree leaf.now.ptr → IfDamaged result (IsDamagedCell (IsSeen (disk_of io.old).seen) (disk_of io.old).size set.now) }
-    ensures looks { Looks (io_of io.old) (io_of io.new) (stop_of result) }
-    ensures steps { steps.old ≤ steps.new }
-    ensures few { (snap : DatedState) (pairs : Pairs) → IsHonest io.new → SetIsTightIn (blocks_of io.old) (outside pairs (blocks_of io.old)) set.now snap
-        → StandsFor (blocks_of io.old) (outside pairs (blocks_of io.old)) snap leaf.now → IsTightLeaf (blocks_of io.old) snap leaf.now.index leaf.now.ptr → steps.new ≤ steps.old + 35 }
-    ensures calls { (disk_of io.new).calls + steps.old ≤ (disk_of io.old).calls + steps.new }
+    ensures looks { LooksBySteps (io_of io.old) (io_of io.new) (stop_of result) steps.old steps.new }
+    ensures few { (snap : DatedState) (pairs : Pairs) → IsHonest io.new → HoldsTightLeaf (blocks_of io.old) (outside pairs (blocks_of io.old)) set.now snap leaf.now → steps.new ≤ steps.old + 35 }
 {
     let mut at = match look(io, leaf, source, from, steps)? {
         WalkStep::Next(found) => return Ok(Some(found)),

@@ -1,7 +1,7 @@
 //! Whether an object that tells a late date is included.
-ghost use Rattle.std.specs.Prelude.{◌≡◌, ◌+◌, ◌*◌, ◌^◌, ◌<◌, ◌≤◌, true, ℕ, IfOk};
+ghost use Rattle.std.specs.Prelude.{◌≡◌, ◌+◌, ◌*◌, ◌^◌, ◌<◌, true, ℕ, IfOk};
 ghost use Rattle.zst_block.specs.IoStates.{IsHonest, blocks_of, disk_of, io_of};
-ghost use Rattle.zst_block.specs.IoCalls.{Looks, stop_of};
+ghost use Rattle.zst_block.specs.IoCalls.{stop_of};
 ghost use Rattle.zst_dnode.specs.Dnode.{DnodeFits};
 ghost use Rattle.zst_dnode.specs.declared.slot.Slot.TheVariants as slots;
 ghost use Rattle.zst_model.specs.sends.Inclusion.{is_after, Pairs};
@@ -9,6 +9,7 @@ ghost use Rattle.zst_model.specs.states.DatedState.{DatedState};
 ghost use Rattle.zst_tree.specs.Damage.{IsSeen};
 ghost use Rattle.zst_tree.specs.Indices.{Delivers};
 ghost use Rattle.zst_tree.specs.declared.tree.ObjSet.{ObjSet};
+ghost use Rattle.zst_tree.specs.Steps.{LooksInSteps};
 ghost use Rattle.zst_objset.specs.Damage.{IfDamaged, StandsIn};
 ghost use Rattle.zst_objset.specs.Dnodes.{IsThereIn, outside};
 ghost use Rattle.zst_objset.specs.Sets.{date_in};
@@ -49,9 +50,7 @@ pub(crate) fn judged<D: Disk, L: Ledger>(
     ensures damaged { (set : ObjSet) → IsHonest io.new → StandsIn (IsSeen (disk_of io.old).seen) set dnode → IfDamaged result (IsDamagedCell (IsSeen (disk_of io.old).seen) (disk_of io.old).size set) }
     ensures next { (snap : DatedState) (pairs : Pairs) → IsHonest io.new → IsThereIn (blocks_of io.old) (outside pairs (blocks_of io.old)) snap number dnode
         → IsTightSlot snap number (slots.There dnode) → is_after source (date_in (slots.There dnode)) ≡ true → IfOk result IsNext }
-    ensures looks { Looks (io_of io.old) (io_of io.new) (stop_of result) }
-    ensures steps { (steps.old ≤ steps.new) × (steps.new ≤ steps.old + 13) }
-    ensures calls { (disk_of io.new).calls + steps.old ≤ (disk_of io.old).calls + steps.new }
+    ensures looks { LooksInSteps 13 (io_of io.old) (io_of io.new) (stop_of result) steps.old steps.new }
 {
     let object = WalkEntry::Object { number, dnode };
     if is_after(source, dnode.date) {

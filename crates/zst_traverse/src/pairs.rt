@@ -1,13 +1,14 @@
 //! The search for the first included indices of an object.
 ghost use Rattle.std.specs.Prelude.{◌≡◌, ◌↔◌, ◌+◌, ◌*◌, ◌^◌, ◌<◌, ◌≤◌, true, ℕ, Bool, false, IfErr, IfNone, IfOk, IfSome};
 ghost use Rattle.zst_block.specs.IoStates.{IsHonest, blocks_of, disk_of, io_of};
-ghost use Rattle.zst_block.specs.IoCalls.{Looks, stop_of};
+ghost use Rattle.zst_block.specs.IoCalls.{stop_of};
 ghost use Rattle.zst_dnode.specs.Dnode.{DnodeFits};
 ghost use Rattle.zst_model.specs.declared.states.cell.Cell.TheVariants as cells;
 ghost use Rattle.zst_model.specs.states.DatedState.{DatedState};
 ghost use Rattle.zst_tree.specs.Damage.{IsSeen};
 ghost use Rattle.zst_tree.specs.Indices.{Delivers, Map};
 ghost use Rattle.zst_tree.specs.declared.tree.ObjSet.{ObjSet};
+ghost use Rattle.zst_tree.specs.Steps.{LooksInSteps};
 ghost use Rattle.zst_objset.specs.Damage.{IfDamaged, StandsIn};
 ghost use Rattle.zst_objset.specs.Dnodes.{IsThereIn, ObjectIn, outside};
 ghost use Rattle.zst_model.specs.fields.Lists.{has_pair};
@@ -86,9 +87,7 @@ fn run_at<D: Disk, L: Ledger>(
     ensures ranges { IfOk result (RunFits index dnode.now.end) }
     ensures stands { (set : ObjSet) → IsHonest io.new → StandsIn (IsSeen (disk_of io.old).seen) set dnode.now → IfOk result (RunStands (IsSeen (disk_of io.old).seen) set) }
     ensures damaged { (set : ObjSet) → IsHonest io.new → StandsIn (IsSeen (disk_of io.old).seen) set dnode.now → IfDamaged result (IsDamagedCell (IsSeen (disk_of io.old).seen) (disk_of io.old).size set) }
-    ensures looks { Looks (io_of io.old) (io_of io.new) (stop_of result) }
-    ensures steps { (steps.old ≤ steps.new) × (steps.new ≤ steps.old + 7) }
-    ensures calls { (disk_of io.new).calls + steps.old ≤ (disk_of io.old).calls + steps.new }
+    ensures looks { LooksInSteps 7 (io_of io.old) (io_of io.new) (stop_of result) steps.old steps.new }
 {
     let (ptr, alike) = tree_of(dnode).get(io, index, steps)?;
     let Some(what) = cell_of(&ptr, dnode.block_size) else {
@@ -176,10 +175,8 @@ pub(crate) fn next_pairs<D: Disk, L: Ledger>(
     ensures ranges { IfOk result (λ found. IfSome found (RunFits 0 dnode.now.end)) }
     ensures stands { (set : ObjSet) → IsHonest io.new → StandsIn (IsSeen (disk_of io.old).seen) set dnode.now → IfOk result (λ found. IfSome found (RunStands (IsSeen (disk_of io.old).seen) set)) }
     ensures damaged { (set : ObjSet) → IsHonest io.new → StandsIn (IsSeen (disk_of io.old).seen) set dnode.now → IfDamaged result (IsDamagedCell (IsSeen (disk_of io.old).seen) (disk_of io.old).size set) }
-    ensures looks { Looks (io_of io.old) (io_of io.new) (stop_of result) }
-    ensures steps { (steps.old ≤ steps.new) × (steps.new ≤ steps.old + 20) }
+    ensures looks { LooksInSteps 20 (io_of io.old) (io_of io.new) (stop_of result) steps.old steps.new }
     ensures none { IfOk result (λ found. IfNone found (steps.new ≤ steps.old + 13)) }
-    ensures calls { (disk_of io.new).calls + steps.old ≤ (disk_of io.old).calls + steps.new }
 {
     let from = first_index(point.offset, dnode.block_size);
     let late = next_late(io, &tree_of(dnode), source, from, dnode.end, steps)?;
@@ -212,9 +209,7 @@ fn run_of<D: Disk, L: Ledger>(
     ensures ranges { IfOk result (RunFits turn.index dnode.now.end) }
     ensures stands { (set : ObjSet) → IsHonest io.new → StandsIn (IsSeen (disk_of io.old).seen) set dnode.now → IfOk result (RunStands (IsSeen (disk_of io.old).seen) set) }
     ensures damaged { (set : ObjSet) → IsHonest io.new → StandsIn (IsSeen (disk_of io.old).seen) set dnode.now → IfDamaged result (IsDamagedCell (IsSeen (disk_of io.old).seen) (disk_of io.old).size set) }
-    ensures looks { Looks (io_of io.old) (io_of io.new) (stop_of result) }
-    ensures steps { (steps.old ≤ steps.new) × (steps.new ≤ steps.old + 7) }
-    ensures calls { (disk_of io.new).calls + steps.old ≤ (disk_of io.old).calls + steps.new }
+    ensures looks { LooksInSteps 7 (io_of io.old) (io_of io.new) (stop_of result) steps.old steps.new }
 {
     if turn.is_withheld {
         return Ok(Run {

@@ -80,9 +80,9 @@ returns-clause-there g c =
     let long : length c.deref.result.now ≡ 16 * length c.take_blocks.new.space.free = ap length spelled ∙ spelled_length c.take_blocks.new.space.free in
     let some : 0 < length c.deref.result.now = search rules in
     let less : length c.take_blocks.new.space.free ≤ length c.args.io.now.space.free = rw is (blocks_shorter c.blocks_for-blocks.result c.args.io.now.space) in
-    let written = c.in_ok-tree.ensures.numbered in
+    let written = c.in_ok-tree.ensures.written.numbered in
     let le = few_blocks c.in_ok-tree.tree.levels (length c.deref.result.now) (length c.args.io.now.space.free) (length c.take_blocks.new.space.free) written.least some long less in
-    let fewer = fewer_behind c.blocks_for-blocks.result _ c.args.io.now.space c.write_leaves.new.io.space c.take_blocks.new.space is c.in_ok-tree.ensures.after (omega (arith, le, blocks)) in
+    let fewer = fewer_behind c.blocks_for-blocks.result _ c.args.io.now.space c.write_leaves.new.io.space c.take_blocks.new.space is c.in_ok-tree.ensures.written.after (omega (arith, le, blocks)) in
     record {
       count_is = sym same;
       none = λ zero. absurd (omega (arith, zero, same, long, some));
@@ -102,7 +102,7 @@ returns-clause-works g c =
     let long : length c.deref.result.now ≡ 16 * length c.take_blocks.new.space.free = ap length spelled ∙ spelled_length c.take_blocks.new.space.free in
     let some : 0 < length c.deref.result.now = search rules in
     let less : length c.take_blocks.new.space.free ≤ length c.args.io.now.space.free = rw is (blocks_shorter c.blocks_for-blocks.result c.args.io.now.space) in
-    let le = few_blocks c.in_ok-tree.tree.levels (length c.deref.result.now) (length c.args.io.now.space.free) (length c.take_blocks.new.space.free) c.in_ok-tree.ensures.there.least some long less in
-    let fewer = fewer_behind c.blocks_for-blocks.result _ c.args.io.now.space c.write_leaves.new.io.space c.take_blocks.new.space is c.in_ok-tree.ensures.after (omega (arith, le, blocks)) in
+    let le = few_blocks c.in_ok-tree.tree.levels (length c.deref.result.now) (length c.args.io.now.space.free) (length c.take_blocks.new.space.free) c.in_ok-tree.ensures.written.there.least some long less in
+    let fewer = fewer_behind c.blocks_for-blocks.result _ c.args.io.now.space c.write_leaves.new.io.space c.take_blocks.new.space is c.in_ok-tree.ensures.written.after (omega (arith, le, blocks)) in
     let taken = rw c.in_ok-left.ensures at c.take_blocks.ensures.takes in
     Works-left c.in_ok-tree.ensures.works fewer (TakesAtMost-full (16 * c.blocks_for-blocks.result) _ _ _ taken (omega (arith, blocks)))

@@ -37,7 +37,7 @@ returns-in-Ok-clause-only g c = λ told.
     (sym (ap g.D.Disk.state c.new-io.ensures.disk)) (sym (c.new-io.ensures.space ∙ space)) (c.in-Ok.ensures.stands here none)
 
 pub of_leaves-requires : goal.of_leaves-requires
-of_leaves-requires g c = λ need largest is. c.in-Err.ensures.looks.never_full need largest (ap (λ (f : LeavesFault). stop_of_leaves {T = Vec ℕ Global} (Err f)) is)
+of_leaves-requires g c = λ need largest is. c.in-Err.ensures.looks.looks.never_full need largest (ap (λ (f : LeavesFault). stop_of_leaves {T = Vec ℕ Global} (Err f)) is)
 
 pub returns-in-Err-clause-there : goal.returns-in-Err-clause-there
 returns-in-Err-clause-there g c = λ text told has long.
@@ -81,5 +81,5 @@ returns-in-Err-clause-length g c = search rules
 
 pub returns-in-Err-clause-reads : goal.returns-in-Err-clause-reads
 returns-in-Err-clause-reads g c =
-    let made = leaves_cause (Vec ℕ Global) (Vec ℕ Global) _ _ c.in-Err.fault c.of_leaves.result c.of_leaves.ensures c.in-Err.ensures.looks.cause in
+    let made = leaves_cause (Vec ℕ Global) (Vec ℕ Global) _ _ c.in-Err.fault c.of_leaves.result c.of_leaves.ensures c.in-Err.ensures.looks.looks.cause in
     record { reads = search rules; cause = search (rules, made) }

@@ -43,7 +43,7 @@ loop-k-preserved g t c =
     let inv = c.loop-k.invariant in
     let step = c.in_ok-mark_below.ensures in
     let looked = c.in_ok-beside.ensures.looks.reads in
-    let loaded = c.in_ok-load_node.ensures.looks.reads in
+    let loaded = c.in_ok-load_node.ensures.looks.looks.reads in
     record {
       own = λ sector is under. step.more.stay sector (inv.own sector is under);
       all = λ honest are j less.
@@ -74,7 +74,7 @@ returns-in_err-mark_below-clause-only g t c = λ honest sector marked.
     let inv = c.loop-k.invariant in
     let step = c.in_err-mark_below.ensures in
     let looked = c.in_ok-beside.ensures.looks.reads in
-    let loaded = c.in_ok-load_node.ensures.looks.reads in
+    let loaded = c.in_ok-load_node.ensures.looks.looks.reads in
     let was = step.looks.reads.honest honest in
     let at_load = looked.honest (inv.looks.reads.honest was) in
     let inner = sym c.is_flat.ensures ∙ c.if-is_flat.false in
@@ -87,7 +87,7 @@ pub returns-clause-all : goal.returns-clause-all
 returns-clause-all g t c = λ honest are.
     let inv = c.loop-k.invariant in
     let looked = c.in_ok-beside.ensures.looks.reads in
-    let loaded = c.in_ok-load_node.ensures.looks.reads in
+    let loaded = c.in_ok-load_node.ensures.looks.looks.reads in
     let at_load = looked.honest (inv.looks.reads.honest honest) in
     let known = AreMarked-same _ _ c.args.end _ _ _ (looked.seen ∙ loaded.seen) (AreMarked-more _ c.args.end _ _ c.args.known_level c.args.known (λ sector before. (c.mark_block.ensures.marked sector).1 (inr before)) are) in
     over_all _ _ c.args.end _ c.args.level c.args.ptr c.replace-node.result c.load_node.new.io.node (omega arith) inv.own (c.in_ok-load_node.ensures.block at_load) c.replace-node.ensures.value (looked.seen ∙ loaded.seen)
@@ -96,7 +96,7 @@ returns-clause-all g t c = λ honest are.
 pub returns-clause-only : goal.returns-clause-only
 returns-clause-only g t c = λ honest sector marked.
     let looked = c.in_ok-beside.ensures.looks.reads in
-    let loaded = c.in_ok-load_node.ensures.looks.reads in
+    let loaded = c.in_ok-load_node.ensures.looks.looks.reads in
     ⊎_elim (λ mine. own_only _ c.args.end c.args.level c.args.ptr sector _ (sym c.is_flat.ensures ∙ c.if-is_flat.false) ((c.mark_block.ensures.marked sector).0 mine)) (λ reached. inr (rw (looked.seen ∙ loaded.seen) at reached)) (c.loop-k.invariant.only honest sector marked)
 
 pub returns-then-level-eq0-clause-more : goal.returns-then-level-eq0-clause-more
@@ -117,7 +117,7 @@ returns-in_err-mark_below-clause-damaged g t c = λ honest.
     let inv = c.loop-k.invariant in
     let step = c.in_err-mark_below.ensures in
     let looked = c.in_ok-beside.ensures.looks in
-    let loaded = c.in_ok-load_node.ensures.looks in
+    let loaded = c.in_ok-load_node.ensures.looks.looks in
     let at_load = looked.reads.honest (inv.looks.reads.honest (step.looks.reads.honest honest)) in
     let p = err_from_is_err_and c.from_residual-in_err-mark_below.result c.from_residual-in_err-mark_below.ensures.1 in
     rw (p.1, p.2) (fault_below (Looks-then loaded (Looks-then looked inv.looks)) (λ seen. NamesNode) c.args.level c.args.ptr c.load_node.new.io.node c.loop-k.k (omega arith) (sym c.is_flat.ensures ∙ c.if-is_flat.false)

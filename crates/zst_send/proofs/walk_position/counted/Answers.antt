@@ -24,4 +24,7 @@ returns-clause-few g c = λ snap honest tight.
     let begins : c.new-steps.result ≡ 0 = c.new-steps.ensures in
     let tight_in = subst (λ (l : Runs). SetIsTightIn has (outside (has_pair l) has) c.args.set.now snap) (sym c.empty-none.ensures) tight in
     let included = subst (λ (l : Runs). AreIncluded snap (choice_with c.args.source l l) l l) (sym c.empty-none.ensures) (λ k i listed. absurd (false≢true listed)) in
-    omega (arith, begins, c.next_cell.ensures.few snap honest tight_in included, c.next_cell.ensures.calls)
+    omega (arith, begins, c.next_cell.ensures.few snap honest tight_in included, c.next_cell.ensures.looks.calls)
+
+pub returns-clause-looks : goal.returns-clause-looks
+returns-clause-looks g c = c.next_cell.ensures.looks.looks

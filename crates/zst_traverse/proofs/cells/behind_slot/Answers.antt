@@ -1,5 +1,4 @@
 use Rattle.std.proofs.lemmas.Result.{err_from_is_err_and}
-use Rattle.zst_block.proofs.IoCallLemmas.{Looks-then}
 use Rattle.std.proofs.Common.{ℕ, ◌+◌, ◌<◌, ◌≤◌, false, List, refl, subst, arith}
 use Rattle.std.specs.Prelude.{Option, IfNone, IfSome}
 use Rattle.zst_space.specs.FreeSectors.{FreeSectors}
@@ -9,24 +8,22 @@ use Rattle.zst_tree.proofs.Results.{delivers_if}
 use Rattle.zst_tree.specs.Indices.{Delivers}
 use Rattle.zst_tree.specs.Damage.{IsSeen}
 use Rattle.zst_objset.proofs.LeafLaws.{look_back, look_on}
-use Rattle.zst_objset.specs.Sets.{SetHoldsBut}
 use Rattle.zst_traverse.specs.Cells.{choice_with}
-use Rattle.zst_traverse.specs.Leaves.{FindsNumber, StandsFor}
+use Rattle.zst_traverse.specs.Leaves.{FindsNumber, HoldsLeaf, HoldsTightLeaf}
 use Rattle.zst_traverse.specs.Runs.{FindsPairs}
 use Rattle.zst_traverse.specs.StandingEntries.{RunStands}
-use Rattle.zst_objset.specs.TightSets.{IsTightLeaf, SetIsTightIn}
 use Rattle.zst_traverse.specs.declared.pairs.Run.{Run}
 use Rattle.zst_traverse.proofs.NextCells.{numbers_next}
-use Rattle.zst_traverse.proofs.StepLaws.{calls_then}
+use Rattle.zst_tree.proofs.StepLooks.{BySteps-then}
 use Rattle.zst_traverse.proofs.cells.behind_slot.Goals as goal
 use Rattle.zst_objset.specs.Dnodes.{outside}
 use Rattle.zst_model.specs.fields.Lists.{has_pair}
 
 pub returns-in-Some-clause-found : goal.returns-in-Some-clause-found
-returns-in-Some-clause-found g c = λ snap honest holds stands.
+returns-in-Some-clause-found g c = λ snap honest held.
     let some : 0 < c.args.leaf.now.count = c.requires.count.0 in
-    let is = stands c.args.leaf.now.index (omega arith) (omega arith) (omega (arith, c.requires.object.1, c.requires.object.2)) in
-    rw c.told.ensures (refl, refl, subst (λ (found : Option Run). FindsPairs (blocks_of c.args.io.now) snap (choice_with c.args.source c.args.listed.now c.args.withheld.now) c.args.point found) c.in-Some.is (c.in_ok-run.ensures.found snap honest holds.lawful is))
+    let is = held.stands c.args.leaf.now.index (omega arith) (omega arith) (omega (arith, c.requires.object.1, c.requires.object.2)) in
+    rw c.told.ensures (refl, refl, subst (λ (found : Option Run). FindsPairs (blocks_of c.args.io.now) snap (choice_with c.args.source c.args.listed.now c.args.withheld.now) c.args.point found) c.in-Some.is (c.in_ok-run.ensures.found snap honest held.holds.lawful is))
 
 pub returns-in-Some-clause-stands : goal.returns-in-Some-clause-stands
 returns-in-Some-clause-stands g c = λ honest hangs.
@@ -34,26 +31,27 @@ returns-in-Some-clause-stands g c = λ honest hangs.
     rw c.told.ensures (subst (λ (found : Option Run). IfSome found (RunStands seen c.args.set.now)) c.in-Some.is (c.in_ok-run.ensures.stands c.args.set.now honest hangs))
 
 pub returns-in-None-clause-found : goal.returns-in-None-clause-found
-returns-in-None-clause-found g c = λ snap honest holds stands.
-    let was = c.next_listed.ensures.looks.reads.honest honest in
-    let looks = c.in_ok-run.ensures.looks in
+returns-in-None-clause-found g c = λ snap honest held.
+    let was = c.next_listed.ensures.looks.looks.reads.honest honest in
+    let looks = c.in_ok-run.ensures.looks.by_steps.looks in
     let some : 0 < c.args.leaf.now.count = c.requires.count.0 in
-    let is = stands c.args.leaf.now.index (omega arith) (omega arith) (omega (arith, c.requires.object.1, c.requires.object.2)) in
-    let none = subst (λ (found : Option Run). FindsPairs (blocks_of c.args.io.now) snap (choice_with c.args.source c.args.listed.now c.args.withheld.now) c.args.point found) c.in-None.is (c.in_ok-run.ensures.found snap was holds.lawful is) in
-    let holds_on = look_on (λ (seen : List ℕ) (space : FreeSectors). SetHoldsBut (Has seen space) (has_pair c.args.withheld.now) c.args.set.now snap) looks holds in
-    let stands_on = look_on (λ (seen : List ℕ) (space : FreeSectors). StandsFor (Has seen space) (outside (has_pair c.args.withheld.now) (Has seen space)) snap c.args.leaf.now) looks stands in
-    let back = look_back (λ (seen : List ℕ) (space : FreeSectors). Delivers (FindsNumber (Has seen space) (outside (has_pair c.args.withheld.now) (Has seen space)) snap (choice_with c.args.source c.args.listed.now c.args.withheld.now) (c.args.point.object + 1)) c.next_listed.result) looks (c.next_listed.ensures.found snap honest holds_on stands_on) in
+    let is = held.stands c.args.leaf.now.index (omega arith) (omega arith) (omega (arith, c.requires.object.1, c.requires.object.2)) in
+    let none = subst (λ (found : Option Run). FindsPairs (blocks_of c.args.io.now) snap (choice_with c.args.source c.args.listed.now c.args.withheld.now) c.args.point found) c.in-None.is (c.in_ok-run.ensures.found snap was held.holds.lawful is) in
+    let on = look_on (λ (seen : List ℕ) (space : FreeSectors). HoldsLeaf (Has seen space) (outside (has_pair c.args.withheld.now) (Has seen space)) c.args.set.now snap c.args.leaf.now) looks held in
+    let back = look_back (λ (seen : List ℕ) (space : FreeSectors). Delivers (FindsNumber (Has seen space) (outside (has_pair c.args.withheld.now) (Has seen space)) snap (choice_with c.args.source c.args.listed.now c.args.withheld.now) (c.args.point.object + 1)) c.next_listed.result) looks (c.next_listed.ensures.found snap honest on) in
     delivers_if _ _ c.next_listed.result (numbers_next _ _ snap (choice_with c.args.source c.args.listed.now c.args.withheld.now) c.args.point false (λ passed. none)) back
 
 pub returns-in-None-clause-few : goal.returns-in-None-clause-few
-returns-in-None-clause-few g c = λ snap honest tight stands leaf included.
-    let looks = c.in_ok-run.ensures.looks in
-    let tight_on = look_on (λ (seen : List ℕ) (space : FreeSectors). SetIsTightIn (Has seen space) (outside (has_pair c.args.withheld.now) (Has seen space)) c.args.set.now snap) looks tight in
-    let stands_on = look_on (λ (seen : List ℕ) (space : FreeSectors). StandsFor (Has seen space) (outside (has_pair c.args.withheld.now) (Has seen space)) snap c.args.leaf.now) looks stands in
-    let leaf_on = look_on (λ (seen : List ℕ) (space : FreeSectors). IsTightLeaf (Has seen space) snap c.args.leaf.now.index c.args.leaf.now.ptr) looks leaf in
+returns-in-None-clause-few g c = λ snap honest held included.
+    let on = look_on (λ (seen : List ℕ) (space : FreeSectors). HoldsTightLeaf (Has seen space) (outside (has_pair c.args.withheld.now) (Has seen space)) c.args.set.now snap c.args.leaf.now) c.in_ok-run.ensures.looks.by_steps.looks held in
     let own : c.own_pairs.new.steps ≤ c.args.steps.now + 14 = subst (λ (found : Option Run). IfNone found (c.own_pairs.new.steps ≤ c.args.steps.now + 14)) c.in-None.is c.in_ok-run.ensures.none in
-    let more = c.next_listed.ensures.few snap honest tight_on stands_on leaf_on included in
-    omega (arith, own, more)
+    omega (arith, own, c.next_listed.ensures.few snap honest on included)
+
+pub returns-in_err-run-clause-few : goal.returns-in_err-run-clause-few
+returns-in_err-run-clause-few g c = λ snap honest held included. omega (arith, c.in_err-run.ensures.looks.few)
+
+pub returns-in-Some-clause-few : goal.returns-in-Some-clause-few
+returns-in-Some-clause-few g c = λ snap honest held included. omega (arith, c.in_ok-run.ensures.looks.few)
 
 pub returns-in_err-run-clause-ranges : goal.returns-in_err-run-clause-ranges
 returns-in_err-run-clause-ranges g c =
@@ -73,28 +71,16 @@ returns-in_err-run-clause-damaged g c = λ honest hangs.
 pub returns-in_err-run-clause-looks : goal.returns-in_err-run-clause-looks
 returns-in_err-run-clause-looks g c =
     let p = err_from_is_err_and c.from_residual.result c.from_residual.ensures.1 in
-    rw (p.1, p.2) c.in_err-run.ensures.looks
-
-pub returns-in_err-run-clause-calls : goal.returns-in_err-run-clause-calls
-returns-in_err-run-clause-calls g c = c.in_err-run.ensures.calls
-
-pub returns-in_err-run-clause-steps : goal.returns-in_err-run-clause-steps
-returns-in_err-run-clause-steps g c = c.in_err-run.ensures.steps.0
+    rw (p.1, p.2) c.in_err-run.ensures.looks.by_steps
 
 pub returns-in-Some-clause-damaged : goal.returns-in-Some-clause-damaged
 returns-in-Some-clause-damaged g c = λ honest hangs. tt
 
 pub returns-in-Some-clause-looks : goal.returns-in-Some-clause-looks
-returns-in-Some-clause-looks g c = c.in_ok-run.ensures.looks
-
-pub returns-in-Some-clause-calls : goal.returns-in-Some-clause-calls
-returns-in-Some-clause-calls g c = c.in_ok-run.ensures.calls
-
-pub returns-in-Some-clause-steps : goal.returns-in-Some-clause-steps
-returns-in-Some-clause-steps g c = c.in_ok-run.ensures.steps.0
+returns-in-Some-clause-looks g c = c.in_ok-run.ensures.looks.by_steps
 
 pub returns-in-None-clause-looks : goal.returns-in-None-clause-looks
-returns-in-None-clause-looks g c = Looks-then c.in_ok-run.ensures.looks c.next_listed.ensures.looks
+returns-in-None-clause-looks g c = BySteps-then c.in_ok-run.ensures.looks.by_steps c.next_listed.ensures.looks
 
 pub own_pairs-requires : goal.own_pairs-requires
 own_pairs-requires g c = record { object = c.requires.object }
@@ -102,8 +88,7 @@ own_pairs-requires g c = record { object = c.requires.object }
 pub next_listed-requires-clause-levels : goal.next_listed-requires-clause-levels
 next_listed-requires-clause-levels g c = c.requires.levels
 
-pub next_listed-requires-clause-count : goal.next_listed-requires-clause-count
-next_listed-requires-clause-count g c = c.requires.count
-
-pub returns-in-None-clause-calls : goal.returns-in-None-clause-calls
-returns-in-None-clause-calls g c = calls_then _ _ _ _ _ _ c.in_ok-run.ensures.calls c.next_listed.ensures.calls
+pub next_listed-requires-clause-leaf : goal.next_listed-requires-clause-leaf
+next_listed-requires-clause-leaf g c =
+    let object = c.requires.object in
+    record { index = omega (arith, object.1, object.2); count = c.requires.count; from = (omega arith, omega (arith, object.2), omega (arith, object.2)) }

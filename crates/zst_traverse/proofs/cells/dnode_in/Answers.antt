@@ -1,28 +1,39 @@
 use Rattle.zst_block.specs.IoStates.{blocks_of}
-use Rattle.zst_block.proofs.IoCallLemmas.{Looks-none}
 use Rattle.std.proofs.Common.{ℕ, ◌%◌, refl, subst, arith}
 use Rattle.std.proofs.lemmas.Result.{err_from_is_err_and}
 use Rattle.zst_objset.specs.Sets.{HasSlotsIn}
 use Rattle.zst_traverse.proofs.NextCells.{absent_in_slot, no_slot_at, none_at, slot_at, there_in_slot}
 use Rattle.zst_traverse.proofs.Damage.{lacking_cell}
 use Rattle.zst_traverse.proofs.Numbers.{hole_none}
+use Rattle.zst_tree.proofs.StepLooks.{InSteps-none}
 use Rattle.zst_traverse.proofs.cells.dnode_in.Goals as goal
 use Rattle.zst_objset.specs.Dnodes.{outside}
 
-pub returns-then-leaf-eq0-clause-found : goal.returns-then-leaf-eq0-clause-found
-returns-then-leaf-eq0-clause-found g c = λ snap pairs honest is.
-    none_at _ (outside pairs (blocks_of c.args.io.now)) snap c.args.number (hole_none _ _ snap c.args.leaf.now.index c.args.leaf.now.ptr c.args.number c.requires.number.2 c.requires.number.0 c.requires.number.1 is c.if-leaf-eq0.true)
+pub returns-then-leaf-eq0 : goal.returns-then-leaf-eq0
+returns-then-leaf-eq0 g c = record {
+  found = λ snap pairs honest is. none_at _ (outside pairs (blocks_of c.args.io.now)) snap c.args.number (hole_none _ _ snap c.args.leaf.now.index c.args.leaf.now.ptr c.args.number c.requires.number.2 c.requires.number.0 c.requires.number.1 is c.if-leaf-eq0.true);
+  ranges = tt;
+  stands = λ set honest hangs. tt;
+  damaged = λ set honest hangs. tt;
+  looks = InSteps-none _ _;
+}
 
 pub returns-in_err-load_leaf-clause-found : goal.returns-in_err-load_leaf-clause-found
 returns-in_err-load_leaf-clause-found g c = λ snap pairs honest is.
     let p = err_from_is_err_and c.from_residual.result c.from_residual.ensures.1 in
     rw (p.1, p.2) (c.in_err-load_leaf.ensures.slots snap pairs honest is)
 
-pub returns-in-Some-Absent-clause-found : goal.returns-in-Some-Absent-clause-found
-returns-in-Some-Absent-clause-found g c = λ snap pairs honest is.
-    let slots = subst (λ (j : ℕ). HasSlotsIn (blocks_of c.args.io.now) (outside pairs (blocks_of c.args.io.now)) snap j c.load_leaf.new.io.node) c.requires.number.2 (c.in_ok-load_leaf.ensures.slots snap pairs honest is) in
-    absent_in_slot _ _ snap c.args.number c.in-Some-Absent.field-0-0 c.in-Some-Absent.field-0 c.in-Some-Absent.field-0-is
-    (slot_at _ _ snap c.args.number _ _ c.in-Some-Absent.field-0 c.requires.number.0 c.requires.number.1 slots c.as_slice.ensures.bytes c.in-Some-Absent.ensures.back)
+pub returns-in-Some-Absent : goal.returns-in-Some-Absent
+returns-in-Some-Absent g c = record {
+  found = λ snap pairs honest is.
+      let slots = subst (λ (j : ℕ). HasSlotsIn (blocks_of c.args.io.now) (outside pairs (blocks_of c.args.io.now)) snap j c.load_leaf.new.io.node) c.requires.number.2 (c.in_ok-load_leaf.ensures.slots snap pairs honest is) in
+      absent_in_slot _ _ snap c.args.number c.in-Some-Absent.field-0-0 c.in-Some-Absent.field-0 c.in-Some-Absent.field-0-is
+      (slot_at _ _ snap c.args.number _ _ c.in-Some-Absent.field-0 c.requires.number.0 c.requires.number.1 slots c.as_slice.ensures.bytes c.in-Some-Absent.ensures.back);
+  ranges = tt;
+  stands = λ set honest hangs. tt;
+  damaged = λ set honest hangs. tt;
+  looks = c.in_ok-load_leaf.ensures.looks;
+}
 
 pub returns-in-None-clause-found : goal.returns-in-None-clause-found
 returns-in-None-clause-found g c = λ snap pairs honest is.
@@ -33,18 +44,6 @@ pub returns-in-None-clause-damaged : goal.returns-in-None-clause-damaged
 returns-in-None-clause-damaged g c = λ set honest hangs.
     rw c.of_layout.ensures (lacking_cell _ _ set c.args.leaf.now.ptr c.load_leaf.new.io.node hangs (c.in_ok-load_leaf.ensures.loaded honest)
     (record { place = c.args.number % 16; under = omega arith; none = λ slot has. c.in-None.ensures.none refl slot has.fits (rw c.as_slice.ensures.bytes has.spelled) }))
-
-pub returns-then-leaf-eq0-clause-ranges : goal.returns-then-leaf-eq0-clause-ranges
-returns-then-leaf-eq0-clause-ranges g c = tt
-
-pub returns-then-leaf-eq0-clause-stands : goal.returns-then-leaf-eq0-clause-stands
-returns-then-leaf-eq0-clause-stands g c = λ set honest hangs. tt
-
-pub returns-then-leaf-eq0-clause-damaged : goal.returns-then-leaf-eq0-clause-damaged
-returns-then-leaf-eq0-clause-damaged g c = λ set honest hangs. tt
-
-pub returns-then-leaf-eq0-clause-looks : goal.returns-then-leaf-eq0-clause-looks
-returns-then-leaf-eq0-clause-looks g c = Looks-none _
 
 pub returns-in_err-load_leaf-clause-ranges : goal.returns-in_err-load_leaf-clause-ranges
 returns-in_err-load_leaf-clause-ranges g c =
@@ -61,41 +60,17 @@ returns-in_err-load_leaf-clause-looks g c =
     let p = err_from_is_err_and c.from_residual.result c.from_residual.ensures.1 in
     rw (p.1, p.2) c.in_err-load_leaf.ensures.looks
 
-pub returns-in_err-load_leaf-clause-calls : goal.returns-in_err-load_leaf-clause-calls
-returns-in_err-load_leaf-clause-calls g c = c.in_err-load_leaf.ensures.calls
-
 pub returns-in-Some-There-clause-damaged : goal.returns-in-Some-There-clause-damaged
 returns-in-Some-There-clause-damaged g c = λ set honest hangs. tt
 
 pub returns-in-Some-There-clause-looks : goal.returns-in-Some-There-clause-looks
 returns-in-Some-There-clause-looks g c = c.in_ok-load_leaf.ensures.looks
 
-pub returns-in-Some-There-clause-calls : goal.returns-in-Some-There-clause-calls
-returns-in-Some-There-clause-calls g c = c.in_ok-load_leaf.ensures.calls
-
-pub returns-in-Some-Absent-clause-damaged : goal.returns-in-Some-Absent-clause-damaged
-returns-in-Some-Absent-clause-damaged g c = λ set honest hangs. tt
-
-pub returns-in-Some-Absent-clause-looks : goal.returns-in-Some-Absent-clause-looks
-returns-in-Some-Absent-clause-looks g c = c.in_ok-load_leaf.ensures.looks
-
-pub returns-in-Some-Absent-clause-calls : goal.returns-in-Some-Absent-clause-calls
-returns-in-Some-Absent-clause-calls g c = c.in_ok-load_leaf.ensures.calls
-
-pub returns-in-Some-Absent-clause-ranges : goal.returns-in-Some-Absent-clause-ranges
-returns-in-Some-Absent-clause-ranges g c = tt
-
-pub returns-in-Some-Absent-clause-stands : goal.returns-in-Some-Absent-clause-stands
-returns-in-Some-Absent-clause-stands g c = λ set honest hangs. tt
-
 pub returns-in-None-clause-ranges : goal.returns-in-None-clause-ranges
 returns-in-None-clause-ranges g c = tt
 
 pub returns-in-None-clause-stands : goal.returns-in-None-clause-stands
 returns-in-None-clause-stands g c = λ set honest hangs. tt
-
-pub returns-in-None-clause-calls : goal.returns-in-None-clause-calls
-returns-in-None-clause-calls g c = c.in_ok-load_leaf.ensures.calls
 
 pub returns-in-Some-There-clause-found : goal.returns-in-Some-There-clause-found
 returns-in-Some-There-clause-found g c = λ snap pairs honest is.

@@ -1,23 +1,24 @@
-use Rattle.std.proofs.Common.{◌≡◌, ℕ, ◌/◌, ◌^◌, ◌<◌, ◌≤◌, true, List, sym, subst, arith}
-use Rattle.std.specs.Prelude.{Option}
+use Rattle.std.proofs.Common.{◌≡◌, ℕ, ◌/◌, ◌^◌, ◌<◌, ◌≤◌, true, List, subst, arith}
+use Rattle.std.specs.Prelude.{IfSome, Option}
 use Rattle.std.proofs.lemmas.Result.{err_from_is_err_and}
 use Rattle.zst_space.specs.FreeSectors.{FreeSectors}
 use Rattle.zst_block.specs.Blocks.{Has}
-use Rattle.zst_block.specs.IoStates.{blocks_of}
+use Rattle.zst_block.specs.IoStates.{IsHonest, blocks_of}
 use Rattle.zst_block.specs.declared.ptr.Ptr.{Ptr}
 use Rattle.zst_block.proofs.IoCallLemmas.{Looks-then}
 use Rattle.zst_model.specs.sends.Inclusion.{is_after}
 use Rattle.zst_tree.proofs.Results.{delivers_if}
 use Rattle.zst_tree.specs.Lookups.{Shows}
-use Rattle.zst_tree.specs.Indices.{Delivers, TreeIs}
+use Rattle.zst_tree.specs.Indices.{Delivers, Map, TreeIs}
 use Rattle.zst_objset.proofs.LeafLaws.{look_back, look_on}
 use Rattle.zst_traverse.specs.Cells.{choice_after, NoNumber}
 use Rattle.zst_traverse.specs.Dates.{FindsLate, IsFirstLate}
-use Rattle.zst_traverse.specs.Leaves.{EndsAll, IsNext, ShowsAhead, StandsFor}
-use Rattle.zst_objset.specs.TightSets.{IsTightLeaf}
+use Rattle.zst_traverse.specs.Leaves.{EndsAll, IsNext, ShowsAhead}
+use Rattle.zst_traverse.proofs.HeldLeaves.{leaf_held, tight_leaf_held}
 use Rattle.zst_traverse.proofs.LeafLooks.{if_ok, next_all}
-use Rattle.zst_traverse.proofs.Numbers.{ahead_behind, leaves_early, stands_for}
-use Rattle.zst_traverse.proofs.StepLaws.{calls_then}
+use Rattle.zst_traverse.proofs.Numbers.{ahead_behind, leaves_early}
+use Rattle.zst_tree.proofs.StepLooks.{InSteps-more, InSteps-then}
+use Rattle.zst_traverse.proofs.number_search.look_on.Given as given
 use Rattle.zst_traverse.proofs.number_search.look_on.Goals as goal
 use Rattle.zst_objset.specs.Dnodes.{outside}
 
@@ -29,7 +30,7 @@ returns-in_err-next_late-clause-shows g c = λ snap pairs honest holds.
 pub returns-in_err-leaf-in-Some-clause-shows : goal.returns-in_err-leaf-in-Some-clause-shows
 returns-in_err-leaf-in-Some-clause-shows g c = λ snap pairs honest holds.
     let p = err_from_is_err_and c.from_residual-in_err-leaf-in-Some.result c.from_residual-in_err-leaf-in-Some.ensures.1 in
-    let tree = look_on (λ (seen : List ℕ) (space : FreeSectors). TreeIs (Has seen space) c.args.set.now.tree holds.map) c.in_ok-next_late.ensures.looks holds.tree in
+    let tree = look_on (λ (seen : List ℕ) (space : FreeSectors). TreeIs (Has seen space) c.args.set.now.tree holds.map) c.in_ok-next_late.ensures.looks.by_steps.looks holds.tree in
     rw (p.1, p.2) (c.in_err-leaf-in-Some.ensures.shows holds.map honest tree)
 
 pub returns-in-None-clause-shows : goal.returns-in-None-clause-shows
@@ -37,50 +38,53 @@ returns-in-None-clause-shows g c = λ snap pairs honest holds k over under.
     leaves_early _ _ snap c.args.source c.args.set.now holds c.args.from (2 ^ 44) c.requires.from.0 (omega arith)
     (subst (λ (found : Option ℕ). FindsLate holds.map c.args.source (c.args.from / 16) (2 ^ 44) found) c.in-None.is (c.in_ok-next_late.ensures.late holds.map honest holds.tree)) k over (omega arith)
 
+-- the first late leaf, and what the look-up of it shows
+leaf_found : (g : given.Over) (c : goal.After-look g) (map : Map) → IsHonest c.look.new.io → TreeIs (blocks_of c.args.io.now) c.args.set.now.tree map
+    → IsFirstLate map c.args.source (c.args.from / 16) (2 ^ 44) c.in-Some.index × Shows map c.in-Some.index (c.in_ok-leaf-in-Some.leaf.ptr, c.in_ok-leaf-in-Some.leaf.count)
+leaf_found g c map honest tree =
+    let there = c.look.ensures.looks.by_steps.looks.reads.honest honest in
+    let was = c.in_ok-leaf-in-Some.ensures.looks.by_steps.looks.reads.honest there in
+    let on = look_on (λ (seen : List ℕ) (space : FreeSectors). TreeIs (Has seen space) c.args.set.now.tree map) c.in_ok-next_late.ensures.looks.by_steps.looks tree in (
+      subst (λ (found : Option ℕ). FindsLate map c.args.source (c.args.from / 16) (2 ^ 44) found) c.in-Some.is (c.in_ok-next_late.ensures.late map was tree),
+      c.in_ok-leaf-in-Some.ensures.shows map there on,
+    )
+
 pub returns-in_ok-leaf-in-Some-clause-shows : goal.returns-in_ok-leaf-in-Some-clause-shows
 returns-in_ok-leaf-in-Some-clause-shows g c = λ snap pairs honest holds.
     let index = c.in-Some.index in
-    let leaf = c.in_ok-leaf-in-Some.leaf in
-    let there = c.look.ensures.looks.reads.honest honest in
-    let was = c.in_ok-leaf-in-Some.ensures.looks.reads.honest there in
-    let first : IsFirstLate holds.map c.args.source (c.args.from / 16) (2 ^ 44) index = subst (λ (found : Option ℕ). FindsLate holds.map c.args.source (c.args.from / 16) (2 ^ 44) found) c.in-Some.is (c.in_ok-next_late.ensures.late holds.map was holds.tree) in
-    let tree = look_on (λ (seen : List ℕ) (space : FreeSectors). TreeIs (Has seen space) c.args.set.now.tree holds.map) c.in_ok-next_late.ensures.looks holds.tree in
-    let shows : Shows holds.map index (leaf.ptr, leaf.count) = c.in_ok-leaf-in-Some.ensures.shows holds.map there tree in
-    let stands = stands_for _ _ c.args.set.now snap holds leaf (subst (λ (n : ℕ). Shows holds.map n (leaf.ptr, leaf.count)) (sym c.in_ok-leaf-in-Some.ensures.index) shows) in
-    let looks = Looks-then c.in_ok-next_late.ensures.looks c.in_ok-leaf-in-Some.ensures.looks in
-    let on = look_on (λ (seen : List ℕ) (space : FreeSectors). StandsFor (Has seen space) (outside pairs (Has seen space)) snap leaf) looks stands in
-    let back = look_back (λ (seen : List ℕ) (space : FreeSectors). Delivers (ShowsAhead (Has seen space) (outside pairs (Has seen space)) snap (choice_after c.args.source) c.max.result) c.look.result) looks (c.look.ensures.shows snap pairs honest on) in
-    let under : index < 2 ^ 44 = first.under in
+    let found = leaf_found g c holds.map honest holds.tree in
+    let looks = Looks-then c.in_ok-next_late.ensures.looks.by_steps.looks c.in_ok-leaf-in-Some.ensures.looks.by_steps.looks in
+    let held = leaf_held looks pairs c.args.set.now snap index c.in_ok-leaf-in-Some.leaf c.in_ok-leaf-in-Some.ensures.index holds found.1 in
+    let back = look_back (λ (seen : List ℕ) (space : FreeSectors). Delivers (ShowsAhead (Has seen space) (outside pairs (Has seen space)) snap (choice_after c.args.source) c.max.result) c.look.result) looks (c.look.ensures.shows snap pairs honest held.stands) in
+    let under : index < 2 ^ 44 = found.0.under in
     let none : NoNumber snap (choice_after c.args.source) c.args.from c.max.result = λ k over less.
-    leaves_early _ _ snap c.args.source c.args.set.now holds c.args.from index c.requires.from.0 (omega arith) first.none_before k over (omega arith) in
+    leaves_early _ _ snap c.args.source c.args.set.now holds c.args.from index c.requires.from.0 (omega arith) found.0.none_before k over (omega arith) in
     delivers_if _ _ c.look.result (λ shown. ahead_behind _ _ snap c.args.source c.args.from c.max.result shown (omega arith) none) back
 
 pub returns-in_ok-leaf-in-Some-clause-ends : goal.returns-in_ok-leaf-in-Some-clause-ends
 returns-in_ok-leaf-in-Some-clause-ends g c = λ snap pairs honest tight start.
-    let holds = tight.holds in
     let index = c.in-Some.index in
     let leaf = c.in_ok-leaf-in-Some.leaf in
-    let there = c.look.ensures.looks.reads.honest honest in
-    let was = c.in_ok-leaf-in-Some.ensures.looks.reads.honest there in
-    let first : IsFirstLate holds.map c.args.source (c.args.from / 16) (2 ^ 44) index = subst (λ (found : Option ℕ). FindsLate holds.map c.args.source (c.args.from / 16) (2 ^ 44) found) c.in-Some.is (c.in_ok-next_late.ensures.late holds.map was holds.tree) in
-    let tree = look_on (λ (seen : List ℕ) (space : FreeSectors). TreeIs (Has seen space) c.args.set.now.tree holds.map) c.in_ok-next_late.ensures.looks holds.tree in
-    let shows : Shows holds.map index (leaf.ptr, leaf.count) = c.in_ok-leaf-in-Some.ensures.shows holds.map there tree in
+    let found = leaf_found g c tight.holds.map honest tight.holds.tree in
+    let looks = Looks-then c.in_ok-next_late.ensures.looks.by_steps.looks c.in_ok-leaf-in-Some.ensures.looks.by_steps.looks in
+    let under : index < 2 ^ 44 = found.0.under in
+    let from_on : c.args.from / 16 ≤ index = found.0.from_on in
     let index_is : leaf.index ≡ index = c.in_ok-leaf-in-Some.ensures.index in
-    let stands = stands_for _ _ c.args.set.now snap holds leaf (subst (λ (n : ℕ). Shows holds.map n (leaf.ptr, leaf.count)) (sym index_is) shows) in
-    let looks = Looks-then c.in_ok-next_late.ensures.looks c.in_ok-leaf-in-Some.ensures.looks in
-    let on = look_on (λ (seen : List ℕ) (space : FreeSectors). StandsFor (Has seen space) (outside pairs (Has seen space)) snap leaf) looks stands in
-    let under : index < 2 ^ 44 = first.under in
-    let from_on : c.args.from / 16 ≤ index = first.from_on in
-    let some : 0 < leaf.count = shows.some in
-    let same : holds.map index ≡ leaf.ptr = shows.same index (omega arith) (omega arith) under in
-    let has = blocks_of c.args.io.now in
-    let leaf_tight : IsTightLeaf has snap leaf.index leaf.ptr = subst (λ (n : ℕ). IsTightLeaf has snap n leaf.ptr) (sym index_is) (subst (λ (p : Ptr). IsTightLeaf has snap index p) same (tight.tight index under)) in
-    let tight_on = look_on (λ (seen : List ℕ) (space : FreeSectors). IsTightLeaf (Has seen space) snap leaf.index leaf.ptr) looks leaf_tight in
-    let late : is_after c.args.source leaf.ptr.number ≡ true = subst (λ (p : Ptr). is_after c.args.source p.number ≡ true) same first.late in
-    if_ok IsNext EndsAll next_all c.look.result (c.look.ensures.late snap pairs honest on tight_on late (omega arith))
+    let held = tight_leaf_held looks pairs c.args.set.now snap index leaf index_is tight under found.1 in
+    let some : 0 < leaf.count = found.1.some in
+    let same : tight.holds.map index ≡ leaf.ptr = found.1.same index (omega arith) (omega arith) under in
+    let late : is_after c.args.source leaf.ptr.number ≡ true = subst (λ (p : Ptr). is_after c.args.source p.number ≡ true) same found.0.late in
+    if_ok IsNext EndsAll next_all c.look.result ((c.look.ensures.tightly snap pairs honest held.leaf_is).late late (omega arith))
+
+pub look-requires : goal.look-requires
+look-requires g c =
+    let range : (c.args.from / 16 ≤ c.in-Some.index) × (c.in-Some.index < 2 ^ 44) = subst (λ (found : Option ℕ). IfSome found (λ first. (c.args.from / 16 ≤ first) × (first < 2 ^ 44))) c.in-Some.is c.in_ok-next_late.ensures.range in
+    let at : c.in_ok-leaf-in-Some.leaf.index ≡ c.in-Some.index = c.in_ok-leaf-in-Some.ensures.index in
+    let count = c.in_ok-leaf-in-Some.ensures.range in
+    record { leaf = record { index = omega (arith, at, range.1); count = (count.0, omega (arith, at, count.1)); from = (omega arith, omega (arith, at), omega (arith, at, range.0)) } }
 
 pub returns-in_ok-leaf-in-Some-clause-looks : goal.returns-in_ok-leaf-in-Some-clause-looks
-returns-in_ok-leaf-in-Some-clause-looks g c = Looks-then c.in_ok-next_late.ensures.looks (Looks-then c.in_ok-leaf-in-Some.ensures.looks c.look.ensures.looks)
+returns-in_ok-leaf-in-Some-clause-looks g c = InSteps-then {more = 21} (omega arith) c.in_ok-next_late.ensures.looks (InSteps-then (omega arith) c.in_ok-leaf-in-Some.ensures.looks c.look.ensures.looks)
 
 pub returns-in_err-next_late-clause-ranges : goal.returns-in_err-next_late-clause-ranges
 returns-in_err-next_late-clause-ranges g c =
@@ -105,10 +109,7 @@ returns-in_err-next_late-clause-ends g c = λ snap pairs honest tight whole.
 pub returns-in_err-next_late-clause-looks : goal.returns-in_err-next_late-clause-looks
 returns-in_err-next_late-clause-looks g c =
     let p = err_from_is_err_and c.from_residual.result c.from_residual.ensures.1 in
-    rw (p.1, p.2) c.in_err-next_late.ensures.looks
-
-pub returns-in_err-next_late-clause-calls : goal.returns-in_err-next_late-clause-calls
-returns-in_err-next_late-clause-calls g c = c.in_err-next_late.ensures.calls
+    rw (p.1, p.2) (InSteps-more (omega arith) c.in_err-next_late.ensures.looks)
 
 pub returns-in-None-clause-stands : goal.returns-in-None-clause-stands
 returns-in-None-clause-stands g c = λ honest. tt
@@ -117,10 +118,7 @@ pub returns-in-None-clause-damaged : goal.returns-in-None-clause-damaged
 returns-in-None-clause-damaged g c = λ honest. tt
 
 pub returns-in-None-clause-looks : goal.returns-in-None-clause-looks
-returns-in-None-clause-looks g c = c.in_ok-next_late.ensures.looks
-
-pub returns-in-None-clause-calls : goal.returns-in-None-clause-calls
-returns-in-None-clause-calls g c = c.in_ok-next_late.ensures.calls
+returns-in-None-clause-looks g c = InSteps-more (omega arith) c.in_ok-next_late.ensures.looks
 
 pub returns-in_err-leaf-in-Some-clause-ranges : goal.returns-in_err-leaf-in-Some-clause-ranges
 returns-in_err-leaf-in-Some-clause-ranges g c =
@@ -145,13 +143,7 @@ returns-in_err-leaf-in-Some-clause-ends g c = λ snap pairs honest tight whole.
 pub returns-in_err-leaf-in-Some-clause-looks : goal.returns-in_err-leaf-in-Some-clause-looks
 returns-in_err-leaf-in-Some-clause-looks g c =
     let p = err_from_is_err_and c.from_residual-in_err-leaf-in-Some.result c.from_residual-in_err-leaf-in-Some.ensures.1 in
-    rw (p.1, p.2) (Looks-then c.in_ok-next_late.ensures.looks c.in_err-leaf-in-Some.ensures.looks)
-
-pub returns-in_err-leaf-in-Some-clause-calls : goal.returns-in_err-leaf-in-Some-clause-calls
-returns-in_err-leaf-in-Some-clause-calls g c = calls_then _ _ _ _ _ _ c.in_ok-next_late.ensures.calls c.in_err-leaf-in-Some.ensures.calls
-
-pub returns-in_ok-leaf-in-Some-clause-calls : goal.returns-in_ok-leaf-in-Some-clause-calls
-returns-in_ok-leaf-in-Some-clause-calls g c = calls_then _ _ _ _ _ _ c.in_ok-next_late.ensures.calls (calls_then _ _ _ _ _ _ c.in_ok-leaf-in-Some.ensures.calls c.look.ensures.calls)
+    rw (p.1, p.2) (InSteps-then (omega arith) c.in_ok-next_late.ensures.looks c.in_err-leaf-in-Some.ensures.looks)
 
 pub next_late-requires-clause-levels : goal.next_late-requires-clause-levels
 next_late-requires-clause-levels g c = c.requires.levels

@@ -1,19 +1,21 @@
-use Rattle.zst_block.proofs.IoCallLemmas.{Looks-then}
 use Rattle.std.proofs.Common.{◌≡◌, ℕ, Bool, true, false, List, sym, subst, refl, arith}
 use Rattle.std.proofs.lemmas.Result.{err_from_is_err_and}
 use Rattle.zst_space.specs.FreeSectors.{FreeSectors}
 use Rattle.zst_block.specs.Blocks.{Has}
-use Rattle.zst_block.specs.IoStates.{blocks_of}
+use Rattle.zst_block.specs.IoStates.{IsHonest, blocks_of}
 use Rattle.zst_model.specs.fields.Lists.{has_pair}
 use Rattle.zst_model.specs.sends.Inclusion.{is_after}
+use Rattle.zst_model.specs.states.DatedState.{DatedState}
 use Rattle.zst_model.specs.states.State.{IsObjectOrNone}
 use Rattle.zst_objset.proofs.LeafLaws.{look_back, look_on}
-use Rattle.zst_objset.specs.Dnodes.{ObjectIn}
+use Rattle.zst_objset.specs.Dnodes.{IsThereIn, ObjectIn, outside}
 use Rattle.zst_tree.specs.Indices.{TreeIs}
 use Rattle.zst_tree.specs.declared.tree.Tree.{Tree}
 use Rattle.zst_traverse.specs.Runs.{outside_indices, IsRun, TakesTurn}
 use Rattle.zst_traverse.proofs.Indices.{late_in, no_pairs_left, pairs_next, withheld_next, size_some}
-use Rattle.zst_traverse.proofs.StepLaws.{calls_then}
+use Rattle.zst_tree.proofs.StepLooks.{InSteps-more, InSteps-then}
+use Rattle.zst_traverse.proofs.pairs.next_pairs.Given as given
+use Rattle.zst_traverse.proofs.pairs.next_pairs.Goals.{After-first_turn}
 use Rattle.zst_traverse.proofs.pairs.next_pairs.Goals as goal
 
 either : {A : Type 0} (t : Bool) → (t ≡ true → A) → (t ≡ false → A) → A
@@ -29,38 +31,45 @@ returns-in_err-late-clause-found g c = λ snap honest lawful there.
     let tree = subst (λ (t : Tree). TreeIs (blocks_of c.args.io.now) t there.map) (sym c.tree_of.ensures) there.is.tree in
     rw (p.1, p.2) (c.in_err-late.ensures.late there.map honest tree)
 
+-- whose turn is next, of an object that is there
+turn_taken : (g : given.Over) (c : After-first_turn g) (snap : DatedState) (there : IsThereIn (blocks_of c.args.io.now) (outside (has_pair c.args.withheld.now) (blocks_of c.args.io.now)) snap c.args.point.object c.args.dnode.now)
+    → IsHonest c.next_late.new.io
+    → TakesTurn (λ i. is_after c.args.source (there.map i).number) (has_pair c.args.listed.now c.args.point.object) (has_pair c.args.withheld.now c.args.point.object) c.first_index-from.result c.args.dnode.now.end c.first_turn.result
+turn_taken g c snap there honest =
+    let tree = subst (λ (t : Tree). TreeIs (blocks_of c.args.io.now) t there.map) (sym c.tree_of.ensures) there.is.tree in
+    let late = late_in there.map c.args.source c.first_index-from.result c.args.dnode.now.end c.in_ok-late.late (c.in_ok-late.ensures.late there.map honest tree) in
+    c.first_turn.ensures.turn _ _ _ _ late c.next_in-in_listed.ensures c.next_in-in_withheld.ensures
+
 pub returns-in_err-run-in-Some-clause-found : goal.returns-in_err-run-in-Some-clause-found
 returns-in_err-run-in-Some-clause-found g c = λ snap honest lawful there.
     let p = err_from_is_err_and c.from_residual-in_err-run-in-Some.result c.from_residual-in_err-run-in-Some.ensures.1 in
-    let was = c.in_err-run-in-Some.ensures.looks.reads.honest honest in
-    let tree = subst (λ (t : Tree). TreeIs (blocks_of c.args.io.now) t there.map) (sym c.tree_of.ensures) there.is.tree in
+    let was = c.in_err-run-in-Some.ensures.looks.by_steps.looks.reads.honest honest in
     let withheld = has_pair c.args.withheld.now c.args.point.object in
-    let late = late_in there.map c.args.source c.first_index-from.result c.args.dnode.now.end c.in_ok-late.late (c.in_ok-late.ensures.late there.map was tree) in
-    let turn = subst (TakesTurn (λ i. is_after c.args.source (there.map i).number) (has_pair c.args.listed.now c.args.point.object) withheld c.first_index-from.result c.args.dnode.now.end) c.in-Some.is
-    (c.first_turn.ensures.turn _ _ _ _ late c.next_in-in_listed.ensures c.next_in-in_withheld.ensures) in
-    let on = look_on (λ (seen : List ℕ) (space : FreeSectors). ObjectIn (Has seen space) (outside_indices withheld (Has seen space)) c.args.dnode.now there.object (snap.number_date c.args.point.object) (snap.index_date c.args.point.object) there.map) c.in_ok-late.ensures.looks there.is in
+    let turn = rw c.in-Some.is at (turn_taken g (goal.at.returns-in_err-run-in-Some-clause-found g c).After-first_turn snap there was) in
+    let on = look_on (λ (seen : List ℕ) (space : FreeSectors). ObjectIn (Has seen space) (outside_indices withheld (Has seen space)) c.args.dnode.now there.object (snap.number_date c.args.point.object) (snap.index_date c.args.point.object) there.map) c.in_ok-late.ensures.looks.by_steps.looks there.is in
     rw (p.1, p.2) (either c.in-Some.turn.is_withheld
     (λ hidden. absurd (c.in_err-run-in-Some.ensures.ok hidden))
     (λ shown. c.in_err-run-in-Some.ensures.run there.object _ _ there.map withheld honest (subst IsObjectOrNone there.there (lawful.objects c.args.point.object)) shown
     (turn.shown shown c.in-Some.turn.index (omega arith) (let some = turn.some in omega arith)) on))
 
-pub returns-in-None-clause-found : goal.returns-in-None-clause-found
-returns-in-None-clause-found g c = λ snap honest lawful there.
-    let tree = subst (λ (t : Tree). TreeIs (blocks_of c.args.io.now) t there.map) (sym c.tree_of.ensures) there.is.tree in
-    let late = late_in there.map c.args.source c.first_index-from.result c.args.dnode.now.end c.in_ok-late.late (c.in_ok-late.ensures.late there.map honest tree) in
-    no_pairs_left _ snap c.args.source c.args.listed.now c.args.withheld.now c.args.point c.args.dnode.now there c.first_index-from.result c.first_index-from.ensures c.requires.dnode.end
-    (subst (TakesTurn (λ i. is_after c.args.source (there.map i).number) (has_pair c.args.listed.now c.args.point.object) (has_pair c.args.withheld.now c.args.point.object) c.first_index-from.result c.args.dnode.now.end) c.in-None.is
-    (c.first_turn.ensures.turn _ _ _ _ late c.next_in-in_listed.ensures c.next_in-in_withheld.ensures))
+pub returns-in-None : goal.returns-in-None
+returns-in-None g c = record {
+  found = λ snap honest lawful there.
+      no_pairs_left _ snap c.args.source c.args.listed.now c.args.withheld.now c.args.point c.args.dnode.now there c.first_index-from.result c.first_index-from.ensures c.requires.dnode.end
+      (rw c.in-None.is at (turn_taken g (goal.at.returns-in-None g c).After-first_turn snap there honest));
+  ranges = tt;
+  stands = λ set honest stands. tt;
+  damaged = λ set honest stands. tt;
+  looks = InSteps-more (omega arith) c.in_ok-late.ensures.looks;
+  none = c.in_ok-late.ensures.looks.few;
+}
 
 pub returns-in_ok-run-in-Some-clause-found : goal.returns-in_ok-run-in-Some-clause-found
 returns-in_ok-run-in-Some-clause-found g c = λ snap honest lawful there.
-    let was = c.in_ok-run-in-Some.ensures.looks.reads.honest honest in
-    let tree = subst (λ (t : Tree). TreeIs (blocks_of c.args.io.now) t there.map) (sym c.tree_of.ensures) there.is.tree in
+    let was = c.in_ok-run-in-Some.ensures.looks.by_steps.looks.reads.honest honest in
     let withheld = has_pair c.args.withheld.now c.args.point.object in
-    let late = late_in there.map c.args.source c.first_index-from.result c.args.dnode.now.end c.in_ok-late.late (c.in_ok-late.ensures.late there.map was tree) in
-    let turn = subst (TakesTurn (λ i. is_after c.args.source (there.map i).number) (has_pair c.args.listed.now c.args.point.object) withheld c.first_index-from.result c.args.dnode.now.end) c.in-Some.is
-    (c.first_turn.ensures.turn _ _ _ _ late c.next_in-in_listed.ensures c.next_in-in_withheld.ensures) in
-    let on = look_on (λ (seen : List ℕ) (space : FreeSectors). ObjectIn (Has seen space) (outside_indices withheld (Has seen space)) c.args.dnode.now there.object (snap.number_date c.args.point.object) (snap.index_date c.args.point.object) there.map) c.in_ok-late.ensures.looks there.is in
+    let turn = rw c.in-Some.is at (turn_taken g (goal.at.returns-in_ok-run-in-Some-clause-found g c).After-first_turn snap there was) in
+    let on = look_on (λ (seen : List ℕ) (space : FreeSectors). ObjectIn (Has seen space) (outside_indices withheld (Has seen space)) c.args.dnode.now there.object (snap.number_date c.args.point.object) (snap.index_date c.args.point.object) there.map) c.in_ok-late.ensures.looks.by_steps.looks there.is in
     either c.in-Some.turn.is_withheld
     (λ hidden.
     let told = (c.in_ok-run-in-Some.ensures.withheld hidden).0 in
@@ -69,7 +78,7 @@ returns-in_ok-run-in-Some-clause-found g c = λ snap honest lawful there.
     (λ shown.
     let made = c.in_ok-run-in-Some.ensures.run there.object _ _ there.map withheld honest (subst IsObjectOrNone there.there (lawful.objects c.args.point.object)) shown
     (turn.shown shown c.in-Some.turn.index (omega arith) (let some = turn.some in omega arith)) on in
-    let run = look_back (λ (seen : List ℕ) (space : FreeSectors). IsRun (Has seen space) withheld there.object (snap.index_date c.args.point.object) c.in-Some.turn.index c.in_ok-run-in-Some.run') c.in_ok-late.ensures.looks made.0 in
+    let run = look_back (λ (seen : List ℕ) (space : FreeSectors). IsRun (Has seen space) withheld there.object (snap.index_date c.args.point.object) c.in-Some.turn.index c.in_ok-run-in-Some.run') c.in_ok-late.ensures.looks.by_steps.looks made.0 in
     pairs_next _ snap c.args.source c.args.listed.now c.args.withheld.now c.args.point c.args.dnode.now there c.first_index-from.result c.first_index-from.ensures c.requires.dnode.end c.in-Some.turn turn
     c.in_ok-run-in-Some.run' shown run made.1)
 
@@ -86,33 +95,12 @@ returns-in_err-late-clause-stands g c = λ set honest stands.
 pub returns-in_err-late-clause-looks : goal.returns-in_err-late-clause-looks
 returns-in_err-late-clause-looks g c =
     let p = err_from_is_err_and c.from_residual.result c.from_residual.ensures.1 in
-    rw (p.1, p.2) c.in_err-late.ensures.looks
+    rw (p.1, p.2) (InSteps-more (omega arith) c.in_err-late.ensures.looks)
 
 pub returns-in_err-late-clause-none : goal.returns-in_err-late-clause-none
 returns-in_err-late-clause-none g c =
     let p = err_from_is_err_and c.from_residual.result c.from_residual.ensures.1 in
     rw p.1 tt
-
-pub returns-in_err-late-clause-calls : goal.returns-in_err-late-clause-calls
-returns-in_err-late-clause-calls g c = c.in_err-late.ensures.calls
-
-pub returns-in-None-clause-ranges : goal.returns-in-None-clause-ranges
-returns-in-None-clause-ranges g c = tt
-
-pub returns-in-None-clause-stands : goal.returns-in-None-clause-stands
-returns-in-None-clause-stands g c = λ set honest stands. tt
-
-pub returns-in-None-clause-damaged : goal.returns-in-None-clause-damaged
-returns-in-None-clause-damaged g c = λ set honest stands. tt
-
-pub returns-in-None-clause-looks : goal.returns-in-None-clause-looks
-returns-in-None-clause-looks g c = c.in_ok-late.ensures.looks
-
-pub returns-in-None-clause-none : goal.returns-in-None-clause-none
-returns-in-None-clause-none g c = c.in_ok-late.ensures.steps.1
-
-pub returns-in-None-clause-calls : goal.returns-in-None-clause-calls
-returns-in-None-clause-calls g c = c.in_ok-late.ensures.calls
 
 pub returns-in_err-run-in-Some-clause-ranges : goal.returns-in_err-run-in-Some-clause-ranges
 returns-in_err-run-in-Some-clause-ranges g c =
@@ -132,10 +120,7 @@ returns-in_err-run-in-Some-clause-none g c =
 pub returns-in_err-run-in-Some-clause-looks : goal.returns-in_err-run-in-Some-clause-looks
 returns-in_err-run-in-Some-clause-looks g c =
     let p = err_from_is_err_and c.from_residual-in_err-run-in-Some.result c.from_residual-in_err-run-in-Some.ensures.1 in
-    rw (p.1, p.2) (Looks-then c.in_ok-late.ensures.looks c.in_err-run-in-Some.ensures.looks)
-
-pub returns-in_err-run-in-Some-clause-calls : goal.returns-in_err-run-in-Some-clause-calls
-returns-in_err-run-in-Some-clause-calls g c = calls_then _ _ _ _ _ _ c.in_ok-late.ensures.calls c.in_err-run-in-Some.ensures.calls
+    rw (p.1, p.2) (InSteps-then (omega arith) c.in_ok-late.ensures.looks c.in_err-run-in-Some.ensures.looks)
 
 pub returns-in_ok-run-in-Some-clause-damaged : goal.returns-in_ok-run-in-Some-clause-damaged
 returns-in_ok-run-in-Some-clause-damaged g c = λ set honest stands. tt
@@ -144,7 +129,4 @@ pub returns-in_ok-run-in-Some-clause-none : goal.returns-in_ok-run-in-Some-claus
 returns-in_ok-run-in-Some-clause-none g c = tt
 
 pub returns-in_ok-run-in-Some-clause-looks : goal.returns-in_ok-run-in-Some-clause-looks
-returns-in_ok-run-in-Some-clause-looks g c = Looks-then c.in_ok-late.ensures.looks c.in_ok-run-in-Some.ensures.looks
-
-pub returns-in_ok-run-in-Some-clause-calls : goal.returns-in_ok-run-in-Some-clause-calls
-returns-in_ok-run-in-Some-clause-calls g c = calls_then _ _ _ _ _ _ c.in_ok-late.ensures.calls c.in_ok-run-in-Some.ensures.calls
+returns-in_ok-run-in-Some-clause-looks g c = InSteps-then (omega arith) c.in_ok-late.ensures.looks c.in_ok-run-in-Some.ensures.looks

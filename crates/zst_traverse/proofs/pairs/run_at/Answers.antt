@@ -8,19 +8,23 @@ use Rattle.zst_traverse.proofs.Damage.{no_cell_told, tree_named_told}
 use Rattle.zst_traverse.proofs.Indices.{cell_stands, is_run, no_cell, run_has_cell}
 use Rattle.zst_traverse.proofs.pairs.run_at.Goals as goal
 
-pub returns-in_err-ptr-clause-run : goal.returns-in_err-ptr-clause-run
-returns-in_err-ptr-clause-run g c = λ object date dates map withheld honest lawful read is.
+pub returns-in_err-ptr : goal.returns-in_err-ptr
+returns-in_err-ptr g c =
     let p = err_from_is_err_and c.from_residual.result c.from_residual.ensures.1 in
-    let tree = subst (λ (t : Tree). TreeIs (blocks_of c.args.io.now) t map) (sym c.tree_of.ensures) is.tree in
-    rw (p.1, p.2) (c.in_err-ptr.ensures.shows map honest tree)
-
-pub returns-in_err-ptr-clause-damaged : goal.returns-in_err-ptr-clause-damaged
-returns-in_err-ptr-clause-damaged g c = λ set honest stands.
-    let p = err_from_is_err_and c.from_residual.result c.from_residual.ensures.1 in
-    let seen = IsSeen (disk_of c.args.io.now).seen in
-    let size = (disk_of c.args.io.now).size in
-    rw (p.1, p.2) (tree_named_told seen size set c.args.dnode.now stands c.in_err-ptr.field-0.0
-    (subst (λ (t : Tree). TellsNode seen size NamesNode t.levels t.root c.in_err-ptr.field-0.0) c.tree_of.ensures (c.in_err-ptr.ensures.damaged honest)))
+    let read = c.in_err-ptr.ensures in
+    rw (p.1, p.2) (record {
+      run = λ object date dates map withheld honest lawful shown is.
+          let tree = subst (λ (t : Tree). TreeIs (blocks_of c.args.io.now) t map) (sym c.tree_of.ensures) is.tree in
+          read.shows map honest tree;
+      ranges = tt;
+      stands = λ set honest stands. tt;
+      damaged = λ set honest stands.
+          let seen = IsSeen (disk_of c.args.io.now).seen in
+          let size = (disk_of c.args.io.now).size in
+          tree_named_told seen size set c.args.dnode.now stands c.in_err-ptr.field-0.0
+          (subst (λ (t : Tree). TellsNode seen size NamesNode t.levels t.root c.in_err-ptr.field-0.0) c.tree_of.ensures (read.damaged honest));
+      looks = c.in_err-ptr.ensures.looks;
+    })
 
 pub returns-in_default-clause-run : goal.returns-in_default-clause-run
 returns-in_default-clause-run g c = λ object date dates map withheld honest lawful read is.
@@ -48,47 +52,14 @@ returns-clause-run g c = λ object date dates map withheld honest lawful read is
     let count = c.count_of-count.ensures in
     is_run has withheld c.args.dnode.now object date dates map is c.args.index c.requires.index c.requires.dnode.end _ c.in_ok-ptr.alike (c.in_ok-ptr.ensures.shows map honest tree) refl count.some count.most.0 (omega (arith, count.most.1, c.requires.index)) (cc) count.one
 
-pub returns-in_err-ptr-clause-ranges : goal.returns-in_err-ptr-clause-ranges
-returns-in_err-ptr-clause-ranges g c =
-    let p = err_from_is_err_and c.from_residual.result c.from_residual.ensures.1 in
-    rw p.1 tt
-
-pub returns-in_err-ptr-clause-stands : goal.returns-in_err-ptr-clause-stands
-returns-in_err-ptr-clause-stands g c = λ set honest stands.
-    let p = err_from_is_err_and c.from_residual.result c.from_residual.ensures.1 in
-    rw p.1 tt
-
-pub returns-in_err-ptr-clause-looks : goal.returns-in_err-ptr-clause-looks
-returns-in_err-ptr-clause-looks g c =
-    let p = err_from_is_err_and c.from_residual.result c.from_residual.ensures.1 in
-    rw (p.1, p.2) c.in_err-ptr.ensures.looks
-
-pub returns-in_err-ptr-clause-steps : goal.returns-in_err-ptr-clause-steps
-returns-in_err-ptr-clause-steps g c = c.in_err-ptr.ensures.steps
-
-pub returns-in_err-ptr-clause-calls : goal.returns-in_err-ptr-clause-calls
-returns-in_err-ptr-clause-calls g c = c.in_err-ptr.ensures.calls
-
 pub returns-in_default-clause-ranges : goal.returns-in_default-clause-ranges
 returns-in_default-clause-ranges g c = tt
 
 pub returns-in_default-clause-stands : goal.returns-in_default-clause-stands
 returns-in_default-clause-stands g c = λ set honest stands. tt
 
-pub returns-in_default-clause-steps : goal.returns-in_default-clause-steps
-returns-in_default-clause-steps g c = c.in_ok-ptr.ensures.steps
-
-pub returns-in_default-clause-calls : goal.returns-in_default-clause-calls
-returns-in_default-clause-calls g c = c.in_ok-ptr.ensures.calls
-
 pub returns-clause-damaged : goal.returns-clause-damaged
 returns-clause-damaged g c = λ set honest stands. tt
 
 pub returns-clause-looks : goal.returns-clause-looks
 returns-clause-looks g c = c.in_ok-ptr.ensures.looks
-
-pub returns-clause-steps : goal.returns-clause-steps
-returns-clause-steps g c = c.in_ok-ptr.ensures.steps
-
-pub returns-clause-calls : goal.returns-clause-calls
-returns-clause-calls g c = c.in_ok-ptr.ensures.calls

@@ -31,7 +31,7 @@ returns-clause-loaded g c = λ bytes honest loaded there.
     let read = c.read_front.new.into in
     let here = subst (blocks_of c.args.io.now ptr) (sym (c.in_ok-read_front.ensures.there bytes honest there)) there in
     subst (λ (l : List ℕ). blocks_of c.read_front.new.io ptr (take ptr.length l)) (sym (with_items_is c.args.self.now.bytes read (search (rules, places))))
-    (look_on (λ (seen : List ℕ) (space : FreeSectors). Has seen space ptr (take ptr.length read)) c.in_ok-read_front.ensures.looks here)
+    (look_on (λ (seen : List ℕ) (space : FreeSectors). Has seen space ptr (take ptr.length read)) c.in_ok-read_front.ensures.looks.looks here)
 
 pub returns-then-ptr-gt-LONGEST_PAYLOAD-clause-reads : goal.returns-then-ptr-gt-LONGEST_PAYLOAD-clause-reads
 returns-then-ptr-gt-LONGEST_PAYLOAD-clause-reads g c = reads_long _ _ c.args.ptr.now c.args.self.now _ c.of_layout.ensures c.if-ptr-gt-LONGEST_PAYLOAD.true c.requires.buffer
@@ -40,8 +40,8 @@ pub returns-in_err-read_front-clause-reads : goal.returns-in_err-read_front-clau
 returns-in_err-read_front-clause-reads g c =
     let p = err_from_is_err_and c.from_residual.result c.from_residual.ensures.1 in
     rw (p.1, p.2) (record {
-      looks = c.in_err-read_front.ensures.looks;
-      calls = c.in_err-read_front.ensures.calls;
+      looks = c.in_err-read_front.ensures.looks.looks;
+      calls = c.in_err-read_front.ensures.looks.calls;
       damaged = λ honest. load_told (IsSeen (disk_of c.args.io.now).seen) (disk_of c.args.io.now).size c.args.ptr.now _ (c.in_err-read_front.ensures.damaged honest);
       buffer_fits = record {
         long = ap (λ (l : List ℕ). length l) (with_items_is c.args.self.now.bytes c.read_front.new.into (search (rules, places))) ∙ c.in_err-read_front.ensures.long ∙ ap (λ (l : List ℕ). length l) c.as_mut_slice.ensures.value ∙ c.requires.buffer.long;
@@ -51,8 +51,8 @@ returns-in_err-read_front-clause-reads g c =
 
 pub returns-clause-reads : goal.returns-clause-reads
 returns-clause-reads g c = record {
-  looks = c.in_ok-read_front.ensures.looks;
-  calls = c.in_ok-read_front.ensures.calls;
+  looks = c.in_ok-read_front.ensures.looks.looks;
+  calls = c.in_ok-read_front.ensures.looks.calls;
   damaged = λ honest. tt;
   buffer_fits = record {
     long = ap (λ (l : List ℕ). length l) (with_items_is c.args.self.now.bytes c.read_front.new.into (search (rules, places))) ∙ c.in_ok-read_front.ensures.long ∙ ap (λ (l : List ℕ). length l) c.as_mut_slice.ensures.value ∙ c.requires.buffer.long;
