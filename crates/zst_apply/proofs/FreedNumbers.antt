@@ -1,12 +1,11 @@
 -- FREEOBJECTS of a range, and of the numbers in it that objects may have.
-use Rattle.std.proofs.Common.{◌≡◌, inl, inr, ℕ, zero, suc, ◌&&◌, nat_lt, Bool, true, false, refl, sym, ap, ◌∙◌, arith, Option, None, Ok, if◌then◌else◌}
+use Rattle.std.proofs.Common.{◌≡◌, ℕ, ◌&&◌, nat_lt, Bool, true, false, refl, sym, ap, ◌∙◌, Option, None, Ok, if◌then◌else◌}
 use Rattle.std.proofs.Math.Path.{fun_ext}
-use Rattle.std.proofs.lemmas.Bool.{cases_lt}
-use Rattle.std.proofs.lemmas.Bool.Decides.{nat_tests}
 use Rattle.zst_model.specs.declared.states.item.Item.TheVariants.{FreeObjects}
 use Rattle.zst_model.specs.states.AppliedItems.{apply, within}
 use Rattle.zst_model.specs.states.DatedState.{DatedState, apply_dated}
-use Rattle.zst_model.specs.states.State.{IsState, Object, State, index_bound, is_number, number_bound}
+use Rattle.zst_model.specs.states.State.{IsState, Object, State, index_bound, is_number}
+use Rattle.zst_model.proofs.ObjectNumbers.{absent_outside}
 
 abbrev freed : (number : ℕ) → (ℕ → Bool) → DatedState → State → DatedState
 freed number frees old state = record {
@@ -19,14 +18,6 @@ freed_is : (number first count : ℕ) (old : DatedState)
     → apply_dated number (FreeObjects first count) old ≡ Ok (freed number (λ k. within first count k && is_number k) old (λ k. if within first count k then None else old.state k))
 unfolding apply
 freed_is number first count old = refl
-
--- what isn't a number has no object
-no_object : (state : State) → IsState state → (k : ℕ) → is_number k ≡ false → state k ≡ None
-no_object state lawful zero is = lawful.zero
-no_object state lawful (suc k) is = elim (cases_lt (suc k) number_bound) [
-  | inl less ↦ let test : is_number (suc k) ≡ true = grind (arith, nat_tests) in absurd (cc)
-  | inr over ↦ lawful.bounded (suc k) over
-]
 
 module _ (first count other more : ℕ) (same : (k : ℕ) → is_number k ≡ true → within other more k ≡ within first count k) where
   frees_same : (k : ℕ) (test : Bool) → is_number k ≡ test → (within first count k && is_number k) ≡ (within other more k && is_number k)
@@ -47,7 +38,7 @@ module _ (first count other more : ℕ) (same : (k : ℕ) → is_number k ≡ tr
 
   state_same : (state : State) → IsState state → (k : ℕ) (test : Bool) → is_number k ≡ test → (if within first count k then None else state k) ≡ (if within other more k then None else state k)
   state_same state lawful k true is = ap (λ b. if b then None else state k) (sym (same k is))
-  state_same state lawful k false is = absent (within first count k) (within other more k) (state k) (no_object state lawful k is)
+  state_same state lawful k false is = absent (within first count k) (within other more k) (state k) (absent_outside state lawful k is)
 
   -- a range with the same numbers frees the same
   pub same_freed : (number : ℕ) (old : DatedState) → IsState old.state → apply_dated number (FreeObjects first count) old ≡ apply_dated number (FreeObjects other more) old

@@ -36,9 +36,6 @@ far = refusals.Limit quantities.Block index_bound
 pub under_bound : (k : ℕ) → is_number k ≡ true → k < number_bound
 under_bound k is = grind (arith, nat_tests)
 
-pub over_none : (k : ℕ) → is_number k ≡ true → 0 < k
-over_none k is = grind (arith, nat_tests)
-
 -- one that has an object in a lawful state
 pub number_of : (state : DatedState) (k : ℕ) → 0 < k → IsState state.state → (object : Object) → state.state k ≡ Some object → is_number k ≡ true
 number_of state k some lawful object there = elim (cases_lt k number_bound) [

@@ -48,3 +48,16 @@ takes old new count after untouched left = go (nat_lt (largest_of old) count) re
           longest = subst (λ (s : FreeSectors). largest_of old ≤ largest_of s + count) (sym same) (greatest-without old.free old.end old.sectors count);
           unbroken = λ none. ap (λ (s : FreeSectors). s.free) same ∙ ap (λ (extents : List Extent). extents_without extents count) none;
         }
+
+-- what takes so many takes no more than more
+pub takes_more : (most more : ℕ) (old new : FreeSectors) → most ≤ more → TakesAtMost most old new → TakesAtMost more old new
+takes_more most more old new le takes = record { sectors = takes.sectors; left = omega (arith, takes.left, le); longest = omega (arith, takes.longest, le); unbroken = takes.unbroken }
+
+-- and what takes so many and then more takes as many as both
+pub takes_then : {most more : ℕ} (old mid new : FreeSectors) → TakesAtMost most old mid → TakesAtMost more mid new → TakesAtMost (most + more) old new
+takes_then old mid new one two = record {
+  sectors = two.sectors ∙ one.sectors;
+  left = omega (arith, one.left, two.left);
+  longest = omega (arith, one.longest, two.longest);
+  unbroken = λ none. two.unbroken (one.unbroken none);
+}

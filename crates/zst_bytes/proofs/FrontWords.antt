@@ -8,7 +8,7 @@ use Rattle.zst_bytes.proofs.BytesLaws.{length-number_bytes}
 use Rattle.zst_bytes.specs.Words.{word}
 
 -- a word is how a number of 64 bits is written
-word-to_le_bytes : (n : ℕ) → word n ≡ to_le_bytes w64 n
+pub word-to_le_bytes : (n : ℕ) → word n ≡ to_le_bytes w64 n
 unfolding number_bytes
 word-to_le_bytes n = refl
 

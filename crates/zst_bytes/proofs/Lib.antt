@@ -1,7 +1,8 @@
 mod Digits
 mod Multiples
-mod FrontWords
+pub mod FrontWords
 mod Tail
 mod Texts
 pub mod FieldsLaws
 pub mod BytesLaws
+pub mod WordLists

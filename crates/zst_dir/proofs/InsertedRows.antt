@@ -1,7 +1,8 @@
 -- A lawful directory with a row put in its place.
-use Rattle.std.proofs.Common.{inl, inr, ◌≡◌, ◌≢◌, ℕ, Bool, List, ◌∷◌, ◌++◌, Option, Some, None, IfSome, sym, ap, ◌∙◌}
+use Rattle.std.proofs.Common.{inl, inr, ◌≡◌, ◌≢◌, ℕ, Bool, List, ◌∷◌, ◌++◌, IfSome, sym, ap, ◌∙◌}
 use Rattle.std.specs.List.{All, Contains, insert, position_or_len}
 use Rattle.std.proofs.lemmas.List.Elements.{All-weaker, All-contains}
+use Rattle.std.proofs.lemmas.Option.{IfSome_then}
 use Rattle.zst_names.specs.Names.{dataset_of}
 use Rattle.zst_model.specs.pools.Pool.{is_before, inserted}
 use Rattle.zst_model.proofs.InsertedLaws.{inserted-place, All-from_contains, contains-inserted, inserted_has_rest, All-inserted}
@@ -11,11 +12,6 @@ use Rattle.zst_dir.specs.declared.rows.Dataset.{Dataset}
 use Rattle.zst_dir.specs.declared.rows.Snapshot.{Snapshot}
 use Rattle.zst_dir.specs.declared.rows.Bookmark.{Bookmark}
 use Rattle.zst_dir.specs.declared.rows.Partial.{Partial}
-
--- what holds of a value that is there holds more weakly
-pub IfSome_weaker : {A : Type 0} (o : Option A) (P Q : A → Type 0) → ((x : A) → P x → Q x) → IfSome o P → IfSome o Q
-IfSome_weaker None P Q f h = tt
-IfSome_weaker (Some x) P Q f h = f x h
 
 -- a row put at the place that was found for it
 pub at_place : {A : Type 0} (comes_before : A → A → Bool) (row : A) (olds seen news : List A) (place : ℕ) → seen ≡ olds
@@ -78,10 +74,10 @@ snapshot_added rows row lawful is_row absent dataset component =
         snapshots = All-inserted (λ s. HasDataset rows (of_snapshot s)) snapshot_is_before row olds dataset lawful.linked.snapshots;
         origins =
             All-weaker (λ d. IfSome d.origin (HasSnapshot rows)) (λ d. IfSome d.origin (HasSnapshot added))
-            (λ d. IfSome_weaker d.origin (HasSnapshot rows) (HasSnapshot added) more) rows.datasets lawful.linked.origins;
+            (λ d h. IfSome_then d.origin h more) rows.datasets lawful.linked.origins;
         bases =
             All-weaker (λ p. IfSome p.base (HasSnapshot rows)) (λ p. IfSome p.base (HasSnapshot added))
-            (λ p. IfSome_weaker p.base (HasSnapshot rows) (HasSnapshot added) more) rows.partials lawful.linked.bases;
+            (λ p h. IfSome_then p.base h more) rows.partials lawful.linked.bases;
         components = All-from_contains (λ p. HasSnapshot added (p.target ++ 64 ∷ p.snapshot) → ⊥) rows.partials
             (λ p there has. elim (contains-inserted snapshot_is_before row olds has.0 has.1) [
               | inl e ↦ All-contains (λ q. q.target ++ 64 ∷ q.snapshot ≢ row.name) rows.partials p component there (sym has.2 ∙ ap (λ s. s.name) (sym e))

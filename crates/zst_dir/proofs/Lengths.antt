@@ -12,6 +12,7 @@ use Rattle.zst_bytes.proofs.FieldsLaws.{length-zeros}
 use Rattle.zst_bytes.specs.Words.{word, padding, text_bytes, words_bytes}
 use Rattle.zst_block.proofs.PtrLaws.{length-ptr_bytes}
 use Rattle.zst_names.specs.Names.{IsSnapshot, dataset_of, component_of}
+use Rattle.zst_names.proofs.MarkedNames.{joined}
 use Rattle.zst_model.specs.fields.Guids.{IsGuidSet}
 use Rattle.zst_model.specs.pools.Pool.{is_before, inserted, IsStated}
 use Rattle.zst_tree.specs.Sets.{set_bytes}
@@ -28,7 +29,6 @@ use Rattle.zst_model.proofs.InsertedLaws.{inserted-place, AllPairs-head, AllPair
 use Rattle.zst_model.proofs.OrderLaws.{same_bytes, not_before_itself}
 use Rattle.zst_model.specs.declared.sends.header.Header.{Header}
 use Rattle.zst_dir.proofs.SnapshotRuns.{runs, snapshots_are_runs}
-use Rattle.zst_dir.proofs.Texts.{joined}
 
 -- a text has a word and at most 7 zeros beside its bytes
 text_short : (text : List ℕ) → length (text_bytes text) ≤ length text + 15

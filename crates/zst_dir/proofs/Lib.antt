@@ -22,3 +22,4 @@ mod Texts
 mod Verdict
 pub mod DroppedPartials
 pub mod Lookups
+pub mod NamedRows

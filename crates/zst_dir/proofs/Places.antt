@@ -6,7 +6,7 @@ use Rattle.std.specs.Ordering.{nat_cmp, is_lt, is_le, ordering_reverse}
 use Rattle.std.specs.Cmp.Lexicographic.{slice_cmp}
 use Rattle.std.specs.List.{AllPairs, position_or_len}
 use Rattle.std.specs.List.Sorted.{IsPartitionPoint, IsPartitionedBy}
-use Rattle.std.proofs.lemmas.Bool.{cases_lt, true≢false}
+use Rattle.std.proofs.lemmas.Bool.{cases_lt, true≢false, not-true, not-false}
 use Rattle.std.proofs.lemmas.Cmp.{nat_list_cmp_total}
 use Rattle.std.proofs.lemmas.List.Sums.{prefix_len-le-length, position_or_len_is}
 use Rattle.zst_model.specs.pools.Pool.{is_before}
@@ -42,19 +42,11 @@ partitioned {A = A} R test comes_before xs same chain ordered i j d le inside pa
     go (inl l) = other (comes_before (at i)) refl (ordered i j d l inside)
     go (inr l) = let one : j ≡ i = omega arith in subst (λ k. test (at k) ≡ true) one passes
 
-un_true : (t : Bool) → not t ≡ true → t ≡ false
-un_true true e = absurd (true≢false (sym e))
-un_true false e = refl
-
-un_false : (t : Bool) → not t ≡ false → t ≡ true
-un_false true e = refl
-un_false false e = absurd (true≢false e)
-
 -- the place that parts them is that of the first row that it comes before
 pub partition-place : {A : Type 0} (test comes_before : A → Bool) (xs : List A) (place : ℕ) → ((x : A) → test x ≡ not (comes_before x))
     → place ≤ length xs → IsPartitionPoint (λ x. test x ≡ true) (λ x. test x ≡ false) xs place → place ≡ position_or_len comes_before xs
 partition-place test comes_before [] place same bound point = omega arith
 partition-place test comes_before (x ∷ xs) place same bound point =
     sym (position_or_len_is comes_before (x ∷ xs) place x bound
-    (λ k below. un_true (comes_before (get_or (x ∷ xs) k x)) (sym (same (get_or (x ∷ xs) k x)) ∙ point.0 k x (omega arith) below))
-    (λ inside. un_false (comes_before (get_or (x ∷ xs) place x)) (sym (same (get_or (x ∷ xs) place x)) ∙ point.1 place x (omega arith) inside)))
+    (λ k below. not-true (comes_before (get_or (x ∷ xs) k x)) (sym (same (get_or (x ∷ xs) k x)) ∙ point.0 k x (omega arith) below))
+    (λ inside. not-false (comes_before (get_or (x ∷ xs) place x)) (sym (same (get_or (x ∷ xs) place x)) ∙ point.1 place x (omega arith) inside)))

@@ -1,13 +1,15 @@
 -- A lawful directory without what goes.
-use Rattle.std.proofs.Common.{inl, inr, ◌≡◌, ◌≢◌, ℕ, Bool, true, false, cond, ◌&&◌, ◌||◌, not, List, [], ◌∷◌, ◌++◌, filter, Option, Some, None, IfSome, bytes_eq, refl, sym, ap, ◌∙◌, subst}
-use Rattle.std.specs.List.{Contains, list_any}
-use Rattle.std.proofs.lemmas.Bool.{true≢false}
+use Rattle.std.proofs.Common.{inl, inr, ◌≡◌, ◌≢◌, ℕ, Bool, true, false, cond, ◌&&◌, not, List, [], ◌∷◌, ◌++◌, filter, Option, Some, None, IfSome, bytes_eq, refl, sym, ap, ◌∙◌, subst}
+use Rattle.std.specs.List.{Contains}
+use Rattle.std.proofs.lemmas.Bool.{true≢false, not-true}
 use Rattle.std.proofs.lemmas.List.Elements.{All-filter, All-contains}
 use Rattle.std.proofs.lemmas.List.Kept.{AllPairs-filter}
 use Rattle.zst_names.specs.Names.{dataset_of}
 use Rattle.zst_model.specs.pools.Pool.{is_before}
 use Rattle.zst_model.proofs.InsertedLaws.{All-from_contains, contains_cases, contains_first, contains_later, contains_nothing}
 use Rattle.zst_model.proofs.OrderLaws.{bytes_same}
+use Rattle.zst_model.proofs.FilteredLists.{filter_parts}
+use Rattle.zst_model.proofs.ListTests.{failed_by_each}
 use Rattle.zst_dir.specs.Removal.{AreUnused, names_going, takes_bookmark, takes_dataset, takes_snapshot, without}
 use Rattle.zst_dir.specs.Rows.{Rows, snapshot_is_before, HasDataset, HasSnapshot, IsBookmarkRow, IsDatasetRow, IsSnapshotRow, IsLawful}
 use Rattle.zst_dir.specs.declared.removal.Removal.{Removal}
@@ -32,34 +34,6 @@ stays_there {A = A} takes (y ∷ ys) x there stays = elim (contains_cases y ys x
     go true k = k
     go false k = contains_later y rest x k
 
--- what is left was there
-pub was_there : {A : Type 0} (stays : A → Bool) (xs : List A) (x : A) → Contains (filter stays xs) x → Contains xs x × (stays x ≡ true)
-was_there stays [] x there = absurd (contains_nothing x there)
-was_there {A = A} stays (y ∷ ys) x there = go (stays y) refl (was_there stays ys x) there
-  where
-    IsOld : Type 0
-    IsOld = Contains (y ∷ ys) x × (stays x ≡ true)
-
-    go : (t : Bool) → stays y ≡ t → (Contains (filter stays ys) x → Contains ys x × (stays x ≡ true))
-        → Contains (cond t (y ∷ filter stays ys) (filter stays ys)) x → IsOld
-    go true e rest k = elim (contains_cases y (filter stays ys) x k) [
-      | inl same ↦ (subst (Contains (y ∷ ys)) same (contains_first y ys), ap stays (sym same) ∙ e)
-      | inr k ↦ (contains_later y ys x (rest k).0, (rest k).1)
-    ]
-    go false e rest k = (contains_later y ys x (rest k).0, (rest k).1)
-
--- a test that no element passes fails for one that is there
-pub fails_there : {A : Type 0} (test : A → Bool) (xs : List A) (x : A) → list_any test xs ≡ false → Contains xs x → test x ≡ false
-fails_there test [] x none there = absurd (contains_nothing x there)
-fails_there test (y ∷ ys) x none there = go (test y) refl (fails_there test ys x) none
-  where
-    go : (t : Bool) → test y ≡ t → (list_any test ys ≡ false → Contains ys x → test x ≡ false) → (t || list_any test ys) ≡ false → test x ≡ false
-    go true e rest none = absurd (true≢false none)
-    go false e rest none = elim (contains_cases y ys x there) [
-      | inl same ↦ ap test (sym same) ∙ e
-      | inr later ↦ rest none later
-    ]
-
 -- a name that is there and names nothing that goes is there still
 name_stays : (going : Removal) (rows : Rows) (name : Option (List ℕ)) → names_going going rows name ≡ false → IfSome name (HasSnapshot rows) → IfSome name (HasSnapshot (without going rows))
 name_stays going rows None unused has = tt
@@ -69,7 +43,7 @@ name_stays going rows (Some name) unused has = (has.0, stays_there (takes_snapsh
     stays false e = e
     stays true e =
         absurd (true≢false (sym (ap (λ b. b && bytes_eq has.0.name name) e ∙ bytes_same has.0.name name has.2)
-        ∙ fails_there (λ snapshot. takes_snapshot going snapshot && bytes_eq snapshot.name name) rows.snapshots has.0 unused has.1))
+        ∙ failed_by_each (λ snapshot. takes_snapshot going snapshot && bytes_eq snapshot.name name) rows.snapshots unused has.0 has.1))
 
 -- the dataset of a snapshot that stays, stays
 dataset_stays : (going : Removal) (snapshot : Snapshot) (dataset : Dataset) → dataset.name ≡ dataset_of 64 snapshot.name → takes_snapshot going snapshot ≡ false → takes_dataset going dataset ≡ false
@@ -77,10 +51,6 @@ dataset_stays (goes.Dataset name) snapshot dataset same stays = ap (λ n. bytes_
 dataset_stays (goes.Snapshot name) snapshot dataset same stays = refl
 dataset_stays (goes.Bookmark name) snapshot dataset same stays = refl
 dataset_stays (goes.Newer name number) snapshot dataset same stays = refl
-
-is_not : (b : Bool) → not b ≡ true → b ≡ false
-is_not true h = absurd (true≢false (sym h))
-is_not false h = refl
 
 -- a lawful directory without what goes, of which nothing is used
 pub rows_left : (going : Removal) (rows : Rows) → IsLawful rows → AreUnused going rows → IsLawful (without going rows)
@@ -94,11 +64,11 @@ rows_left going rows lawful unused = record {
   };
   linked = record {
     snapshots = All-from_contains (λ s. HasDataset (without going rows) (dataset_of 64 s.name)) (filter stays_snapshot rows.snapshots) (λ s there.
-        let found = was_there stays_snapshot rows.snapshots s there in
+        let found = filter_parts stays_snapshot rows.snapshots s there in
         let has = All-contains (λ s. HasDataset rows (dataset_of 64 s.name)) rows.snapshots s lawful.linked.snapshots found.0 in
-        (has.0, stays_there (takes_dataset going) rows.datasets has.0 has.1 (dataset_stays going s has.0 has.2 (is_not (takes_snapshot going s) found.1)), has.2));
+        (has.0, stays_there (takes_dataset going) rows.datasets has.0 has.1 (dataset_stays going s has.0 has.2 (not-true (takes_snapshot going s) found.1)), has.2));
     origins = All-from_contains (λ d. IfSome d.origin (HasSnapshot (without going rows))) (filter stays_dataset rows.datasets) (λ d there.
-        let found = was_there stays_dataset rows.datasets d there in
+        let found = filter_parts stays_dataset rows.datasets d there in
         name_stays going rows d.origin
         (All-contains (λ d. names_going going rows d.origin ≡ false) rows.datasets d unused.origins found.0)
         (All-contains (λ d. IfSome d.origin (HasSnapshot rows)) rows.datasets d lawful.linked.origins found.0));
@@ -108,7 +78,7 @@ rows_left going rows lawful unused = record {
         (All-contains (λ p. IfSome p.base (HasSnapshot rows)) rows.partials p lawful.linked.bases there));
     components = All-from_contains (λ p. HasSnapshot (without going rows) (p.target ++ 64 ∷ p.snapshot) → ⊥) rows.partials (λ p there has.
         All-contains (λ p. HasSnapshot rows (p.target ++ 64 ∷ p.snapshot) → ⊥) rows.partials p lawful.linked.components there
-        (has.0, (was_there stays_snapshot rows.snapshots has.0 has.1).0, has.2));
+        (has.0, (filter_parts stays_snapshot rows.snapshots has.0 has.1).0, has.2));
   };
   datasets = All-filter stays_dataset IsDatasetRow rows.datasets lawful.datasets;
   snapshots = All-filter stays_snapshot IsSnapshotRow rows.snapshots lawful.snapshots;

@@ -1,6 +1,6 @@
 -- A list of which each neighbours stand in order, where the order is transitive.
 use Rattle.std.proofs.Common.{◌≡◌, ℕ, zero, suc, ◌+◌, ◌<◌, Bool, true, false, not, ◌↔◌, inl, inr, List, [], ◌∷◌, length, get_or, refl, sym, subst, ap, ◌∙◌, arith, add-one}
-use Rattle.std.proofs.lemmas.Bool.{true≢false, cases_lt}
+use Rattle.std.proofs.lemmas.Bool.{true≢false, cases_lt, not-true}
 use Rattle.std.proofs.lemmas.List.Sorted.{answers_always}
 use Rattle.std.specs.Fn.{Called, ComputesOnPairs}
 use denote.Param.Members.{Mut}
@@ -52,13 +52,9 @@ not_after a b c first second = go (snapshot_is_before c a) refl
     go true before = absurd (true≢false (sym (row_before_later of_snapshot (λ s. s.number) c a b before first) ∙ second))
     go false before = refl
 
-not_true : (t : Bool) → not t ≡ true → t ≡ false
-not_true true h = absurd (true≢false (sym h))
-not_true false h = refl
-
 pub snapshots_rise : (rows : List Snapshot) (answer : Bool) → IsAllAdjacentAnswer (λ x y b. b ≡ not (snapshot_is_before y x)) rows answer → (answer ≡ true) ↔ AllPairs (λ a b. snapshot_is_before b a ≡ false) rows
 snapshots_rise rows answer is =
-    rises (λ a b. not (snapshot_is_before b a)) (λ a b. snapshot_is_before b a ≡ false) (λ a b h. not_true (snapshot_is_before b a) h) (λ a b h. ap not h) not_after rows answer is
+    rises (λ a b. not (snapshot_is_before b a)) (λ a b. snapshot_is_before b a ≡ false) (λ a b h. not-true (snapshot_is_before b a) h) (λ a b h. ap not h) not_after rows answer is
 
 -- what `is_sorted_by` says, where each call gives the test of the two rows
 pub neighbours_from_clause : {A : Type 0} (test : A → A → Bool) {F : Type 0} {g : Mut F (Bor A × (Bor A × Unit {0})) Bool} {f : F} (rows : List A) (answer : Bool)

@@ -11,6 +11,7 @@ use Rattle.zst_bytes.specs.Words.{word}
 use Rattle.zst_model.specs.pools.Pool.{is_before}
 use Rattle.zst_model.proofs.InsertedLaws.{contains_cases, contains_nothing, All-from_contains, AllPairs-head, AllPairs-tail}
 use Rattle.zst_model.proofs.OrderLaws.{same_bytes, bytes_same, before_trans, not_before_itself, before_cases, row_before_from}
+use Rattle.zst_model.proofs.NameTests.{before_upto}
 use Rattle.zst_dir.specs.Rows.{Rows, snapshot_is_before, IsLawful}
 use Rattle.zst_dir.specs.Spelling.{snapshots_of, dataset_bytes}
 use Rattle.zst_dir.specs.declared.rows.Dataset.{Dataset}
@@ -50,14 +51,6 @@ filter_all {A = A} test (x ∷ xs) all =
 dataset_rises : (a b : Snapshot) → snapshot_is_before b a ≡ false → is_before (of_snapshot b) (of_snapshot a) ≡ false
 dataset_rises a b h = false_from_ne_true (is_before (of_snapshot b) (of_snapshot a)) (λ k. true≢false (sym (row_before_from of_snapshot (λ s. s.number) b a (inl k)) ∙ h))
 
--- behind a name that another stands behind or at stand all that stand behind the other
-behind_all : (a b c : List ℕ) → is_before a b ≡ true → is_before c b ≡ false → is_before a c ≡ true
-behind_all a b c h k = elim (before_cases b c) [
-  | inl l ↦ before_trans a b c h l
-  | inr (inl e) ↦ subst (λ x. is_before a x ≡ true) e h
-  | inr (inr l) ↦ absurd (true≢false (sym l ∙ k))
-]
-
 -- a name that another stands before is not that name
 apart : (a b : List ℕ) → is_before a b ≡ true → bytes_eq b a ≡ false
 apart a b h = false_from_ne_true (bytes_eq b a) (λ k. not_before_itself a (subst (λ x. is_before a x ≡ true) (same_bytes b a k) h))
@@ -83,7 +76,7 @@ own_first name (s ∷ rest) rise low = go (is_of name s) refl (own_first name re
 
     none : is_of name s ≡ false → All (λ a. is_of name a ≡ false) rest
     none e = All-weaker (R s) (λ a. is_of name a ≡ false)
-        (λ a r. apart name (of_snapshot a) (behind_all name (of_snapshot s) (of_snapshot a) (above e) (dataset_rises s a r)))
+        (λ a r. apart name (of_snapshot a) (before_upto name (of_snapshot s) (of_snapshot a) (above e) (dataset_rises s a r)))
         rest (AllPairs-head R s rest rise)
 
     go : (t : Bool) → is_of name s ≡ t → rest ≡ filter (is_of name) rest ++ filter (λ a. not (is_of name a)) rest

@@ -1,29 +1,17 @@
 -- The texts of names: their bytes are ASCII, and their parts make them.
-use Rattle.std.proofs.Common.{◌≡◌, ℕ, Some, inl, inr, ◌+◌, ◌<◌, ◌^◌, true, ◌==◌, List, [], ◌∷◌, ◌++◌, length, get_or, sym, subst, ap, ◌∙◌, arith, length-append, length-drop}
+use Rattle.std.proofs.Common.{◌≡◌, ℕ, Some, inl, inr, ◌<◌, ◌^◌, true, ◌==◌, List, [], ◌∷◌, ◌++◌, length, sym, subst, ap, arith, length-append}
 use Rattle.std.proofs.lemmas.Bool.{eqb-true, and_parts, cases_Bool}
-use Rattle.std.proofs.lemmas.Bool.Decides.{nat_tests}
 use Rattle.std.proofs.lemmas.List.Elements.{recursion_from_All, All-from_recursion}
-use Rattle.std.proofs.lemmas.List.Sums.{split_at_first, passes_at_first}
 use Rattle.std.proofs.lemmas.Str.Ascii.{IsAscii-from_all, IsAscii-nil}
-use Rattle.std.specs.List.{position_or_len, list_all, onto_first, AllByRecursion}
+use Rattle.std.specs.List.{list_all, onto_first, AllByRecursion}
 use Rattle.zst_names.specs.Names.{is_component_byte, IsComponent, IsDataset, IsName, IsSnapshot, IsBookmark, parts, dataset_of, component_of}
+use Rattle.zst_names.proofs.MarkedNames.{joined}
+use Rattle.zst_names.proofs.ComponentBytes.{low_byte}
 use Rattle.zst_dir.specs.RowReads.{IsPlain}
-
--- a text with a component behind the mark is its parts, joined by the mark
-pub joined : (mark : ℕ) (text : List ℕ) → IsComponent (component_of mark text) → text ≡ dataset_of mark text ++ mark ∷ component_of mark text
-joined mark text h =
-    let place = position_or_len (λ b. b == mark) text in
-    let below : place < length text = omega (arith, h.some, length-drop (place + 1) text) in
-    let is_there : get_or text place 0 ≡ mark = eqb-true (get_or text place 0) mark (passes_at_first (λ b. b == mark) text 0 below) in
-    split_at_first (λ b. b == mark) text 0 below ∙ ap (λ b. dataset_of mark text ++ (b ∷ component_of mark text)) is_there
 
 -- each byte is below 128
 AreLow : List ℕ → Type 0
 AreLow bytes = AllByRecursion (λ byte. byte < 128) bytes
-
-low_byte : (byte : ℕ) → is_component_byte byte ≡ true → byte < 128
-unfolding is_component_byte
-low_byte byte passes = grind (arith, nat_tests)
 
 low_bytes : (bytes : List ℕ) → list_all is_component_byte bytes ≡ true → AreLow bytes
 unfolding AreLow

@@ -4,13 +4,13 @@ use Rattle.std.proofs.lemmas.Bool.{true≢false, false_from_ne_true}
 use Rattle.std.proofs.lemmas.List.Elements.{All-weaker}
 use Rattle.std.specs.BTreeSet.{BTreeSet}
 use Rattle.std.specs.List.{AllPairs}
+use Rattle.std.proofs.lemmas.Option.{IfSome_then}
 use Rattle.zst_dir.specs.declared.rows.Dataset.{Dataset}
 use Rattle.zst_dir.specs.declared.rows.Partial.{Partial}
 use Rattle.zst_dir.specs.RowReads.{IsSnapshotIn}
 use Rattle.zst_dir.specs.Rows.{Rows, HasDataset, HasSnapshot, IsSnapshotRow, IsLawful}
 use Rattle.zst_dir.specs.RowChecks.{AreNamesOf, AreRead, LinkTo, Rise, has, name_to_be}
 use Rattle.zst_names.specs.Names.{dataset_of}
-use Rattle.zst_dir.proofs.InsertedRows.{IfSome_weaker}
 
 module _ (rows : Rows) (names : BTreeSet (List ℕ)) (are : AreNamesOf rows.snapshots names) where
   IsIn : Option (List ℕ) → Type 0
@@ -21,11 +21,11 @@ module _ (rows : Rows) (names : BTreeSet (List ℕ)) (are : AreNamesOf rows.snap
 
   named : (name : Option (List ℕ)) → IsIn name → IsNamed name
   unfolding IsIn IsNamed
-  named name is_in = IfSome_weaker name (λ name. has names name ≡ true) (HasSnapshot rows) (λ name. (are name).0) is_in
+  named name is_in = IfSome_then name is_in (λ name. (are name).0)
 
   is_in : (name : Option (List ℕ)) → IsNamed name → IsIn name
   unfolding IsIn IsNamed
-  is_in name is_named = IfSome_weaker name (HasSnapshot rows) (λ name. has names name ≡ true) (λ name. (are name).1) is_named
+  is_in name is_named = IfSome_then name is_named (λ name. (are name).1)
 
   -- rows that rise, whose names differ, and that link to these names are lawful
   pub lawful : AreRead rows → AllPairs (λ a b. a.name ≢ b.name) rows.snapshots → Rise rows → LinkTo names rows.datasets rows.partials → IsLawful rows

@@ -1,12 +1,13 @@
 -- A slot is read back from its bytes.
-use Rattle.std.proofs.Common.{◌≡◌, ℕ, ◌+◌, ◌^◌, ◌-◌, ◌%◌, ◌<◌, ◌==◌, ◌&&◌, leb, true, List, length, take, drop, refl, subst, sym, ◌∙◌, ap, arith}
-use Rattle.std.proofs.lemmas.Bool.{ne_eqb, leb-true, and_parts}
+use Rattle.std.proofs.Common.{◌≡◌, ℕ, ◌+◌, ◌^◌, ◌-◌, ◌<◌, true, List, length, take, drop, refl, subst, sym, ◌∙◌, ap, arith}
+use Rattle.std.proofs.lemmas.Bool.{ne_eqb}
 use Rattle.zst_bytes.specs.Bytes.{bytes_at, number_at, number_bytes}
 use Rattle.zst_bytes.specs.Fields.{found, is_clear, zeros, Fills}
 use Rattle.zst_bytes.proofs.FieldsLaws.{number-back, text-back, length-laid}
 use Rattle.zst_block.specs.Ptr.{ptr_bytes}
 use Rattle.zst_block.proofs.PtrLaws.{length-ptr_bytes, ptr_at-range}
-use Rattle.zst_model.specs.states.State.{is_block_size, largest_block, index_bound}
+use Rattle.zst_model.specs.states.State.{index_bound}
+use Rattle.zst_model.proofs.Sizes.{block_size_small}
 use Rattle.zst_dnode.specs.Dnode.{dnode_fields, dnode_at, DnodeFits}
 use Rattle.zst_dnode.specs.Slot.{slot_at, slot_bytes, slot_fields, SlotFits}
 use Rattle.zst_dnode.specs.declared.dnode.Dnode.{Dnode}
@@ -33,12 +34,6 @@ range : (dnode : Dnode) (p w : ℕ) (bytes : List ℕ) → DnodeFits dnode → i
 unfolding slot_bytes
 range dnode p w bytes fits clear is = text-back 512 (dnode_fields dnode) p w bytes refl (fills dnode fits) clear is
 
-size_small : (size : ℕ) → is_block_size size ≡ true → size < 256 ^ 4
-unfolding is_block_size largest_block
-size_small size is =
-    let both = (and_parts (leb 512 size && leb size 131072) ((size % 512) == 0) is).0 in
-    let below = leb-true _ _ (and_parts (leb 512 size) (leb size 131072) both).1 in omega arith
-
 end_small : (dnode : Dnode) → DnodeFits dnode → dnode.end < 256 ^ 8
 unfolding index_bound
 end_small dnode fits = let below = fits.end in omega arith
@@ -50,7 +45,7 @@ dnode-back dnode fits =
     rw (
       field dnode 0 4 dnode.type_ fits refl refl (omega (arith, fits.head.type_fits)),
       field dnode 4 4 dnode.bonus_type fits refl refl (omega (arith, fits.head.bonus_type_fits)),
-      field dnode 8 4 dnode.block_size fits refl refl (size_small dnode.block_size fits.head.size),
+      field dnode 8 4 dnode.block_size fits refl refl (block_size_small dnode.block_size fits.head.size),
       field dnode 12 4 dnode.bonus_len fits refl refl (omega (arith, fits.bonus.inside)),
       field dnode 16 8 dnode.date fits refl refl (omega (arith, fits.date)),
       field dnode 24 1 dnode.levels fits refl refl (omega (arith, fits.levels)),

@@ -1,4 +1,4 @@
-mod sends
-mod histories
-mod pools
+pub mod sends
+pub mod histories
+pub mod pools
 mod examples

@@ -10,7 +10,6 @@ pub mod AcceptedCommands
 pub mod AcceptedRemovals
 pub mod Filters
 pub mod Lookups
-pub mod UniqueElements
 pub mod SendPlans
 pub mod Lineages
 pub mod CommitCounts

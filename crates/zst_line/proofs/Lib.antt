@@ -11,4 +11,3 @@ pub mod OptionPlaces
 pub mod SameLine
 pub mod Sizes
 pub mod Spills
-pub mod Texts

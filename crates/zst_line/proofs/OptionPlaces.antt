@@ -13,7 +13,8 @@ use Rattle.zst_line.specs.WordFaults.{Takes}
 use Rattle.zst_line.specs.Line.{first_of, value_behind}
 use Rattle.zst_line.specs.Words.{IsOption}
 use Rattle.zst_line.proofs.WordWalk.{drop_at}
-use Rattle.zst_line.proofs.Texts.{differ, same_bytes}
+use Rattle.zst_model.proofs.NameTests.{differ}
+use Rattle.zst_model.proofs.OrderLaws.{same_bytes}
 
 -- the places from a word on, by what the option takes that it is
 abbrev pub step : Kind → List (List ℕ) → List ℕ → List (List ℕ) → Option OptionValue → List WordSlot

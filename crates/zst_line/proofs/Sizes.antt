@@ -7,10 +7,6 @@ pub block_size_below : (size : ℕ) → is_block_size size ≡ true → size < 2
 unfolding is_block_size largest_block
 block_size_below size h = grind (arith, nat_tests)
 
-pub block_size_above : (size : ℕ) → is_block_size size ≡ true → 0 < size
-unfolding is_block_size largest_block
-block_size_above size h = grind (arith, nat_tests)
-
 pub spill_size_below : (size : ℕ) → is_spill_size size ≡ true → size < 2 ^ 32
 unfolding is_spill_size
 spill_size_below size h = grind (arith, nat_tests)

@@ -1,7 +1,7 @@
 -- The bytes of a list tell its runs, so that below a root stands one list.
 use Rattle.std.proofs.Common.{◌≡◌, ℕ, zero, suc, ◌+◌, ◌^◌, ◌<◌, List, [], ◌∷◌, ◌++◌, length, take, refl, sym, ◌∙◌, ap, arith, append_assoc}
 use Rattle.std.specs.List.{All}
-use Rattle.std.proofs.lemmas.List.{append_cancel_left, take_at}
+use Rattle.std.proofs.lemmas.List.{append_cancel_left, take_at, nil_from_length}
 use Rattle.std.proofs.lemmas.List.Elements.{All-head, All-tail}
 use Rattle.zst_bytes.specs.Words.{word}
 use Rattle.zst_bytes.proofs.BytesLaws.{length-number_bytes, number-again}
@@ -10,6 +10,7 @@ use Rattle.zst_block.specs.Blocks.{Has}
 use Rattle.zst_block.specs.declared.ptr.Ptr.{Ptr}
 use Rattle.zst_model.specs.declared.states.cell.Run.{Run}
 use Rattle.zst_model.specs.fields.Lists.{Runs}
+use Rattle.zst_model.proofs.OneList.{same_run}
 use Rattle.zst_leaves.specs.Leaves.{HasLeaves}
 use Rattle.zst_list.specs.RunReads.{FitsWords}
 use Rattle.zst_list.specs.Spelling.{gap_bytes, list_bytes, run_bytes, runs_bytes}
@@ -30,17 +31,12 @@ run_parts : (run : Run) (rest : List ℕ) → run_bytes run ++ rest ≡ word run
 unfolding run_bytes
 run_parts run rest = simp append_assoc
 
-run_of_parts : (x y : Run) → x.object ≡ y.object → x.first ≡ y.first → x.count ≡ y.count → x ≡ y
-run_of_parts x y object first count =
-    let made : ◌≡◌ {A = Run} (record { object = x.object; first = x.first; count = x.count }) (record { object = y.object; first = y.first; count = y.count }) = cc (object, first, count) in
-    made
-
 run_tells : (x y : Run) (after behind : List ℕ) → FitsWords x → FitsWords y → run_bytes x ++ after ≡ run_bytes y ++ behind → (x ≡ y) × (after ≡ behind)
 run_tells x y after behind x_fits y_fits same =
     let object = word_front x.object y.object _ _ x_fits.object y_fits.object (sym (run_parts x after) ∙ same ∙ run_parts y behind) in
     let first = word_front x.first y.first _ _ x_fits.first y_fits.first object.1 in
     let count = word_front x.count y.count after behind x_fits.count y_fits.count first.1 in
-    (run_of_parts x y object.0 first.0 count.0, count.1)
+    (same_run x y object.0 first.0 count.0, count.1)
 
 -- lists of as many runs that have the same bytes are one
 runs_tell : (place : ℕ) (xs ys : Runs) → All FitsWords xs → All FitsWords ys → length xs ≡ length ys → runs_bytes place xs ≡ runs_bytes place ys → xs ≡ ys
@@ -56,17 +52,13 @@ runs_tell place (x ∷ xs) (y ∷ ys) xs_fit ys_fit long same =
     let rest = runs_tell (place + 1) xs ys (All-tail FitsWords x xs xs_fit) (All-tail FitsWords y ys ys_fit) (omega (arith, long)) (append_cancel_left (gap_bytes place) more others first.1) in
     cc (first.0, rest)
 
-none_is_empty : (runs : Runs) → length runs ≡ 0 → runs ≡ []
-none_is_empty [] none = refl
-none_is_empty (run ∷ runs) none = absurd (omega (arith, none))
-
 -- below a root stands one text of a length
 abbrev pub RootsHaveOne : Type 0
 RootsHaveOne = (image : List ℕ) (space : FreeSectors) (levels : ℕ) (root : Ptr) (text other : List ℕ) → length text ≡ length other → HasLeaves (Has image space) levels root text → HasLeaves (Has image space) levels root other → text ≡ other
 
 -- and so one list of a count
 pub one_list : RootsHaveOne → (image : List ℕ) (space : FreeSectors) (levels : ℕ) (root : Ptr) (count : ℕ) (runs other : Runs) → HasList (Has image space) levels root count runs → HasList (Has image space) levels root count other → runs ≡ other
-one_list one image space levels root zero runs other first second = none_is_empty runs first.count_is ∙ sym (none_is_empty other second.count_is)
+one_list one image space levels root zero runs other first second = nil_from_length runs first.count_is ∙ sym (nil_from_length other second.count_is)
 one_list one image space levels root (suc count) runs other first second =
     let long = first.count_is ∙ sym second.count_is in
     let text = one image space levels root (list_bytes runs) (list_bytes other) (length-list runs ∙ ap list_length long ∙ sym (length-list other)) (first.leaves (omega arith)) (second.leaves (omega arith)) in

@@ -12,7 +12,8 @@ use Rattle.std.proofs.lemmas.Cmp.{nat_list_cmp_total}
 use Rattle.std.proofs.lemmas.List.{take_all}
 use Rattle.std.proofs.lemmas.List.Sums.{position_or_len_is}
 use Rattle.zst_model.specs.pools.Pool.{is_before}
-use Rattle.zst_model.proofs.OrderLaws.{before_trans, before_cases, not_before_itself, same_bytes, bytes_same}
+use Rattle.zst_model.proofs.OrderLaws.{before_trans, before_cases, not_before_itself, bytes_same}
+use Rattle.zst_model.proofs.NameTests.{before_upto, differ}
 
 -- whether a name stands before another, and whether it doesn't stand behind it
 abbrev pub stands_before : List ℕ → List ℕ → Bool
@@ -35,14 +36,6 @@ pub upto_before : (a b c : List ℕ) → is_before b a ≡ false → is_before b
 upto_before a b c h before = elim (before_cases a b) [
   | inl first ↦ before_trans a b c first before
   | inr (inl same) ↦ subst (λ n. is_before n c ≡ true) (sym same) before
-  | inr (inr behind) ↦ absurd (true≢false (sym behind ∙ h))
-]
-
--- a name stands before those that don't stand before one that it stands before
-pub before_upto : (a b c : List ℕ) → is_before a b ≡ true → is_before c b ≡ false → is_before a c ≡ true
-before_upto a b c before h = elim (before_cases b c) [
-  | inl first ↦ before_trans a b c before first
-  | inr (inl same) ↦ subst (λ n. is_before a n ≡ true) same before
   | inr (inr behind) ↦ absurd (true≢false (sym behind ∙ h))
 ]
 
@@ -121,9 +114,6 @@ first_front test row rows place parts = parts.0 0 row (omega arith) (omega arith
 first_behind : {A : Type 0} (test : A → Bool) (row : A) (rows : List A) → Parts test (row ∷ rows) 0 → test row ≡ false
 first_behind test row rows parts = parts.1 0 row (omega arith) (omega arith)
 
-differs : (key name : List ℕ) → (key ≡ name → ⊥) → bytes_eq key name ≡ false
-differs key name h = false_from_ne_true (bytes_eq key name) (λ same. h (same_bytes key name same))
-
 equals : (key name : List ℕ) → is_before key name ≡ false → is_before name key ≡ false → bytes_eq key name ≡ true
 equals key name h k = elim (before_cases key name) [
   | inl before ↦ absurd (true≢false (sym before ∙ h))
@@ -151,7 +141,7 @@ between_are_those {A = A} key name (row ∷ rows) (suc start) (suc end) bound be
       front = rest_front (λ r. stands_before name (key r)) row rows start between.front;
       back = rest_front (λ r. stands_upto name (key r)) row rows end between.back;
     }) in
-    let other = differs (key row) name (λ same. not_before_itself name (subst (λ k. is_before k name ≡ true) same first)) in
+    let other = differ (key row) name (λ same. not_before_itself name (subst (λ k. is_before k name ≡ true) same first)) in
     record { ordered = omega (arith, rest.ordered); those = rest.those ∙ sym (skipped (λ r. bytes_eq (key r) name) row rows other) }
 between_are_those {A = A} key name (row ∷ rows) (suc start) zero bound between =
     let first : is_before (key row) name ≡ true = first_front (λ r. stands_before name (key r)) row rows start between.front in
@@ -173,7 +163,7 @@ between_are_those {A = A} key name (row ∷ rows) zero zero bound between =
       front = rest_behind (λ r. stands_before name (key r)) row rows between.front;
       back = rest_behind (λ r. stands_upto name (key r)) row rows between.back;
     }) in
-    let other = differs (key row) name (λ same. not_before_itself name (subst (λ k. is_before name k ≡ true) same behind)) in
+    let other = differ (key row) name (λ same. not_before_itself name (subst (λ k. is_before name k ≡ true) same behind)) in
     record { ordered = omega arith; those = rest.those ∙ sym (skipped (λ r. bytes_eq (key r) name) row rows other) }
 
 -- what is left from a place on is that many rows behind it

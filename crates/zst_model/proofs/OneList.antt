@@ -47,7 +47,7 @@ not_longer run other rest later lawful same o f = elim (cases_lt run.count other
 ]
 
 -- nor do they differ in anything else
-same_run : (run other : Run) → run.object ≡ other.object → run.first ≡ other.first → run.count ≡ other.count → run ≡ other
+pub same_run : (run other : Run) → run.object ≡ other.object → run.first ≡ other.first → run.count ≡ other.count → run ≡ other
 same_run run other o f c = λ p. record { object = o p; first = f p; count = c p }
 
 -- without a run that both begin with, the pairs are the same

@@ -4,3 +4,4 @@ pub mod Front
 pub mod MarkedNames
 pub mod Places
 pub mod SnapshotNames
+pub mod ComponentBytes

@@ -1,13 +1,12 @@
 -- Names that have a mark.
-use Rattle.std.proofs.Common.{◌≡◌, ◌≢◌, sym, subst, ℕ, ◌+◌, ◌<◌, true, false, ◌==◌, List, [], ◌∷◌, ◌++◌, length, get_or, refl, ap, ◌∙◌, inl, inr, arith, length-drop}
-use Rattle.std.proofs.lemmas.Bool.{eqb-true, false≢true}
+use Rattle.std.proofs.Common.{◌≡◌, ◌≢◌, sym, subst, ℕ, ◌+◌, ◌<◌, true, false, ◌==◌, List, [], ◌∷◌, ◌++◌, length, get_or, ap, ◌∙◌, inl, inr, arith, length-drop}
+use Rattle.std.proofs.lemmas.Bool.{eqb-true, false≢true, and_parts}
 use Rattle.std.proofs.lemmas.List.Sums.{split_at_first, passes_at_first}
 use Rattle.std.proofs.lemmas.List.Elements.{recursion_from_All}
 use Rattle.std.proofs.lemmas.Bool.Decides.{eqb_tells}
 use Rattle.std.specs.List.{position_or_len, list_all, onto_first, AllByRecursion}
 use Rattle.zst_names.specs.Marks.{IsMark}
 use Rattle.zst_names.specs.Names.{is_component_byte, IsComponent, IsDataset, parts, dataset_of, component_of}
-use Rattle.zst_names.proofs.Parts.{both_true}
 use Rattle.zst_names.proofs.NameEnds.{before_first-skip, after_first-skip}
 use Rattle.zst_names.proofs.Front.{dataset_at_mark, component_at_mark}
 
@@ -33,8 +32,8 @@ plain_parts [] h = tt
 plain_parts (p ∷ ps) h = (h.0.bytes, plain_parts ps h.1)
 
 pub plain_onto : (byte : ℕ) (ps : List (List ℕ)) → AllByRecursion IsPlain (onto_first byte ps) → (is_component_byte byte ≡ true) × AllByRecursion IsPlain ps
-plain_onto byte [] h = ((both_true (is_component_byte byte) true h.0).0, tt)
-plain_onto byte (p ∷ ps) h = let both = both_true (is_component_byte byte) (list_all is_component_byte p) h.0 in (both.0, (both.1, h.1))
+plain_onto byte [] h = ((and_parts (is_component_byte byte) true h.0).0, tt)
+plain_onto byte (p ∷ ps) h = let both = and_parts (is_component_byte byte) (list_all is_component_byte p) h.0 in (both.0, (both.1, h.1))
 
 -- the first byte of such parts is no mark, and the others are such parts
 plain_byte : (mark byte : ℕ) (text : List ℕ) → IsMark mark → AllByRecursion IsPlain (parts (byte ∷ text)) → ((byte == mark) ≡ false) × AllByRecursion IsPlain (parts text)

@@ -2,6 +2,7 @@
 use Rattle.std.proofs.Common.{◌≡◌, ◌≢◌, ℕ, ◌+◌, ◌<◌, ◌≤◌, Bool, true, false, cond, not, ◌&&◌, ◌||◌, ◌==◌, nat_lt, ◌↔◌, List, [], ◌∷◌, length, refl, subst, arith}
 use Rattle.std.proofs.lemmas.Bool.Decides.{nat_tests}
 use Rattle.std.specs.List.{list_all, onto_first, AllByRecursion}
+use Rattle.std.proofs.lemmas.Bool.{and_parts}
 use Rattle.zst_names.specs.Names.{is_component_byte, IsComponent, parts}
 use Rattle.zst_names.specs.Rest.{fits_component, IsTail, AreLastParts, IsDatasetRest}
 
@@ -12,18 +13,13 @@ tail_of_component text h = record { some = omega (arith, h.some); short = omega 
 pub component_of_tail : (text : List ℕ) → IsTail 0 text → IsComponent text
 component_of_tail text h = record { some = omega (arith, h.some); short = omega (arith, h.short); bytes = h.bytes; first = h.first refl }
 
--- `and` of tests
-pub both_true : (a b : Bool) → (a && b) ≡ true → (a ≡ true) × (b ≡ true)
-both_true true b h = (refl, h)
-both_true false b h = cc
-
 pub true_and : (a b : Bool) → a ≡ true → b ≡ true → (a && b) ≡ true
 true_and a b h k = rw (h, k) refl
 
 -- a byte may stand where it fits
 pub fits_tail : (used byte : ℕ) (text : List ℕ) → IsTail used (byte ∷ text) → fits_component used byte ≡ true
 fits_tail used byte text h =
-    let bytes = both_true (is_component_byte byte) (list_all is_component_byte text) h.bytes in
+    let bytes = and_parts (is_component_byte byte) (list_all is_component_byte text) h.bytes in
     let room : used < 64 = omega (arith, h.short) in
     let first : used ≡ 0 → byte ≢ 45 = h.first in
     let good : is_component_byte byte ≡ true = bytes.0 in
@@ -32,7 +28,7 @@ fits_tail used byte text h =
 -- which leaves room for it
 pub fits_short : (used byte : ℕ) → fits_component used byte ≡ true → used < 64
 fits_short used byte h =
-    let room : nat_lt used 64 ≡ true = (both_true (nat_lt used 64) (is_component_byte byte && (nat_lt 0 used || not (byte == 45))) h).0 in
+    let room : nat_lt used 64 ≡ true = (and_parts (nat_lt used 64) (is_component_byte byte && (nat_lt 0 used || not (byte == 45))) h).0 in
     grind (arith, nat_tests)
 
 pub tail_after : (used byte : ℕ) (text : List ℕ) → IsTail used (byte ∷ text) → IsTail (used + 1) text
@@ -40,14 +36,14 @@ tail_after used byte text h =
     record {
       some = omega arith;
       short = omega (arith, h.short);
-      bytes = (both_true (is_component_byte byte) (list_all is_component_byte text) h.bytes).1;
+      bytes = (and_parts (is_component_byte byte) (list_all is_component_byte text) h.bytes).1;
       first = λ e. absurd (omega (arith, e));
     }
 
 pub tail_before : (used byte : ℕ) (text : List ℕ) → fits_component used byte ≡ true → IsTail (used + 1) text → IsTail used (byte ∷ text)
 tail_before used byte text f h =
-    let outer = both_true (nat_lt used 64) (is_component_byte byte && (nat_lt 0 used || not (byte == 45))) f in
-    let inner = both_true (is_component_byte byte) (nat_lt 0 used || not (byte == 45)) outer.1 in
+    let outer = and_parts (nat_lt used 64) (is_component_byte byte && (nat_lt 0 used || not (byte == 45))) f in
+    let inner = and_parts (is_component_byte byte) (nat_lt 0 used || not (byte == 45)) outer.1 in
     let last : (nat_lt 0 used || not (byte == 45)) ≡ true = inner.1 in
     record {
       some = omega arith;

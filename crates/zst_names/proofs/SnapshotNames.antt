@@ -1,10 +1,10 @@
 -- How long a snapshot's name is, and which bytes it has.
-use Rattle.std.proofs.Common.{◌≡◌, ℕ, ◌+◌, ◌^◌, ◌<◌, ◌≤◌, true, List, [], ◌∷◌, ◌++◌, length, sym, ap, subst, inl, inr, arith, length-append}
+use Rattle.std.proofs.Common.{◌≡◌, ℕ, ◌^◌, ◌<◌, ◌≤◌, true, List, [], ◌∷◌, length, sym, ap, subst, inl, inr, arith, length-append}
 use Rattle.std.proofs.lemmas.Bool.Decides.{eqb_tells, nat_tests}
 use Rattle.std.proofs.lemmas.List.Elements.{All-nil, All-cons, All-append, recursion_from_All}
 use Rattle.std.specs.List.{AllByRecursion, list_all, All}
-use Rattle.zst_names.specs.Names.{is_component_byte, IsComponent, IsDataset, IsSnapshot, parts, dataset_of, component_of}
-use Rattle.zst_names.proofs.Parts.{both_true}
+use Rattle.std.proofs.lemmas.Bool.{and_parts}
+use Rattle.zst_names.specs.Names.{is_component_byte, IsComponent, IsSnapshot, parts, dataset_of, component_of}
 use Rattle.zst_names.proofs.MarkedNames.{IsPlain, joined, plain_parts, plain_onto}
 
 -- a byte that isn't 0
@@ -18,7 +18,7 @@ component_byte byte h = grind (arith, nat_tests)
 component_bytes : (text : List ℕ) → list_all is_component_byte text ≡ true → All IsTextByte text
 component_bytes [] h = All-nil IsTextByte
 component_bytes (byte ∷ text) h =
-    let both = both_true (is_component_byte byte) (list_all is_component_byte text) h in
+    let both = and_parts (is_component_byte byte) (list_all is_component_byte text) h in
     All-cons IsTextByte byte text (component_byte byte both.0) (component_bytes text both.1)
 
 dataset_bytes : (text : List ℕ) → AllByRecursion IsPlain (parts text) → All IsTextByte text

@@ -9,8 +9,9 @@ use Rattle.std.proofs.lemmas.Str.{IsUtf8-from_ascii}
 use Rattle.std.proofs.lemmas.Str.Ascii.{IsAscii-from_all}
 use Rattle.std.specs.List.{All, list_all, position_or_len}
 use Rattle.std.specs.Str.{IsUtf8}
-use Rattle.zst_names.proofs.Parts.{both_true}
+use Rattle.std.proofs.lemmas.Bool.{and_parts}
 use Rattle.zst_names.specs.Names.{is_component_byte, IsComponent, StopsAt}
+use Rattle.zst_names.proofs.ComponentBytes.{low_byte}
 use Rattle.zst_plan.specs.RecvPlan.{component_stop, is_component}
 
 -- a byte that no component has
@@ -34,7 +35,7 @@ none_past : (text : List ℕ) (q : ℕ) (rest : List ℕ) → q ≤ length text 
 none_past text zero rest le all = omega arith
 none_past [] (suc q) rest le all = absurd (omega (arith, le))
 none_past (byte ∷ text) (suc q) rest le all =
-    let both = both_true (is_component_byte byte) (list_all is_component_byte (take q text ++ rest)) all in
+    let both = and_parts (is_component_byte byte) (list_all is_component_byte (take q text ++ rest)) all in
     let further = none_past text q rest (omega (arith, le)) both.1 in
     rw both.0 (omega (arith, further))
 
@@ -109,14 +110,10 @@ stops_there text place at = elim at.stops [
 ]
 
 -- its bytes are ASCII
-low_byte : (byte : ℕ) → is_component_byte byte ≡ true → byte < 128
-unfolding is_component_byte
-low_byte byte passes = grind (arith, nat_tests)
-
 low_bytes : (text : List ℕ) → list_all is_component_byte text ≡ true → All (λ byte. byte < 128) text
 low_bytes [] all = All-nil (λ byte. byte < 128)
 low_bytes (byte ∷ text) all =
-    let both = both_true (is_component_byte byte) (list_all is_component_byte text) all in
+    let both = and_parts (is_component_byte byte) (list_all is_component_byte text) all in
     All-cons (λ byte. byte < 128) byte text (low_byte byte both.0) (low_bytes text both.1)
 
 pub is_text : (text : List ℕ) → IsComponent text → IsUtf8 text

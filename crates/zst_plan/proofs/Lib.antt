@@ -10,3 +10,4 @@ mod FirstPlaces
 mod TextMarks
 mod ReceiveChecks
 mod ContainedBases
+pub mod AlikeAnswers

@@ -4,7 +4,7 @@ use Rattle.std.specs.List.{find, position}
 use Rattle.std.proofs.lemmas.List.{get_or_default}
 use Rattle.std.proofs.lemmas.List.Quantifiers.{position-Some}
 use Rattle.zst_dir.specs.RowNames.{Match}
-use Rattle.zst_dir.proofs.Matches.{find-Match, is_some-position, list_any-Match, Match-alike}
+use Rattle.zst_dir.proofs.Matches.{find-Match, is_some-position, list_any-Match}
 use Rattle.std.specs.Borrow.{Bor}
 use Rattle.std.specs.Option.{IsSomeAnd, MatchOption, ok_or, option_map_or}
 use Rattle.std.specs.Result.{IsErrAnd}
@@ -24,13 +24,7 @@ use Rattle.zst_model.specs.states.AppliedItems.{◌>>=◌}
 use Rattle.zst_plan.specs.Places.{AnswerAlike, FindAlike, StandsAt}
 use Rattle.zst_plan.specs.Sources.{FoundBookmark, FoundDataset, FoundSnapshot, IsSource}
 use Rattle.zst_plan.specs.declared.source.Source.TheVariants as sources
-
--- what a place has stands for what stands there in the other list
-pub at_names : {A B : Type 0} (Is : A → B → Type 0) (rows : List A) (others : List B) (place : ℕ) (row : A) (other : B)
-    → Match Is rows others → StandsAt rows others place other → row ≡ get_or rows place row → Is row other
-at_names {A = A} Is rows others place row other m at is =
-    let same : at.row ≡ row = sym at.is_there ∙ get_or_default rows place at.row row at.below ∙ sym is in
-    subst (λ (r : A). Is r other) same (Match-alike Is rows others at.row other m at.alike)
+use Rattle.zst_plan.proofs.AlikeAnswers.{at_names}
 
 -- what the look-ups in both lists find
 pub both_find : {A B : Type 0} (Is : A → B → Type 0) (p : A → Bool) (q : B → Bool) → ((x : A) (y : B) → Is x y → p x ≡ q y)
@@ -50,15 +44,6 @@ both_find {A = A} {B = B} Is p q same (row ∷ rows) others m (Some place) is =
       is_there = get_or_default (row ∷ rows) place (get_or (row ∷ rows) place row) row below;
       alike = found.2;
     })
-
--- what is found where nothing is, and where something is
-pub none_alike : {A B : Type 0} (Is : A → B → Type 0) (other : Option B) → FindAlike Is None other → other ≡ None
-none_alike Is None alike = refl
-none_alike Is (Some y) alike = absurd alike
-
-pub some_alike : {A B : Type 0} (Is : A → B → Type 0) (x : A) (other : Option B) → FindAlike Is (Some x) other → (y : B) × (other ≡ Some y) × Is x y
-some_alike Is x None alike = absurd alike
-some_alike Is x (Some y) alike = (y, refl, alike)
 
 -- so an answer that is refused where nothing is found
 pub answers_alike : {A B E : Type 0} (Is : A → B → Type 0) (found : Option A) (other : Option B) (fault : E) → FindAlike Is found other

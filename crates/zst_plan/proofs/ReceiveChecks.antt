@@ -1,16 +1,16 @@
 -- The checks of a receive, one after another.
-use Rattle.std.proofs.Common.{◌||◌, ◌≡◌, ℕ, ◌+◌, ◌<◌, Bool, true, false, not, ◌&&◌, ◌==◌, nat_lt, List, length, Option, Some, None, is_some, option_map, Result, Ok, Err, if◌then◌else◌, refl, sym, ap, ◌∙◌, subst, arith}
-use Rattle.std.specs.Prelude.{IsErrAnd}
-use Rattle.std.specs.List.{find, position, count_by}
-use Rattle.std.specs.Option.{is_none, ok_or, option_map_or}
+use Rattle.std.proofs.Common.{◌||◌, ◌≡◌, ℕ, ◌+◌, ◌<◌, Bool, true, false, not, ◌&&◌, ◌==◌, nat_lt, List, length, Option, Some, None, is_some, option_map, Result, Ok, Err, if◌then◌else◌, refl, sym, ap, ◌∙◌, arith}
+use Rattle.std.specs.List.{find, position}
+use Rattle.std.specs.Option.{ok_or, option_map_or}
 use Rattle.std.specs.Str.{bytes_eq}
 use Rattle.std.proofs.lemmas.Bool.Decides.{nat_tests}
-use Rattle.zst_dir.proofs.Matches.{FoundAlike, count_by-Match, found-Match, is_some-position, length-Match, list_any-Match}
-use Rattle.zst_dir.specs.RowNames.{AreNamed, NamesBookmark, NamesDataset, NamesPartial, NamesSnapshot}
+use Rattle.zst_dir.proofs.Matches.{FoundAlike, found-Match, length-Match}
+use Rattle.zst_dir.specs.RowNames.{AreNamed, NamesBookmark, NamesPartial, NamesSnapshot}
 use Rattle.zst_dir.specs.Rows.{Rows}
 use Rattle.zst_dir.specs.declared.rows.Bookmark.{Bookmark}
 use Rattle.zst_dir.specs.declared.rows.Dataset.{Dataset}
 use Rattle.zst_dir.specs.declared.rows.Snapshot.{Snapshot}
+use Rattle.zst_dir.proofs.NamedRows.{dataset_is_there}
 use Rattle.zst_model.specs.declared.refusals.faults.Quantity.TheVariants as quantities
 use Rattle.zst_model.specs.declared.refusals.subjects.Holder.TheVariants as holders
 use Rattle.zst_model.specs.declared.refusals.subjects.Name.TheVariants as names
@@ -19,28 +19,16 @@ use Rattle.zst_model.specs.declared.refusals.plan_fault.PlanFault.{PlanFault}
 use Rattle.zst_model.specs.declared.refusals.plan_fault.PlanFault.TheVariants as plans
 use Rattle.zst_model.specs.declared.sends.header.Header.{Header}
 use Rattle.zst_model.specs.pools.Limits.{most_datasets, most_partials, most_snapshots}
-use Rattle.zst_model.specs.pools.Pool.{Pool, dataset_named, dataset_of_bookmark, partial_of, snapshot_named}
+use Rattle.zst_model.specs.pools.Pool.{Pool, dataset_of_bookmark, partial_of, snapshot_named}
 use Rattle.zst_model.specs.pools.Pool as plain
 use Rattle.zst_model.specs.pools.Step.{count_datasets}
 use Rattle.zst_model.specs.states.AppliedItems.{unless, ◌>>=◌}
 use Rattle.zst_names.specs.Names.{dataset_of}
-use Rattle.zst_plan.specs.Places.{AnswerAlike, FindAlike, StandsAt}
+use Rattle.zst_plan.specs.Places.{FindAlike, StandsAt}
 use Rattle.zst_plan.specs.Receipts.{TellsHead, latest_date}
 use Rattle.zst_plan.specs.RecvPlan.{Base, RecvPlan, Resumes, Begins, base_by_guid, base_by_head, base_onto, cloned_base, find_latest, fresh_plan, goes_on, if_contained, if_increment, if_kind, if_new, if_room, if_source, if_within, is_dated_after, is_full, is_resumed, new_datasets, recv_plan, component_for, resumed_plan, rolled_back, snapshot_name, wrong_resume}
 use Rattle.zst_plan.specs.declared.receive.RecvAsk.{RecvAsk}
-use Rattle.zst_plan.proofs.SendChecks.{both_refuse, err_is}
 use Rattle.zst_plan.proofs.LookupLemmas.{both_find}
-
--- an answer that refuses, one that doesn't, and one that is handed on
-pub refuses : {A B E : Type 0} (Is : A → B → Type 0) (result : Result A E) (definition : Result B E) (fault : E) → IsErrAnd result (λ e. e ≡ fault) → definition ≡ Err fault
-    → AnswerAlike Is result definition
-refuses Is result definition fault refused defined = both_refuse Is result definition fault (err_is result fault refused) defined
-
-pub answers : {A B E : Type 0} (Is : A → B → Type 0) (x : A) (y : B) (definition : Result B E) → definition ≡ Ok y → Is x y → AnswerAlike Is (Ok x) definition
-answers Is x y definition defined is = subst (AnswerAlike Is (Ok x)) (sym defined) is
-
-pub hands_on : {A B E : Type 0} (Is : A → B → Type 0) (result : Result A E) (definition next : Result B E) → definition ≡ next → AnswerAlike Is result next → AnswerAlike Is result definition
-hands_on Is result definition next defined alike = subst (AnswerAlike Is result) (sym defined) alike
 
 -- a base without a rollback
 abbrev pub unrolled : Option plain.Snapshot → Base
@@ -114,36 +102,13 @@ module _ (rows : Rows) (pool : Pool) (are : AreNamed rows pool) where
       both_find NamesPartial (λ partial. bytes_eq partial.target name) (λ partial. bytes_eq partial.target name) (λ x y names. ap (λ n. bytes_eq n name) (sym names.target))
       rows.partials pool.partials are.partials place is
 
-  -- whether a snapshot is there
-  pub snapshot_is_there : (name : List ℕ) → is_some (position (λ snapshot. bytes_eq snapshot.name name) rows.snapshots) ≡ is_some (snapshot_named name pool)
-  snapshot_is_there name =
-      is_some-position (λ (snapshot : Snapshot). bytes_eq snapshot.name name) rows.snapshots
-      ∙ list_any-Match NamesSnapshot (λ snapshot. bytes_eq snapshot.name name) (λ snapshot. bytes_eq snapshot.name name)
-      (λ x y is. ap (λ n. bytes_eq n name) (sym is.name)) rows.snapshots pool.snapshots are.snapshots
-
-  dataset_is_there : (name : List ℕ) → is_some (position (λ dataset. bytes_eq dataset.name name) rows.datasets) ≡ is_some (dataset_named name pool)
-  dataset_is_there name =
-      is_some-position (λ (dataset : Dataset). bytes_eq dataset.name name) rows.datasets
-      ∙ list_any-Match NamesDataset (λ dataset. bytes_eq dataset.name name) (λ dataset. bytes_eq dataset.name name)
-      (λ x y is. ap (λ n. bytes_eq n name) (sym is.name)) rows.datasets pool.datasets are.datasets
-
   pub is_newly_made : (name : List ℕ) (place : Option ℕ) → place ≡ position (λ dataset. bytes_eq dataset.name name) rows.datasets
       → (if is_some place then 0 else 1) ≡ new_datasets name pool
-  is_newly_made name place is = ap (λ o. if is_some o then 0 else 1) is ∙ ap (λ b. if b then 0 else 1) (dataset_is_there name)
+  is_newly_made name place is = ap (λ o. if is_some o then 0 else 1) is ∙ ap (λ b. if b then 0 else 1) (dataset_is_there rows pool are name)
 
   -- counts
-  pub partials_are_counted : length rows.partials ≡ length pool.partials
-  partials_are_counted = length-Match NamesPartial rows.partials pool.partials are.partials
-
   pub snapshots_are_counted : length rows.snapshots ≡ length pool.snapshots
   snapshots_are_counted = length-Match NamesSnapshot rows.snapshots pool.snapshots are.snapshots
-
-  pub datasets_are_counted : (absent : ℕ) → absent ≡ count_by (λ partial. is_none (position (λ dataset. bytes_eq dataset.name partial.target) rows.datasets)) rows.partials
-      → length rows.datasets + absent ≡ count_datasets pool
-  datasets_are_counted absent is =
-      ap (λ n. n + absent) (length-Match NamesDataset rows.datasets pool.datasets are.datasets)
-      ∙ ap (λ n. length pool.datasets + n) (is ∙ count_by-Match NamesPartial (λ partial. is_none (position (λ dataset. bytes_eq dataset.name partial.target) rows.datasets)) (λ partial. not (is_some (dataset_named partial.target pool)))
-      (λ x y is. ap not (dataset_is_there x.target ∙ ap (λ n. is_some (dataset_named n pool)) (sym is.target))) rows.partials pool.partials are.partials)
 
 -- the name
 pub is_taken : (name : List ℕ) (pool : Pool) (rest : Result RecvPlan PlanFault) (there : Bool) → there ≡ is_some (snapshot_named name pool)

@@ -8,6 +8,7 @@ use Rattle.zst_model.specs.pools.Pool.{Pool, Bookmark, Snapshot}
 use Rattle.zst_model.specs.sends.Headers.{Sent}
 use Rattle.zst_model.specs.sends.SendPlan.{find_redaction, find_snapshot, find_source, if_no_relay, if_redaction, kind_of, send_plan, sent_of}
 use Rattle.zst_model.specs.states.AppliedItems.{◌>>=◌}
+use Rattle.zst_model.proofs.Results.{err_is}
 use Rattle.zst_dir.specs.Rows.{Rows}
 use Rattle.zst_plan.specs.Places.{AnswerAlike, FindAlike, StandsAt}
 use Rattle.zst_plan.specs.Plans.{IsPlanOf}
@@ -15,27 +16,8 @@ use Rattle.zst_plan.specs.ResumePlan.{find_from, find_marked, find_to, resumed_s
 use Rattle.zst_plan.specs.Sources.{IsSource}
 use Rattle.zst_plan.specs.declared.plan.SendPlan.{SendPlan}
 use Rattle.zst_plan.specs.declared.source.Source as found
+use Rattle.zst_plan.proofs.AlikeAnswers.{ok_alike, err_alike, both_refuse}
 use Rattle.zst_token.specs.declared.token.Token.{Token}
-
--- a refusal that was handed on
-pub err_is : {T E : Type 0} (result : Result T E) (fault : E) → IsErrAnd result (λ e. e ≡ fault) → result ≡ Err fault
-err_is (Ok x) fault h = absurd h
-err_is (Err e) fault h = ap (λ f. Err f) h
-
--- what answers alike found and refused
-pub ok_alike : {A B E : Type 0} (Is : A → B → Type 0) (x : A) (r : Result B E) → AnswerAlike Is (Ok x) r → (y : B) × (r ≡ Ok y) × Is x y
-ok_alike Is x (Ok y) alike = (y, refl, alike)
-ok_alike Is x (Err fault) alike = absurd alike
-
-pub err_alike : {A B E : Type 0} (Is : A → B → Type 0) (fault : E) (r : Result B E) → AnswerAlike Is (Err fault) r → r ≡ Err fault
-err_alike Is fault (Ok y) alike = absurd alike
-err_alike Is fault (Err other) alike = ap (λ f. Err f) (sym alike)
-
--- both refuse the same
-pub both_refuse : {A B E : Type 0} (Is : A → B → Type 0) (result : Result A E) (definition : Result B E) (fault : E) → result ≡ Err fault → definition ≡ Err fault
-    → AnswerAlike Is result definition
-both_refuse Is result definition fault refused defined =
-    subst (λ r. AnswerAlike Is r definition) (sym refused) (subst (λ d. AnswerAlike Is (Err fault) d) (sym defined) refl)
 
 -- what is sent where all checks pass, and what is left of them after each
 abbrev pub the_sent : Pool → Snapshot → Option Source → Option Bookmark → Sent

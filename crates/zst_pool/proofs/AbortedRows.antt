@@ -5,14 +5,14 @@ use Rattle.zst_model.specs.declared.refusals.refusal.Refusal.{Refusal}
 use Rattle.zst_model.specs.pools.Pool.{Pool, partial_of}
 use Rattle.zst_model.specs.pools.Pool as plain
 use Rattle.zst_model.specs.pools.Step.{Stepped, no_partial, or_else, without_partial}
+use Rattle.zst_model.proofs.Options.{none_there, there_is}
 use Rattle.zst_tree.specs.Indices.{Blocks}
 use Rattle.zst_dir.specs.RowNames.{AreNamed}
 use Rattle.zst_dir.specs.Rows.{Rows}
 use Rattle.zst_image.specs.Reads.{PartialIs, RunsBy}
 use Rattle.zst_pool.specs.Lineage.{if_partial, rows_without_partial}
 use Rattle.zst_dir.proofs.Matches.{filter-Match}
-use Rattle.zst_pool.proofs.DestroyedRows.{there_is}
-use Rattle.zst_pool.proofs.CheckLemmas.{none_there, partial_is_there}
+use Rattle.zst_pool.proofs.CheckLemmas.{partial_is_there}
 
 module _ (rows : Rows) (pool : Pool) (are : AreNamed rows pool) (target : List ℕ) (rest : Result Stepped Refusal) where
   -- a partial state that is absent, and one that is there

@@ -1,9 +1,9 @@
 -- What is known of sets up to a number is known up to each later one.
-use Rattle.std.proofs.Common.{ℕ, ◌≤◌, Bool, true, false, arith}
+use Rattle.std.proofs.Common.{ℕ, ◌≤◌, Bool, true, false}
 use Rattle.zst_model.specs.states.DatedState.{DatedState}
-use Rattle.zst_model.specs.pools.Soundness.{DatedUpTo}
 use Rattle.zst_model.specs.pools.Pool.{Pool}
 use Rattle.zst_model.specs.pools.Pool as plain
+use Rattle.zst_model.proofs.DatedStates.{dated_higher}
 use Rattle.zst_tree.specs.Indices.{Blocks}
 use Rattle.zst_tree.specs.declared.tree.ObjSet.{ObjSet}
 use Rattle.zst_dir.specs.Rows.{Rows}
@@ -13,19 +13,12 @@ use Rattle.zst_dir.specs.declared.rows.Partial.{Partial}
 use Rattle.zst_image.specs.Reads.{DatasetIs, SnapshotIs, PartialIs, RunsBy, SetIs, bound_of}
 use Rattle.zst_image.proofs.Growth.{Match-weaker}
 
--- dates up to a number are up to each later one
-dated_later : (number more : ℕ) → number ≤ more → (state : DatedState) → DatedUpTo number state → DatedUpTo more state
-dated_later number more later state dated = record {
-  numbers = λ k. omega (arith, dated.numbers k);
-  indices = λ k i. omega (arith, dated.indices k i);
-}
-
 module _ (tight : Bool) (number more : ℕ) (later : number ≤ more) (has : Blocks) where
   pub SetIs-later : (set : ObjSet) (state : DatedState) → SetIs (bound_of tight number) has set state → SetIs (bound_of tight more) has set state
   SetIs-later set state is = go tight is
     where
       go : (b : Bool) → SetIs (bound_of b number) has set state → SetIs (bound_of b more) has set state
-      go true is = (is.0, dated_later number more later state is.1)
+      go true is = (is.0, dated_higher number more later state is.1)
       go false is = is
 
   DatasetIs-later : (row : Dataset) (dataset : plain.Dataset) → DatasetIs (bound_of tight number) has row dataset → DatasetIs (bound_of tight more) has row dataset

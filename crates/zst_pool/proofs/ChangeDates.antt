@@ -1,6 +1,6 @@
 -- What is known of a set stays known when it is changed.
 use Rattle.std.specs.Prelude.{Result, Ok, Err}
-use Rattle.std.proofs.Common.{◌≡◌, ℕ, ◌+◌, ◌*◌, ◌≤◌, nat_lt, if◌then◌else◌, Bool, true, false, List, Some, ap, subst, arith}
+use Rattle.std.proofs.Common.{◌≡◌, ℕ, ◌+◌, ◌*◌, nat_lt, Bool, true, false, List, Some, ap}
 use Rattle.zst_model.specs.declared.refusals.apply_fault.ApplyFault.{ApplyFault}
 use Rattle.zst_model.specs.declared.refusals.faults.Quantity.{Quantity}
 use Rattle.zst_model.specs.declared.refusals.faults.Quantity.TheVariants as quantities
@@ -12,9 +12,9 @@ use Rattle.zst_model.specs.declared.states.item.Item.{Item}
 use Rattle.zst_model.specs.declared.states.item.Item.TheVariants.{At, FreeObjects}
 use Rattle.zst_model.specs.pools.Soundness.{DatedUpTo}
 use Rattle.zst_model.specs.pools.Step.{in_indices, limited, of_applying}
-use Rattle.zst_model.specs.states.AppliedItems.{◌>>=◌, apply, unless}
-use Rattle.zst_model.specs.states.DatedState.{DatedState, apply_dated, size_at, touches_index, touches_number}
-use Rattle.zst_model.specs.states.State.{State, index_bound, number_bound}
+use Rattle.zst_model.specs.states.AppliedItems.{◌>>=◌, unless}
+use Rattle.zst_model.specs.states.DatedState.{DatedState, apply_dated, size_at}
+use Rattle.zst_model.specs.states.State.{index_bound, number_bound}
 use Rattle.zst_tree.specs.Indices.{Blocks}
 use Rattle.zst_tree.specs.declared.tree.ObjSet.{ObjSet}
 use Rattle.zst_objset.specs.Answers.{Changes}
@@ -23,6 +23,7 @@ use Rattle.zst_objset.specs.Sets.{SetHolds}
 use Rattle.zst_objset.specs.TightSets.{SetIsTight}
 use Rattle.zst_objset.specs.declared.fault.ObjFault.{ObjFault}
 use Rattle.zst_image.specs.Reads.{SetIs, bound_of}
+use Rattle.zst_laws.proofs.histories.Agreement.{dated_on}
 
 -- a definition of the commit of this number gives no date above it
 abbrev pub KeepsDated : ℕ → DatedState → Result DatedState Refusal → Type 0
@@ -41,34 +42,8 @@ limited_ok which most quantity rest after is = go (nat_lt most quantity) is
     go true is = absurd (cc)
     go false is = is
 
--- an item dates what it touches with the commit's number
-item_dated : (number : ℕ) (item : Item) (state after : DatedState) → apply_dated number item state ≡ Ok after → DatedUpTo number state → DatedUpTo number after
-item_dated number item state after is dated = go (apply item state.state) is
-  where
-    date : (b : Bool) (old : ℕ) → old ≤ number → (if b then number else old) ≤ number
-    date true old early = omega arith
-    date false old early = early
-
-    go : (r : Result State ApplyFault) → (r >>= λ made. Ok (record {
-      state = made;
-      number_date = λ k. if touches_number item k then number else state.number_date k;
-      index_date = λ k i. if touches_index item state.state k i then number else state.index_date k i;
-    })) ≡ Ok after → DatedUpTo number after
-    go (Ok made) is =
-        let next : DatedState = record {
-          state = made;
-          number_date = λ k. if touches_number item k then number else state.number_date k;
-          index_date = λ k i. if touches_index item state.state k i then number else state.index_date k i;
-        } in
-        let same : next ≡ after = cc in
-        subst (DatedUpTo number) same (record {
-          numbers = λ k. date (touches_number item k) (state.number_date k) (dated.numbers k);
-          indices = λ k i. date (touches_index item state.state k i) (state.index_date k i) (dated.indices k i);
-        })
-    go (Err fault) is = absurd (cc)
-
 changed_dated : (number : ℕ) (item : Item) (state : DatedState) → KeepsDated number state (changed number item state)
-changed_dated number item state after is dated = item_dated number item state after (applied_ok (apply_dated number item state) after is) dated
+changed_dated number item state after is dated = dated_on number item state after (applied_ok (apply_dated number item state) after is) dated
 
 pub put_dated : (number k : ℕ) (head : ObjectHead) (bonus : List ℕ) (keep_spill : Bool) (state : DatedState) → KeepsDated number state (object_put number k head bonus keep_spill state)
 put_dated number k head bonus keep_spill state after is dated =

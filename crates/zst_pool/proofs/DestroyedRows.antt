@@ -3,7 +3,7 @@ use Rattle.std.specs.Prelude.{Ok, Err, Result, option_map, find}
 use Rattle.std.proofs.Common.{◌≡◌, Bool, true, false, cond, ◌&&◌, ◌||◌, ℕ, List, [], ◌∷◌, Option, Some, None, is_some, refl, sym, ap, ◌∙◌}
 use Rattle.std.specs.List.{All, filter, list_any, position}
 use Rattle.std.specs.Str.{bytes_eq}
-use Rattle.std.proofs.lemmas.Bool.{true≢false}
+use Rattle.std.proofs.lemmas.Bool.{or_parts}
 use Rattle.std.proofs.lemmas.List.Elements.{All-nil, All-cons, All-weaker}
 use Rattle.zst_model.proofs.OrderLaws.{bytes_same, same_bytes}
 use Rattle.zst_names.specs.Names.{dataset_of}
@@ -13,6 +13,8 @@ use Rattle.zst_model.specs.declared.refusals.refusal.Refusal.{Refusal}
 use Rattle.zst_model.specs.pools.Pool.{Pool, bookmark_named, dataset_named, snapshot_named}
 use Rattle.zst_model.specs.pools.Pool as plain
 use Rattle.zst_model.specs.pools.Step.{busy_clone, busy_partial, committed, is_of, is_one_of, no_such, or_else, unless_there, unless_used, with_destroyed}
+use Rattle.zst_model.proofs.Options.{none_there, there_is}
+use Rattle.zst_model.proofs.FoundElements.{found_passes}
 use Rattle.zst_dir.specs.Removal.{AreUnused, names_going, takes_snapshot}
 use Rattle.zst_dir.specs.Rows.{Rows}
 use Rattle.zst_dir.specs.declared.removal.Removal.{Removal}
@@ -23,8 +25,8 @@ use Rattle.zst_dir.specs.declared.rows.Partial.{Partial}
 use Rattle.zst_dir.specs.declared.rows.Snapshot.{Snapshot}
 use Rattle.zst_dir.specs.RowNames.{AreNamed, Match, NamesBookmark, NamesDataset, NamesPartial, NamesSnapshot}
 use Rattle.zst_pool.specs.Lineage.{AreGoing, FindsGoing, going_of, is_on, is_there, pool_without}
-use Rattle.zst_pool.proofs.CheckLemmas.{dataset_is_there, none_there, snapshot_is_there}
 use Rattle.zst_dir.proofs.Matches.{FoundAlike, any_is_found, found-Match, is_some-position, list_any-Match, list_any-filter}
+use Rattle.zst_dir.proofs.NamedRows.{snapshot_is_there, dataset_is_there}
 
 -- what is refused for what is there is refused for its name
 pub told : {A B : Type 0} (refusal : List ℕ → Refusal) (name_of : A → List ℕ) (o : Option A) (rest : Result B Refusal)
@@ -63,20 +65,6 @@ finds_none p (x ∷ xs) fails = ap (λ b. cond b (Some x) (find p xs)) (fails x)
 pub any_none : {A : Type 0} (p : A → Bool) (xs : List A) → ((x : A) → p x ≡ false) → list_any p xs ≡ false
 any_none p [] fails = refl
 any_none p (x ∷ xs) fails = ap (λ b. b || list_any p xs) (fails x) ∙ any_none p xs fails
-
--- what is found passes
-pub found_passes : {A : Type 0} (p : A → Bool) (xs : List A) (x : A) → find p xs ≡ Some x → p x ≡ true
-found_passes p [] x found = absurd (cc)
-found_passes p (y ∷ ys) x found = go (p y) refl (found_passes p ys x) found
-  where
-    go : (t : Bool) → p y ≡ t → (find p ys ≡ Some x → p x ≡ true) → cond t (Some y) (find p ys) ≡ Some x → p x ≡ true
-    go true e rest is = let same : y ≡ x = cc in ap p (sym same) ∙ e
-    go false e rest is = rest is
-
--- what is there
-pub there_is : {A : Type 0} (o : Option A) → is_some o ≡ true → (x : A) × (o ≡ Some x)
-there_is None some = absurd (true≢false (sym some))
-there_is (Some x) some = (x, refl)
 
 -- a test twice is the test
 any_twice : {A : Type 0} (p : A → Bool) (xs : List A) → list_any (λ x. p x && p x) xs ≡ list_any p xs
@@ -135,7 +123,7 @@ module _ (rows : Rows) (pool : Pool) (are : AreNamed rows pool) where
   one_goes name snapshot found None = refl
   one_goes name snapshot found (Some other) =
       one_named snapshot name other pool.snapshots
-      (same_bytes snapshot.name name (found_passes (λ s. bytes_eq s.name name) pool.snapshots snapshot found))
+      (same_bytes snapshot.name name (found_passes (λ s. bytes_eq s.name name) pool.snapshots snapshot found).1)
       (any_is_found (λ s. bytes_eq s.name name) pool.snapshots ∙ ap is_some found)
       ∙ sym (any-Match NamesSnapshot (λ s. bytes_eq s.name name && bytes_eq s.name other) (λ s. bytes_eq s.name name && bytes_eq s.name other)
       (λ x y is. ap (λ n. bytes_eq n name && bytes_eq n other) (sym is.name)) rows.snapshots pool.snapshots are.snapshots)
@@ -206,16 +194,12 @@ partial_by_rows going rows = option_map (λ partial. partial.target) (find (λ p
 abbrev pub clone_by_rows : Removal → Rows → Option (List ℕ)
 clone_by_rows going rows = option_map (λ dataset. dataset.name) (find (λ dataset. names_going going rows dataset.origin) rows.datasets)
 
-or_right : (a b : Bool) → (a || b) ≡ false → b ≡ false
-or_right true b h = absurd (true≢false h)
-or_right false b h = h
-
 -- where nothing does, nothing that goes is used
 pub nothing_holds : (going : Removal) (rows : Rows) → partial_by_rows going rows ≡ None → clone_by_rows going rows ≡ None → AreUnused going rows
 nothing_holds going rows no_partial no_clone = record {
   origins = none_found (λ (dataset : Dataset). dataset.name) (λ dataset. names_going going rows dataset.origin) rows.datasets no_clone;
   bases =
       All-weaker (λ (partial : Partial). (is_on going partial.target || names_going going rows partial.base) ≡ false) (λ partial. names_going going rows partial.base ≡ false)
-      (λ partial h. or_right (is_on going partial.target) (names_going going rows partial.base) h) rows.partials
+      (λ partial h. (or_parts (is_on going partial.target) (names_going going rows partial.base) h).1) rows.partials
       (none_found (λ (partial : Partial). partial.target) (λ partial. is_on going partial.target || names_going going rows partial.base) rows.partials no_partial);
 }

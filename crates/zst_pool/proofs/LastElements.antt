@@ -5,6 +5,7 @@ use Rattle.std.proofs.lemmas.List.{take_all, take_more}
 use Rattle.std.proofs.lemmas.List.Elements.{All-head, All-tail}
 use Rattle.zst_pool.specs.Partials.{last_from, last_where}
 use Rattle.zst_dir.specs.RowNames.{Match}
+use Rattle.zst_dir.proofs.Matches.{FoundAlike}
 
 -- one more element is the last where it passes
 last_from-more : {A : Type 0} (test : A → Bool) (found : Option A) (xs : List A) (x : A) → last_from test found (xs ++ x ∷ []) ≡ (if test x then Some x else last_from test found xs)
@@ -39,26 +40,19 @@ last_from-holds {A = A} P test found (x ∷ xs) is all = last_from-holds P test 
 pub last-holds : {A : Type 0} (P : A → Type 0) (test : A → Bool) (xs : List A) → All P xs → IfSome (last_where test xs) P
 last-holds P test xs all = last_from-holds P test None xs tt all
 
--- what may match
-abbrev pub MatchIf : {A B : Type 0} → (A → B → Type 0) → Option A → Option B → Type 0
-MatchIf Is None None = Unit {0}
-MatchIf Is None (Some y) = ⊥
-MatchIf Is (Some x) None = ⊥
-MatchIf Is (Some x) (Some y) = Is x y
-
-last_from-Match : {A B : Type 0} (Is : A → B → Type 0) (p : A → Bool) (q : B → Bool) → ((x : A) (y : B) → Is x y → p x ≡ q y) → (found : Option A) (there : Option B) → MatchIf Is found there
-    → (xs : List A) (ys : List B) → Match Is xs ys → MatchIf Is (last_from p found xs) (last_from q there ys)
+last_from-Match : {A B : Type 0} (Is : A → B → Type 0) (p : A → Bool) (q : B → Bool) → ((x : A) (y : B) → Is x y → p x ≡ q y) → (found : Option A) (there : Option B) → FoundAlike Is found there
+    → (xs : List A) (ys : List B) → Match Is xs ys → FoundAlike Is (last_from p found xs) (last_from q there ys)
 last_from-Match Is p q same found there is [] [] m = is
 last_from-Match Is p q same found there is [] (y ∷ ys) m = absurd m
 last_from-Match Is p q same found there is (x ∷ xs) [] m = absurd m
 last_from-Match {A = A} {B = B} Is p q same found there is (x ∷ xs) (y ∷ ys) m =
     rw (same x y m.0) (last_from-Match Is p q same (if q y then Some x else found) (if q y then Some y else there) (go (q y)) xs ys m.1)
   where
-    go : (t : Bool) → MatchIf Is (if t then Some x else found) (if t then Some y else there)
+    go : (t : Bool) → FoundAlike Is (if t then Some x else found) (if t then Some y else there)
     go true = m.0
     go false = is
 
 -- the last of lists that match
 pub last-Match : {A B : Type 0} (Is : A → B → Type 0) (p : A → Bool) (q : B → Bool) → ((x : A) (y : B) → Is x y → p x ≡ q y) → (xs : List A) (ys : List B) → Match Is xs ys
-    → MatchIf Is (last_where p xs) (last_where q ys)
+    → FoundAlike Is (last_where p xs) (last_where q ys)
 last-Match Is p q same xs ys m = last_from-Match Is p q same None None tt xs ys m

@@ -1,9 +1,9 @@
 -- Lawful rows stand for a lawful pool.
-use Rattle.std.proofs.Common.{inl, inr, ◌⊎◌, ◌≡◌, ◌≢◌, ℕ, zero, suc, ◌<◌, ◌≤◌, ◌^◌, ◌&&◌, ◌||◌, Bool, true, false, List, [], ◌∷◌, ◌++◌, nat_lt, Option, Some, None, IfSome, refl, sym, ap, ◌∙◌, subst, arith}
+use Rattle.std.proofs.Common.{inl, inr, ◌≡◌, ◌≢◌, ℕ, suc, ◌<◌, ◌≤◌, ◌^◌, true, false, List, [], ◌∷◌, ◌++◌, Option, IfSome, refl, sym, ap, ◌∙◌, subst, arith}
 use Rattle.std.specs.List.{All, AllPairs, Contains}
-use Rattle.std.specs.Str.{bytes_eq}
 use Rattle.std.proofs.lemmas.List.Elements.{All-nil, All-cons, All-head, All-tail}
 use Rattle.std.proofs.lemmas.List.Kept.{AllPairs-cons}
+use Rattle.std.proofs.lemmas.Option.{IfSome_then}
 use Rattle.zst_names.specs.Names.{IsDataset, IsSnapshot, IsBookmark, IsComponent, dataset_of}
 use Rattle.zst_model.specs.fields.Guids.{IsGuidSet}
 use Rattle.zst_model.specs.fields.Lists.{IsRunList}
@@ -11,6 +11,7 @@ use Rattle.zst_model.specs.pools.Limits.{last_number, last_guid}
 use Rattle.zst_model.specs.pools.Pool.{Pool, IsPool, IsNamed, IsLinked, IsKind, IsGuid, IsStated, is_before, dataset_of_snapshot}
 use Rattle.zst_model.specs.pools.Pool as plain
 use Rattle.zst_model.specs.states.State.{IsState}
+use Rattle.zst_model.proofs.InsertedLaws.{contains_cases}
 use Rattle.zst_tree.specs.Indices.{Blocks}
 use Rattle.zst_dir.specs.Rows.{Rows, HasDataset, HasSnapshot, IsDatasetRow, IsSnapshotRow, IsBookmarkRow, IsPartialRow, IsLawful}
 use Rattle.zst_dir.specs.Rows as dir_rows
@@ -18,6 +19,7 @@ use Rattle.zst_dir.specs.declared.rows.Snapshot.{Snapshot}
 use Rattle.zst_dir.specs.RowNames.{Match}
 use Rattle.zst_image.specs.Reads.{RunsBy, DatasetIs, SnapshotIs, BookmarkIs, PartialIs}
 use Rattle.zst_image.proofs.OnePool.{SetIs-holds}
+use Rattle.zst_pool.proofs.NextPools.{stands_before}
 
 -- what holds of all rows holds of all that they stand for
 All-Match : {A B : Type 0} (Is : A → B → Type 0) (P : A → Type 0) (Q : B → Type 0) → ((x : A) (y : B) → Is x y → P x → Q y) → (xs : List A) (ys : List B) → Match Is xs ys → All P xs → All Q ys
@@ -37,10 +39,6 @@ AllPairs-Match {A = A} Is R S up (x ∷ xs) (y ∷ ys) m all =
     AllPairs-cons S y ys (All-Match Is (R x) (S y) (λ b d is r. up x b y d m.0 is r) xs ys m.1 first) (AllPairs-Match Is R S up xs ys m.1 rest)
 
 -- a row that is there stands for something that is there
-contains_cases : {A : Type 0} (y : A) (xs : List A) (x : A) → Contains (y ∷ xs) x → (y ≡ x) ⊎ Contains xs x
-contains_cases y xs x (zero, l, e) = inl e
-contains_cases y xs x (suc k, l, e) = inr (k, omega (arith, l), e)
-
 contains-Match : {A B : Type 0} (Is : A → B → Type 0) (xs : List A) (ys : List B) → Match Is xs ys → (x : A) → Contains xs x → (y : B) × Contains ys y × Is x y
 contains-Match Is [] [] m x h = absurd (omega (arith, h.1))
 contains-Match Is [] (y ∷ ys) m x h = absurd m
@@ -55,14 +53,6 @@ turned Is [] [] m = tt
 turned Is [] (y ∷ ys) m = absurd m
 turned Is (x ∷ xs) [] m = absurd m
 turned Is (x ∷ xs) (y ∷ ys) m = (m.0, turned Is xs ys m.1)
-
-weaker : {A : Type 0} (o : Option A) (P Q : A → Type 0) → ((x : A) → P x → Q x) → IfSome o P → IfSome o Q
-weaker None P Q up h = tt
-weaker (Some x) P Q up h = up x h
-
--- where a snapshot stands, by names and numbers
-stands_before : List ℕ → ℕ → List ℕ → ℕ → Bool
-stands_before n k m l = is_before (dataset_of 64 n) (dataset_of 64 m) || (bytes_eq (dataset_of 64 n) (dataset_of 64 m) && nat_lt k l)
 
 -- rows stand as what they stand for does
 pub stand_alike : {bound : Option ℕ} (has : Blocks) (a b : Snapshot) (c d : plain.Snapshot) → SnapshotIs bound has a c → SnapshotIs bound has b d → plain.snapshot_is_before d c ≡ dir_rows.snapshot_is_before b a
@@ -116,10 +106,10 @@ module _ {bound : Option ℕ} (has : Blocks) (rows : Rows) (pool : Pool) (lawful
         (λ x y is h. dataset_there (dataset_of_snapshot y) (subst (λ (n : List ℕ). HasDataset rows (dataset_of 64 n)) (sym is.named.name) h)) rows.snapshots pool.snapshots are.snapshots lawful.linked.snapshots;
     origins =
         All-Match (DatasetIs bound has) (λ d. IfSome d.origin (HasSnapshot rows)) (λ d. IfSome d.origin (plain.HasSnapshot pool))
-        (λ x y is h. subst (λ (o : Option (List ℕ)). IfSome o (plain.HasSnapshot pool)) (sym is.named.origin) (weaker x.origin (HasSnapshot rows) (plain.HasSnapshot pool) snapshot_there h)) rows.datasets pool.datasets are.datasets lawful.linked.origins;
+        (λ x y is h. subst (λ (o : Option (List ℕ)). IfSome o (plain.HasSnapshot pool)) (sym is.named.origin) (IfSome_then x.origin h snapshot_there)) rows.datasets pool.datasets are.datasets lawful.linked.origins;
     bases =
         All-Match (PartialIs bound has) (λ p. IfSome p.base (HasSnapshot rows)) (λ p. IfSome p.base (plain.HasSnapshot pool))
-        (λ x y is h. subst (λ (o : Option (List ℕ)). IfSome o (plain.HasSnapshot pool)) (sym is.named.base) (weaker x.base (HasSnapshot rows) (plain.HasSnapshot pool) snapshot_there h)) rows.partials pool.partials are.partials lawful.linked.bases;
+        (λ x y is h. subst (λ (o : Option (List ℕ)). IfSome o (plain.HasSnapshot pool)) (sym is.named.base) (IfSome_then x.base h snapshot_there)) rows.partials pool.partials are.partials lawful.linked.bases;
     components =
         All-Match (PartialIs bound has) (λ p. HasSnapshot rows (p.target ++ 64 ∷ p.snapshot) → ⊥) (λ p. plain.HasSnapshot pool (p.target ++ 64 ∷ p.component) → ⊥)
         (λ x y is none found. none (subst (λ (t : List ℕ). HasSnapshot rows (t ++ 64 ∷ x.snapshot)) is.named.target

@@ -9,20 +9,15 @@ use Rattle.zst_dir.specs.declared.rows.Bookmark.{Bookmark}
 use Rattle.zst_pool.specs.Plans.{bare_bookmark, bare_dataset, bare_partial, bare_pool, bare_snapshot}
 use Rattle.zst_dir.specs.RowNames.{AreNamed, Match, NamesBookmark, NamesDataset, NamesPartial, NamesSnapshot}
 use Rattle.zst_image.specs.Reads.{BookmarkIs, DatasetIs, IsNamedBy, PartialIs, RunsBy, SnapshotIs}
-
-each_named : {A B : Type 0} (Is Named : A → B → Type 0) → ((a : A) (b : B) → Is a b → Named a b) → (xs : List A) (ys : List B) → Match Is xs ys → Match Named xs ys
-each_named Is Named of [] [] is = is
-each_named Is Named of [] (y ∷ ys) is = is
-each_named Is Named of (x ∷ xs) [] is = is
-each_named Is Named of (x ∷ xs) (y ∷ ys) is = (of x y is.0, each_named Is Named of xs ys is.1)
+use Rattle.zst_image.proofs.Growth.{Match-weaker}
 
 -- rows that stand for what a pool lists name it
 pub rows_named : {bound : Option ℕ} (has : Blocks) (rows : Rows) (pool : Pool) → RunsBy bound has rows pool → AreNamed rows pool
 rows_named {bound = bound} has rows pool is = record {
-  datasets = each_named (DatasetIs bound has) NamesDataset (λ row dataset stands. stands.named) rows.datasets pool.datasets is.datasets;
-  snapshots = each_named (SnapshotIs bound has) NamesSnapshot (λ row snapshot stands. stands.named) rows.snapshots pool.snapshots is.snapshots;
-  bookmarks = each_named (BookmarkIs has) NamesBookmark (λ row bookmark stands. stands.named) rows.bookmarks pool.bookmarks is.bookmarks;
-  partials = each_named (PartialIs bound has) NamesPartial (λ row partial stands. stands.named) rows.partials pool.partials is.partials;
+  datasets = Match-weaker (DatasetIs bound has) NamesDataset (λ row dataset stands. stands.named) rows.datasets pool.datasets is.datasets;
+  snapshots = Match-weaker (SnapshotIs bound has) NamesSnapshot (λ row snapshot stands. stands.named) rows.snapshots pool.snapshots is.snapshots;
+  bookmarks = Match-weaker (BookmarkIs has) NamesBookmark (λ row bookmark stands. stands.named) rows.bookmarks pool.bookmarks is.bookmarks;
+  partials = Match-weaker (PartialIs bound has) NamesPartial (λ row partial stands. stands.named) rows.partials pool.partials is.partials;
 }
 
 -- rows name what is made of each of them

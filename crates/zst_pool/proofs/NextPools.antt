@@ -64,7 +64,7 @@ abbrev pub taken_row : Uber → ℕ → List ℕ → Dataset → Snapshot
 taken_row uber now name row = record { name = name; guid = uber.id * 2 ^ 32 + (uber.guids + 1); time = now; number = uber.number + 1; objects = row.head; redact = row.redact }
 
 -- where a snapshot stands, by names and numbers
-stands_before : List ℕ → ℕ → List ℕ → ℕ → Bool
+unfoldable pub stands_before : List ℕ → ℕ → List ℕ → ℕ → Bool
 stands_before n k m l = is_before (dataset_of 64 n) (dataset_of 64 m) || (bytes_eq (dataset_of 64 n) (dataset_of 64 m) && nat_lt k l)
 
 taken_row_is_taken : {tight : Bool} (has : Blocks) (kept : PoolState) (running : Pool) (now : ℕ) (name : List ℕ) (row : Dataset) (dataset : plain.Dataset)

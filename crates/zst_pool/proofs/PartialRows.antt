@@ -19,8 +19,8 @@ use Rattle.zst_pool.specs.Partials.{changed_at, latest_snapshot, partials_of_oth
 use Rattle.zst_pool.specs.Partials as plains
 use Rattle.zst_dir.specs.RowNames.{Match}
 use Rattle.zst_image.specs.Reads.{DatasetIs, SnapshotIs, PartialIs, RunsBy}
-use Rattle.zst_pool.proofs.LastElements.{MatchIf, last-Match}
-use Rattle.zst_dir.proofs.Matches.{filter-Match, inserted-Match, map-Match}
+use Rattle.zst_pool.proofs.LastElements.{last-Match}
+use Rattle.zst_dir.proofs.Matches.{filter-Match, inserted-Match, map-Match, FoundAlike}
 
 -- once those of a target are left out, none has it
 pub none_for : (target : List ℕ) (partials : List Partial) → All (λ other. other.target ≢ target) (filter (λ other. not (is_for target other)) partials)
@@ -53,7 +53,7 @@ module _ (has : Blocks) where
         (last-Match (SnapshotIs bound has) (λ s. bytes_eq (dataset_of 64 s.name) name) (λ s. bytes_eq (dataset_of 64 s.name) name) (λ x y is. ap (λ (n : List ℕ). bytes_eq (dataset_of 64 n) name) (sym is.named.name))
         rows.snapshots running.snapshots runs.snapshots)
       where
-        go : (o : Option Snapshot) (p : Option plain.Snapshot) → MatchIf (SnapshotIs bound has) o p → Match (DatasetIs bound has) (rolled_rows name o rows.datasets) (rolled name p running.datasets)
+        go : (o : Option Snapshot) (p : Option plain.Snapshot) → FoundAlike (SnapshotIs bound has) o p → Match (DatasetIs bound has) (rolled_rows name o rows.datasets) (rolled name p running.datasets)
         go None None is = runs.datasets
         go None (Some y) is = absurd is
         go (Some x) None is = absurd is

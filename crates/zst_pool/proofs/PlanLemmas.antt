@@ -1,6 +1,6 @@
 -- Which refusals the directory tells, and which it doesn't.
 use Rattle.std.specs.Prelude.{Result, Ok, Err, IfErr}
-use Rattle.std.proofs.Common.{◌≡◌, ◌⊎◌, inl, inr, ℕ, ◌+◌, ◌*◌, ◌<◌, Bool, true, false, List, [], ◌∷◌, map, Option, Some, None, nat_lt, refl, sym, ap, ◌∙◌, subst}
+use Rattle.std.proofs.Common.{◌≡◌, ◌⊎◌, inl, inr, ℕ, ◌+◌, ◌*◌, ◌<◌, Bool, true, false, List, [], ◌∷◌, map, Option, nat_lt, refl, sym, ap, ◌∙◌, subst}
 use Rattle.std.proofs.lemmas.Bool.{true≢false}
 use Rattle.zst_uber.specs.declared.uber.Uber.{Uber}
 use Rattle.zst_model.specs.declared.refusals.apply_fault.ApplyFault.{ApplyFault}
@@ -21,6 +21,7 @@ use Rattle.zst_model.specs.states.DatedState.{DatedState, apply_all_dated, size_
 use Rattle.zst_model.specs.states.State.{index_bound, number_bound}
 use Rattle.zst_model.specs.pools.Pool.{Pool}
 use Rattle.zst_model.specs.pools.Step.{Stepped, applied, committed, filled, in_indices, in_numbers, last_number, of_applying, on_head, punched, written}
+use Rattle.zst_model.proofs.PlanFaults.{plan_cases, same_plan}
 use Rattle.zst_tree.specs.declared.tree.ObjSet.{ObjSet}
 use Rattle.zst_dir.specs.Rows.{Rows}
 use Rattle.zst_block.specs.declared.fault.BlockFault.TheVariants as blocks
@@ -51,50 +52,7 @@ gives_told (Err refusal) = is_told refusal
 
 told_of : (fault : PlanFault) → is_told (refusal_of fault) ≡ is_by_rows fault
 unfolding is_told
-told_of (plans.BadName place) = refl
-told_of (plans.NoSuch missing) = refl
-told_of (plans.Exists present) = refl
-told_of (plans.Busy holder) = refl
-told_of (plans.NotAncestor to from) = refl
-told_of (plans.NotRedactionOf bookmark snapshot) = refl
-told_of (plans.NotDescendant snapshot) = refl
-told_of (plans.Modified dataset) = refl
-told_of (plans.NotLatest have want) = refl
-told_of (plans.NoOrigin guid) = refl
-told_of (plans.NotContained guid) = refl
-told_of (plans.PartialExists dataset) = refl
-told_of (plans.NoPartial dataset) = refl
-told_of (plans.WrongResume have want) = refl
-told_of (plans.Unsupported lack) = refl
-told_of (plans.Limit which number) = refl
-
--- a refusal is of one plan's fault
-fault_of : Refusal → Option PlanFault
-fault_of (refusals.Plan fault) = Some fault
-fault_of (refusals.Limit which number) = Some (plans.Limit which number)
-fault_of refusal = None
-
-fault_back : (fault : PlanFault) → fault_of (refusal_of fault) ≡ Some fault
-unfolding fault_of
-fault_back (plans.BadName place) = refl
-fault_back (plans.NoSuch missing) = refl
-fault_back (plans.Exists present) = refl
-fault_back (plans.Busy holder) = refl
-fault_back (plans.NotAncestor to from) = refl
-fault_back (plans.NotRedactionOf bookmark snapshot) = refl
-fault_back (plans.NotDescendant snapshot) = refl
-fault_back (plans.Modified dataset) = refl
-fault_back (plans.NotLatest have want) = refl
-fault_back (plans.NoOrigin guid) = refl
-fault_back (plans.NotContained guid) = refl
-fault_back (plans.PartialExists dataset) = refl
-fault_back (plans.NoPartial dataset) = refl
-fault_back (plans.WrongResume have want) = refl
-fault_back (plans.Unsupported lack) = refl
-fault_back (plans.Limit which number) = refl
-
-same_fault : (a b : PlanFault) → refusal_of a ≡ refusal_of b → a ≡ b
-same_fault a b same = let found : Some a ≡ Some b = sym (fault_back a) ∙ ap fault_of same ∙ fault_back b in cc
+told_of = plan_cases (λ fault refusal. is_told refusal ≡ is_by_rows fault) (λ fault. refl) (λ which number. refl)
 
 -- what passes a limit isn't told by the directory
 limit_apart : (numbers indices : ℕ) (uber : Uber) (fault : PlanFault) → IsLimitOf numbers indices uber fault → is_by_rows fault ≡ false
@@ -109,7 +67,7 @@ module _ {T : Type 0} (definition : Pool → Result Stepped Refusal) (numbers in
   plans_refused fault {result = result} answered told refuses =
       let made : Plans {T = T} definition numbers indices kept (Err (Plan fault)) = record {
         exact = λ pool other named is. (
-          λ refused. let same : refusal_of fault ≡ refusal_of other = cc (refuses pool named, refused) in ap (λ f. Err (Plan f)) (same_fault fault other same),
+          λ refused. let same : refusal_of fault ≡ refusal_of other = cc (refuses pool named, refused) in ap (λ f. Err (Plan f)) (same_plan fault other same),
           λ was. let same : fault ≡ other = cc in refuses pool named ∙ ap (λ f. Err (refusal_of f)) same,
         );
         limits = λ other was. let same : fault ≡ other = cc in subst (λ (f : PlanFault). (is_by_rows f ≡ true) ⊎ IsLimitOf numbers indices kept.body f) same told;

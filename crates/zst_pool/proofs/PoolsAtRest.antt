@@ -1,8 +1,6 @@
 -- A pool stays at rest while blocks alone are written, and comes to rest as the next one after a commit.
 use Rattle.std.specs.Prelude.{Result, Ok, Err, IfOk, OnErr}
-use Rattle.std.proofs.Common.{◌≡◌, ℕ, ◌+◌, ◌≤◌, ◌<◌, ◌^◌, Bool, true, false, cond, Option, List, [], ◌∷◌, filter, refl, sym, ap, ◌∙◌, subst, arith}
-use Rattle.std.specs.List.{All}
-use Rattle.std.proofs.lemmas.List.Elements.{All-head, All-tail}
+use Rattle.std.proofs.Common.{◌≡◌, ℕ, ◌+◌, ◌≤◌, ◌<◌, ◌^◌, Bool, false, Option, [], sym, ap, ◌∙◌, subst, arith}
 use Rattle.zst_outside.specs.Images.{DiskState, Leaves, Leaves-weaker, OnlyReads-none}
 use Rattle.zst_space.specs.FreeSectors.{FreeSectors}
 use Rattle.zst_block.specs.Blocks.{FillsFree, FitsDisk, Has, IsTaken, Spared}
@@ -10,9 +8,10 @@ use Rattle.zst_block.specs.IoStates.{IoState}
 use Rattle.zst_block.proofs.BlocksLaws.{FillsFree-reads, FillsFree-then, Has-spared, IsTaken-label, KeepsBlocks-fills}
 use Rattle.zst_uber.specs.Body.{InRange}
 use Rattle.zst_uber.specs.declared.uber.Uber.{Uber}
-use Rattle.zst_model.specs.pools.KeptPool.{KeepsAll, kept_of}
+use Rattle.zst_model.specs.pools.KeptPool.{kept_of}
 use Rattle.zst_model.specs.pools.Limits.{last_guid, last_number}
 use Rattle.zst_model.specs.pools.Pool.{Pool, Partial, IsPool}
+use Rattle.zst_model.proofs.KeptPools.{all_stay}
 use Rattle.zst_tree.specs.Indices.{Blocks}
 use Rattle.zst_dir.specs.Rows.{Rows, IsLawful}
 use Rattle.zst_dir.specs.declared.rows.Partial.{Partial as Row}
@@ -174,21 +173,11 @@ pub rests_unless : {tight : Bool} (start old new : DiskState) (space less : Free
 rests_unless start old new space less kept running (Ok after) way fills apart = tt
 rests_unless start old new space less kept running (Err fault) way fills apart = rests_on start new less kept running (rests_still start old space kept running way new less (fills apart))
 
--- what is kept of a pool that keeps all its partial states is the pool
-all_stay : (partials : List Partial) → All (λ partial. partial.keep ≡ true) partials → filter (λ partial. partial.keep) partials ≡ partials
-all_stay [] all = refl
-all_stay (partial ∷ partials) all =
-    ap (λ (b : Bool). cond b (partial ∷ filter (λ other. other.keep) partials) (filter (λ other. other.keep) partials)) (All-head (λ (other : Partial). other.keep ≡ true) partial partials all)
-    ∙ ap (λ (rest : List Partial). partial ∷ rest) (all_stay partials (All-tail (λ (other : Partial). other.keep ≡ true) partial partials all))
-
-pub kept_same : (pool : Pool) → KeepsAll pool → kept_of pool ≡ pool
-kept_same pool all = ap (λ (l : List Partial). record pool { partials = l }) (all_stay pool.partials all)
-
 -- so a pool that was just opened is at rest
 pub rests_opened : {tight : Bool} (disk : DiskState) (kept : PoolState) (rows : Rows) (pool : Pool) → Rests tight disk kept.body rows pool → kept.dir ≡ kept_rows rows → IsAtRest tight disk kept pool
 rests_opened {tight = tight} disk kept rows pool rests same = record {
   rows = rows;
-  rests = subst (λ (p : Pool). Rests tight disk kept.body rows p) (sym (kept_same pool (images_keep kept.body rows pool disk.seen rests.reads))) rests;
+  rests = subst (λ (p : Pool). Rests tight disk kept.body rows p) (sym (all_stay pool (images_keep kept.body rows pool disk.seen rests.reads))) rests;
   runs_by = subst (λ (r : Rows). RunsBy (bound_of tight pool.number) (Has disk.seen (free_by kept.body)) r pool) (sym same) rests.reads.described.rows_are;
   lawful = rests.reads.described.lawful;
 }

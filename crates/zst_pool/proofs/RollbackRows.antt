@@ -10,6 +10,8 @@ use Rattle.zst_model.specs.declared.refusals.refusal.Refusal.{Refusal}
 use Rattle.zst_model.specs.pools.Pool.{Pool, dataset_of_bookmark, dataset_of_snapshot, snapshot_named}
 use Rattle.zst_model.specs.pools.Pool as plain
 use Rattle.zst_model.specs.pools.Step.{Stepped, busy_bookmark, busy_clone, busy_partial, busy_snapshot, committed, is_newer, is_newer_bookmark, is_one_of, least_name, newer_snapshots, no_such, or_else, rolled_back, rolled_to, unless_newer, unless_there, unless_used, with_rollback}
+use Rattle.zst_model.proofs.Options.{none_there, there_is}
+use Rattle.zst_model.proofs.FoundElements.{found_passes}
 use Rattle.zst_tree.specs.Indices.{Blocks}
 use Rattle.zst_dir.specs.Removal.{AreUnused, names_going, takes_bookmark, takes_snapshot, without}
 use Rattle.zst_dir.specs.Rows.{Rows, with_objects_at}
@@ -19,8 +21,7 @@ use Rattle.zst_dir.specs.declared.rows.Snapshot.{Snapshot}
 use Rattle.zst_dir.specs.RowNames.{AreNamed, Match, NamesBookmark, NamesPartial, NamesSnapshot, StandAlike}
 use Rattle.zst_image.specs.Reads.{DatasetIs, RunsBy, SnapshotIs}
 use Rattle.zst_pool.specs.Lineage.{AreGoing, if_rolls_back, is_on, newer_in_pool, newer_than, pool_without, rows_rolled_back}
-use Rattle.zst_pool.proofs.DestroyedRows.{finds_none, found_named, found_passes, one_of_none, passing_go, there_is, told}
-use Rattle.zst_pool.proofs.CheckLemmas.{none_there}
+use Rattle.zst_pool.proofs.DestroyedRows.{finds_none, found_named, one_of_none, passing_go, told}
 use Rattle.zst_pool.proofs.LeastNames.{least-none, least_where}
 use Rattle.zst_pool.proofs.LineageRows.{left_runs}
 use Rattle.zst_dir.proofs.Matches.{Match-alike, filter-Match, list_any-Match, list_any-filter, map-Match}
@@ -105,7 +106,7 @@ module _ (rows : Rows) (pool : Pool) (are : AreNamed rows pool) (name : List ℕ
         → unless_used (λ partial. bytes_eq partial.target name) [] pool rest ≡ Err (busy_partial name)
     partial_is_held there =
         let found = there_is (find is_held pool.partials) (sym held_is_there ∙ there) in
-        let passes : is_held found.0 ≡ true = found_passes is_held pool.partials found.0 found.1 in
+        let passes : is_held found.0 ≡ true = (found_passes is_held pool.partials found.0 found.1).1 in
         let named : bytes_eq found.0.target name ≡ true = sym (or_false (bytes_eq found.0.target name)) ∙ ap (λ b. bytes_eq found.0.target name || b) (sym (one_of_none found.0.base)) ∙ passes in
         ap (λ o. unless_there (λ (partial : plain.Partial). busy_partial partial.target) o (unless_there (λ (dataset : plain.Dataset). busy_clone dataset.name) (find (λ dataset. is_one_of [] dataset.origin) pool.datasets) rest)) found.1
         ∙ ap (λ (n : List ℕ). Err (busy_partial n)) (same_bytes found.0.target name named)

@@ -7,6 +7,7 @@ use Rattle.zst_block.specs.Blocks.{FillsFree}
 use Rattle.zst_block.specs.IoCalls.{TakesAtMost}
 use Rattle.zst_block.specs.IoStates.{IoState}
 use Rattle.zst_block.specs.declared.fault.BlockFault.{BlockFault}
+use Rattle.zst_block.proofs.TakenSectors.{takes_more, takes_then}
 use Rattle.zst_model.specs.states.State.{is_block_size, largest_block}
 use Rattle.zst_dir.specs.Rows.{Rows}
 use Rattle.zst_dir.specs.Spelling.{dir_bytes}
@@ -18,7 +19,7 @@ use Rattle.zst_image.specs.Commits.{IsDirFull}
 use Rattle.zst_pool.specs.CommandRuns.{as_kept}
 use Rattle.zst_pool.specs.declared.fault.PoolFault.{PoolFault}
 use Rattle.zst_image.specs.declared.pool_state.PoolState.{PoolState}
-use Rattle.zst_pool.proofs.TakenSectors.{ends_later, takes_more, takes_then, was_free}
+use Rattle.zst_pool.proofs.TakenSectors.{ends_later, was_free}
 
 -- a block of data has 256 sectors at most
 pub block-sectors : (size : ℕ) → is_block_size size ≡ true → size / 512 ≤ 256

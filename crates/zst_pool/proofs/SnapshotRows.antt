@@ -12,14 +12,15 @@ use Rattle.zst_model.specs.declared.refusals.refusal.Refusal.TheVariants as refu
 use Rattle.zst_model.specs.pools.Pool.{Pool, bookmark_named, dataset_named, dataset_of_snapshot, snapshot_named}
 use Rattle.zst_model.specs.pools.Pool as plain
 use Rattle.zst_model.specs.pools.Step.{Stepped, clone_of, exists_already, most_bookmarks, no_such, or_else, with_clone, with_dataset}
+use Rattle.zst_model.proofs.PassedLimits.{over, within_limit}
+use Rattle.zst_model.proofs.FoundElements.{found_passes}
 use Rattle.zst_names.specs.Names.{dataset_of}
 use Rattle.zst_dir.specs.Rows.{Rows}
 use Rattle.zst_dir.specs.declared.rows.Bookmark.{Bookmark}
 use Rattle.zst_dir.specs.declared.rows.Snapshot.{Snapshot}
 use Rattle.zst_dir.specs.RowNames.{AreNamed, NamesBookmark, NamesSnapshot, StandAlike}
 use Rattle.zst_pool.specs.Lineage.{if_new_bookmark}
-use Rattle.zst_pool.proofs.DestroyedRows.{bookmark_is_there, found_passes}
-use Rattle.zst_pool.proofs.CheckLemmas.{over, within}
+use Rattle.zst_pool.proofs.DestroyedRows.{bookmark_is_there}
 use Rattle.zst_dir.proofs.Matches.{find-Match, is_some-position, length-Match, none_named}
 
 module _ (rows : Rows) (pool : Pool) (are : AreNamed rows pool) where
@@ -29,7 +30,7 @@ module _ (rows : Rows) (pool : Pool) (are : AreNamed rows pool) where
   snapshot_at name place d is =
       let found = find-Match NamesSnapshot (λ snapshot. bytes_eq snapshot.name name) (λ snapshot. bytes_eq snapshot.name name)
       (λ x y is. ap (λ n. bytes_eq n name) (sym is.name)) d rows.snapshots pool.snapshots are.snapshots place is in
-      (found.0, found.2, found.1, same_bytes found.0.name name (found_passes (λ s. bytes_eq s.name name) pool.snapshots found.0 found.1))
+      (found.0, found.2, found.1, same_bytes found.0.name name (found_passes (λ s. bytes_eq s.name name) pool.snapshots found.0 found.1).1)
 
   -- what a new bookmark is refused for
   module _ (name : List ℕ) (rest : Result Stepped Refusal) where
@@ -47,7 +48,7 @@ module _ (rows : Rows) (pool : Pool) (are : AreNamed rows pool) where
     unfolding most_bookmarks
     bookmark_is_new absent few =
         let is = sym (bookmark_is_there rows pool are name) ∙ absent in
-        rw is (within quantities.Bookmarks 1024 (length pool.bookmarks + 1) rest (omega (arith, few, length-Match NamesBookmark rows.bookmarks pool.bookmarks are.bookmarks)))
+        rw is (within_limit quantities.Bookmarks 1024 (length pool.bookmarks + 1) rest (omega (arith, few, length-Match NamesBookmark rows.bookmarks pool.bookmarks are.bookmarks)))
 
 -- a name that isn't found is new
 pub no_bookmark : (rows : Rows) (name : List ℕ) → is_some (position (λ bookmark. bytes_eq bookmark.name name) rows.bookmarks) ≡ false → All (λ bookmark. bookmark.name ≡ name → ⊥) rows.bookmarks

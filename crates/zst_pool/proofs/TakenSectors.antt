@@ -1,5 +1,5 @@
 -- What the parts of a change take of the free sectors.
-use Rattle.std.proofs.Common.{◌≡◌, ◌⊎◌, inr, ⊎_elim, ℕ, ◌+◌, ◌-◌, ◌≤◌, List, [], refl, ap, ◌∙◌, arith}
+use Rattle.std.proofs.Common.{◌≡◌, ◌⊎◌, inr, ⊎_elim, ℕ, ◌+◌, ◌-◌, ◌≤◌, List, [], refl, ap, arith}
 use Rattle.zst_space.specs.FreeSectors.{FreeSectors, IsFree, greatest, largest_of, total}
 use Rattle.zst_space.specs.declared.space.Extent.{Extent}
 use Rattle.zst_block.specs.IoCalls.{TakesAtMost}
@@ -9,18 +9,6 @@ use Rattle.zst_image.specs.Reads.{free_by}
 -- where nothing is done, nothing is taken
 pub taken_none : (count : ℕ) (space : FreeSectors) → TakesAtMost count space space
 taken_none count space = record { sectors = refl; left = omega arith; longest = omega arith; unbroken = λ none. none }
-
-pub takes_then : {most more : ℕ} (old mid new : FreeSectors) → TakesAtMost most old mid → TakesAtMost more mid new → TakesAtMost (most + more) old new
-takes_then old mid new one two = record {
-  sectors = two.sectors ∙ one.sectors;
-  left = omega (arith, one.left, two.left);
-  longest = omega (arith, one.longest, two.longest);
-  unbroken = λ none. two.unbroken (one.unbroken none);
-}
-
--- what takes so many takes no more than more
-pub takes_more : (most more : ℕ) (old new : FreeSectors) → most ≤ more → TakesAtMost most old new → TakesAtMost more old new
-takes_more most more old new le takes = record { sectors = takes.sectors; left = omega (arith, takes.left, le); longest = omega (arith, takes.longest, le); unbroken = takes.unbroken }
 
 -- where no extents are free below the end, the sectors behind it are the longest extent, and all that is left
 unbroken_longest : (space : FreeSectors) → space.free ≡ [] → largest_of space ≡ space.sectors - space.end

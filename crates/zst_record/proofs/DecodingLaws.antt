@@ -4,7 +4,8 @@ use Rattle.std.proofs.lemmas.Bool.{ne_eqb, leb-true, ltb-true, and_parts, le-leb
 use Rattle.zst_bytes.specs.Bytes.{bytes_at, number_bytes}
 use Rattle.zst_bytes.specs.Fields.{zeros}
 use Rattle.zst_bytes.proofs.FieldsLaws.{number-back}
-use Rattle.zst_model.specs.states.State.{number_bound, is_block_size, is_spill_size, largest_block}
+use Rattle.zst_model.specs.states.State.{number_bound, is_spill_size}
+use Rattle.zst_model.proofs.Sizes.{block_size_small}
 use Rattle.zst_record.specs.declared.head.Head.{Head}
 use Rattle.zst_record.specs.declared.head.Head.TheVariants as heads
 use Rattle.zst_record.specs.Table.{sum_fields, fields_of, head_bytes, sealed_bytes}
@@ -19,19 +20,13 @@ unfolding is_object number_bound
 object-small object is =
     let below = ltb-true _ _ (and_parts (ltb 0 object) (ltb object (2 ^ 48)) is).1 in omega arith
 
-size-small : (size : ℕ) → is_block_size size ≡ true → size < 256 ^ 4
-unfolding is_block_size largest_block
-size-small size is =
-    let both = (and_parts (leb 512 size && leb size 131072) ((size % 512) == 0) is).0 in
-    let below = leb-true _ _ (and_parts (leb 512 size) (leb size 131072) both).1 in omega arith
-
 spill-size-small : (size : ℕ) → is_spill_size size ≡ true → size < 256 ^ 4
 unfolding is_spill_size
 spill-size-small size is =
     let both = (and_parts (leb 512 size && leb size 131072) ((size % 512) == 0) is).0 in
     let below = leb-true _ _ (and_parts (leb 512 size) (leb size 131072) both).1 in omega arith
 
-in-range : (offset size : ℕ) → is_range offset size ≡ true → offset + size < 2 ^ 64
+pub in-range : (offset size : ℕ) → is_range offset size ≡ true → offset + size < 2 ^ 64
 unfolding is_range
 in-range offset size is = ltb-true _ _ is
 
@@ -60,7 +55,7 @@ object-back at features object kind bonus_kind block_size bonus_len max_block to
       number-back 312 fields 8 8 object refl tt refl refl (object-small object f.object_fits),
       number-back 312 fields 16 4 kind refl tt refl refl f.kind_fits,
       number-back 312 fields 20 4 bonus_kind refl tt refl refl f.bonus_kind_fits,
-      number-back 312 fields 24 4 block_size refl tt refl refl (size-small block_size f.size),
+      number-back 312 fields 24 4 block_size refl tt refl refl (block_size_small block_size f.size),
       number-back 312 fields 28 4 bonus_len refl tt refl refl (omega arith),
       number-back 312 fields 34 1 1 refl tt refl refl (omega arith),
       number-back 312 fields 36 4 0 refl tt refl gap-36 (omega arith),
@@ -90,7 +85,7 @@ write-back : (at features object kind offset size to : ℕ) (sums : List ℕ) �
 unfolding decoded typed write_with sealed_bytes head_bytes
 write-back at features object kind offset size to sums later f =
     let fields = fields_of (heads.Write object kind offset size to) ++ sum_fields 280 sums in
-    let wide = size-small size f.size_fits in
+    let wide = block_size_small size f.size_fits in
     rw (
       ne_eqb at 0 (λ e. omega arith),
       number-back 312 fields 0 4 3 refl tt refl refl (omega arith),

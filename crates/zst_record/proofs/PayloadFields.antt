@@ -1,11 +1,11 @@
 -- The content of a payload: what is right of it, and the header that it says.
-use Rattle.std.proofs.Common.{◌≡◌, ℕ, ◌<◌, ◌≤◌, ◌==◌, ◌&&◌, Bool, true, false, nat_le, List, [], ◌∷◌, length, take, drop, get_or, Ok, Err, refl, ap, ◌∙◌, arith, length-append, length-drop}
-use Rattle.std.proofs.lemmas.Bool.{and_parts, and_from, leb-true, eqb-true, le-leb, eq-eqb}
+use Rattle.std.proofs.Common.{◌≡◌, ℕ, ◌<◌, ◌≤◌, ◌==◌, ◌&&◌, Bool, true, false, List, [], ◌∷◌, length, take, drop, get_or, Ok, Err, refl, ap, ◌∙◌, arith, length-append, length-drop}
+use Rattle.std.proofs.lemmas.Bool.{and_parts, and_from, eqb-true, eq-eqb}
 use Rattle.std.proofs.lemmas.List.{take-append-drop}
 use Rattle.zst_model.specs.declared.refusals.stream_fault.StreamFault.{StreamFault}
 use Rattle.zst_model.specs.declared.sends.header.Header.{Header}
 use Rattle.zst_model.specs.declared.sends.header.Point.{Point}
-use Rattle.zst_model.specs.fields.Guids.{is_rising}
+use Rattle.zst_model.proofs.GuidLists.{IsSet, set_from_test, test_from_set}
 use Rattle.zst_record.specs.Payload.{Opened, content_of, content_with, goes_with_redacted, goes_with_resuming, goes_with_source, is_set, require, said_beside, wrong}
 
 -- ---- tests in a row
@@ -26,21 +26,6 @@ require-ok false fault next header is = absurd (cc is)
 
 -- ---- right content
 
--- a set, by its test
-pub record IsSet (guids : List ℕ) : Type 0 where
-  pub few : length guids ≤ 16
-  pub rising : is_rising guids ≡ true
-
-set_from_test : (guids : List ℕ) → is_set guids ≡ true → IsSet guids
-unfolding is_set
-set_from_test guids passed =
-    let parts = and_parts (nat_le (length guids) 16) (is_rising guids) passed in
-    record { few = leb-true (length guids) 16 parts.0; rising = parts.1 }
-
-test_from_set : (guids : List ℕ) → IsSet guids → is_set guids ≡ true
-unfolding is_set
-test_from_set guids set = and_from (nat_le (length guids) 16) (is_rising guids) (le-leb (length guids) 16 set.few) set.rising
-
 -- content that goes with its counts and with what BEGIN says
 pub record IsRight (header : Header) (point : Point) (count_one count_two : ℕ) (redact from_redact : List ℕ) : Type 0 where
   pub count : length redact ≡ count_one
@@ -54,7 +39,7 @@ pub record IsRight (header : Header) (point : Point) (count_one count_two : ℕ)
 -- it is the header that it says
 pub content_right : (header : Header) (point : Point) (count from_count : ℕ) (redact from_redact : List ℕ) → IsRight header point count from_count redact from_redact
     → content_with header point count from_count redact from_redact ≡ Ok (said_beside header point redact from_redact)
-unfolding content_with
+unfolding content_with is_set
 content_right header point count from_count redact from_redact right =
     require-true _ wrong _ (and_from (length redact == count) (length from_redact == from_count) (eq-eqb (length redact) count right.count) (eq-eqb (length from_redact) from_count right.from_count))
     ∙ require-true _ wrong _ (and_from (is_set redact) (is_set from_redact) (test_from_set redact right.redact_set) (test_from_set from_redact right.from_set))
@@ -65,6 +50,7 @@ tested : (header : Header) (point : Point) (count from_count : ℕ) (redact from
     → ((length redact == count) && (length from_redact == from_count)) ≡ true → (is_set redact && is_set from_redact) ≡ true
     → goes_with_redacted header.features redact ≡ true → goes_with_resuming header.features point ≡ true → goes_with_source header.from from_redact ≡ true
     → IsRight header point count from_count redact from_redact
+unfolding is_set
 tested header point count from_count redact from_redact counts sets redacted resumed source =
     let c = and_parts (length redact == count) (length from_redact == from_count) counts in
     let s = and_parts (is_set redact) (is_set from_redact) sets in

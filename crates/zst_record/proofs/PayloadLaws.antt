@@ -7,6 +7,7 @@ use Rattle.std.proofs.lemmas.List.Elements.{All-append, All-cons, All-drop, All-
 use Rattle.std.proofs.lemmas.Slice.Eq.{bytes_eq-Decides}
 use Rattle.std.specs.List.{All}
 use Rattle.zst_bytes.specs.Words.{word}
+use Rattle.zst_bytes.proofs.WordLists.{length-words}
 use Rattle.zst_model.specs.declared.sends.header.Header.{Header}
 use Rattle.zst_model.specs.declared.sends.header.Point.{Point}
 use Rattle.zst_model.specs.sends.Features.{redacts, resuming}
@@ -15,7 +16,7 @@ use Rattle.zst_record.specs.Decoding.{is_payload_len, needs_payload}
 use Rattle.zst_record.specs.Laws.{AreBytes, HasPayload, PayloadFits}
 use Rattle.zst_record.specs.Payload.{StatesPayload, StatesResume, bare, begin_payload, behind_magic, content_of, content_with, foreign, goes_with_redacted, goes_with_resuming, goes_with_source, has_magic, has_payload, numbers_in, opened, payload_bytes, payload_fields, payload_magic, said_beside, stated_point, wrong}
 use Rattle.zst_record.proofs.PayloadFields.{IsRight, content_found, content_right, require-ok, require-true}
-use Rattle.zst_record.proofs.PayloadNumbers.{length-words, numbers-read, numbers-small, words-back}
+use Rattle.zst_record.proofs.PayloadNumbers.{numbers-read, numbers-small, words-back}
 use Rattle.zst_record.proofs.StatedHeaders.{no_guids, not-redacted, not-resumed}
 
 abbrev Small : ℕ → Type 0

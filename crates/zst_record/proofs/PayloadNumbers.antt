@@ -1,25 +1,20 @@
 -- The numbers of a payload, and their bytes.
-use Rattle.std.proofs.Common.{◌≡◌, ℕ, zero, suc, ◌+◌, ◌*◌, ◌<◌, ◌≤◌, ◌^◌, List, [], ◌∷◌, ◌++◌, length, get_or, take, drop, flat_map, refl, sym, ap, ◌∙◌, arith, length-append, length-drop}
-use Rattle.std.proofs.lemmas.List.{append-nil, drop-drop, drop_at, length-take-le, take-append-drop, take_at, take_more}
-use Rattle.std.proofs.lemmas.List.Concat.{flat_map-append}
+use Rattle.std.proofs.Common.{◌≡◌, ℕ, zero, suc, ◌+◌, ◌*◌, ◌<◌, ◌≤◌, ◌^◌, List, [], ◌∷◌, ◌++◌, length, get_or, take, drop, flat_map, refl, sym, ap, ◌∙◌, arith, length-drop}
+use Rattle.std.proofs.lemmas.List.{drop-drop, drop_at, length-take-le, take-append-drop, take_at}
 use Rattle.std.proofs.lemmas.List.Elements.{All-cons, All-drop, All-head, All-nil, All-tail, All-take}
 use Rattle.std.proofs.lemmas.Nat.{le_bytes_8}
-use Rattle.std.specs.Int.{w64, from_le_bytes, to_le_bytes}
+use Rattle.std.specs.Int.{w64, from_le_bytes}
 use Rattle.std.specs.List.{All}
 use Rattle.byteorder.specs.Endian.{little_number}
 use Rattle.byteorder.specs.Numbers.{little_from-lt}
-use Rattle.zst_bytes.specs.Bytes.{bytes_at, number_at, number_bytes}
+use Rattle.zst_bytes.specs.Bytes.{bytes_at, number_at}
 use Rattle.zst_bytes.specs.Words.{word}
 use Rattle.zst_bytes.proofs.BytesLaws.{length-number_bytes, number-again}
+use Rattle.zst_bytes.proofs.FrontWords.{word-to_le_bytes}
 use Rattle.zst_record.specs.Payload.{numbers_in}
 
 abbrev IsByte : ℕ → Type 0
 IsByte byte = byte < 2 ^ 8
-
--- numbers are eight bytes each
-pub length-words : (numbers : List ℕ) → length (flat_map word numbers) ≡ 8 * length numbers
-length-words [] = refl
-length-words (x ∷ numbers) = omega (arith, length-append (word x) (flat_map word numbers), length-number_bytes 8 x, length-words numbers)
 
 pub length-numbers_in : (count : ℕ) (bytes : List ℕ) → length (numbers_in count bytes) ≡ count
 length-numbers_in zero bytes = refl
@@ -39,12 +34,6 @@ numbers_in-more (suc count) bytes =
     number-at (8 * count) (drop 8 bytes) ∙ ap (λ (l : List ℕ). number_at l 0 8) (drop-drop (8 * count) 8 bytes ∙ ap (λ (n : ℕ). drop n bytes) places) ∙ sym (number-at (8 * suc count) bytes) in
     ap (λ (l : List ℕ). number_at bytes 0 8 ∷ l) (numbers_in-more count (drop 8 bytes))
     ∙ ap (λ (n : ℕ). number_at bytes 0 8 ∷ (numbers_in count (drop 8 bytes) ++ n ∷ [])) same
-
--- one word more
-pub words-more : (numbers : List ℕ) (i : ℕ) → i < length numbers → flat_map word (take (i + 1) numbers) ≡ flat_map word (take i numbers) ++ word (get_or numbers i 0)
-words-more numbers i inside =
-    ap (flat_map word) (take_more numbers i 0 inside) ∙ flat_map-append word (take i numbers) (get_or numbers i 0 ∷ [])
-    ∙ ap (λ (l : List ℕ). flat_map word (take i numbers) ++ l) (append-nil (word (get_or numbers i 0)))
 
 -- a number in front is read again
 number-front : (n : ℕ) (rest : List ℕ) → n < 2 ^ 64 → number_at (word n ++ rest) 0 8 ≡ n
@@ -67,11 +56,6 @@ small_bytes : (bytes : List ℕ) → All (λ byte. byte < 2 ^ 8) bytes → (i : 
 small_bytes [] all i = omega arith
 small_bytes (x ∷ bytes) all zero = All-head IsByte x bytes all
 small_bytes (x ∷ bytes) all (suc i) = small_bytes bytes (All-tail IsByte x bytes all) i
-
--- both words for a number's bytes
-word-to_le_bytes : (n : ℕ) → word n ≡ to_le_bytes w64 n
-unfolding number_bytes
-word-to_le_bytes n = refl
 
 number-from_le_bytes : (bytes : List ℕ) → number_at bytes 0 8 ≡ from_le_bytes w64 (take 8 bytes)
 unfolding number_at bytes_at

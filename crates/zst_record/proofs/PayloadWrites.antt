@@ -5,11 +5,11 @@ use Rattle.std.proofs.lemmas.List.{drop-drop, length-take-le, take_at, take_all}
 use Rattle.std.proofs.lemmas.List.Concat.{flat_map-append}
 use Rattle.zst_bytes.specs.Bytes.{written}
 use Rattle.zst_bytes.specs.Words.{word}
+use Rattle.zst_bytes.proofs.WordLists.{length-words, words-more}
 use Rattle.zst_model.specs.declared.sends.header.Header.{Header}
 use Rattle.zst_model.specs.declared.sends.header.Point.{Point}
 use Rattle.zst_record.specs.Payload.{payload_bytes, payload_magic, stated_point}
 use Rattle.zst_record.proofs.PayloadLaws.{length-payload}
-use Rattle.zst_record.proofs.PayloadNumbers.{length-words, words-more}
 
 -- a write behind a front replaces what stood there
 written_behind : (front bytes rest : List ℕ) (place width : ℕ) → length front ≡ place → written place width bytes (front ++ rest) ≡ front ++ (bytes ++ drop width rest)

@@ -11,6 +11,7 @@ use Rattle.byteorder.specs.Endian.{little_from}
 use Rattle.zst_bytes.specs.Bytes.{bytes_at, number_at}
 use Rattle.zst_model.specs.states.State.{is_block_size, is_spill_size}
 use Rattle.zst_model.specs.sends.Features.{redacts}
+use Rattle.zst_model.proofs.Booleans.{right_fails}
 use Rattle.zst_record.specs.declared.head.Head.{Head}
 use Rattle.zst_record.specs.declared.head.Head.TheVariants as heads
 use Rattle.zst_record.specs.Formats.{stream_magic, reversed_magic, large_blocks}
@@ -153,10 +154,6 @@ follows at features bytes head all later is = typed-fits (number_at bytes 0 4) a
 
 -- ---- BEGIN
 
-and-none : (a b : Bool) → (a && b) ≡ false → a ≡ true → b ≡ false
-and-none true b none is = none
-and-none false b none is = absurd cc
-
 snapshot-fits : (len features time kind flags to from : ℕ) (field : List ℕ) → features < 2 ^ 30 → others_of features ≡ 0 → bit_and features large_blocks ≡ 0
     → flags < 2 ^ 32 → time < 2 ^ 64 → to < 2 ^ 64 → from < 2 ^ 64 → length field ≤ 256 → AreBytes field → Gives (Begins features) (snapshot_with len features time kind flags to from field)
 unfolding snapshot_with header_with
@@ -181,7 +178,7 @@ snapshot-fits len features time kind flags to from field small accepted blocks f
           name = omega arith;
           no_zero = named.no_zero;
           len = is;
-          stated = λ none. and-none (len == 0) (needs_payload features) (not-true ((len == 0) && needs_payload features) c) none;
+          stated = λ none. right_fails (len == 0) (needs_payload features) (not-true ((len == 0) && needs_payload features) c) none;
           no_resume = refl;
           no_redact = refl;
           no_from_redact = refl;

@@ -23,6 +23,7 @@ use Rattle.zst_recv.specs.declared.fault.RecvFault.{RecvFault}
 use Rattle.zst_recv.specs.declared.fault.RecvFault.TheVariants as faults
 use Rattle.zst_recv.specs.declared.stage.Stage as coded
 use Rattle.zst_recv.specs.declared.stage.Stage.TheVariants as stages
+use Rattle.zst_recv.proofs.RecordOrder.{no_end}
 
 -- ---- stages
 
@@ -76,16 +77,6 @@ later_is (heads.Free object offset size to) later = refl
 later_is (heads.End sums to) later = refl
 later_is (heads.Spill object size to) later = refl
 later_is (heads.Redact object offset size to) later = refl
-
-open_is : (head : Head) → closing head ≡ None → is_end head ≡ false
-open_is (heads.Begin header len) open_still = refl
-open_is (heads.Object object kind bonus_kind block_size bonus_len max_block to) open_still = refl
-open_is (heads.FreeObjects first count to) open_still = refl
-open_is (heads.Write object kind offset size to) open_still = refl
-open_is (heads.Free object offset size to) open_still = refl
-open_is (heads.End sums to) open_still = absurd (cc open_still)
-open_is (heads.Spill object size to) open_still = refl
-open_is (heads.Redact object offset size to) open_still = refl
 
 -- ---- batches
 
@@ -176,7 +167,7 @@ module _ {A : Type 0} (rows : Rows) (target : List ℕ) where
 
 -- a record that is applied is neither BEGIN nor END
 pub neither_is : (head : Head) → IsLater head → closing head ≡ None → (is_begin head ≡ false) × (is_end head ≡ false)
-neither_is head later goes = (later_is head later, open_is head goes)
+neither_is head later goes = (later_is head later, no_end head goes)
 
 -- ---- plans
 

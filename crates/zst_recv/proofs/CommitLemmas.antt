@@ -22,6 +22,7 @@ use Rattle.zst_pool.specs.Events.{Settles}
 use Rattle.zst_pool.specs.Faults.{is_disk_fault}
 use Rattle.zst_model.specs.pools.Limits.{most_partials}
 use Rattle.zst_model.specs.pools.Step.{count_datasets, last_number, most_datasets, most_snapshots}
+use Rattle.zst_model.proofs.Results.{unless_ok}
 use Rattle.zst_pool.specs.Partials.{next_commit, partial_finished, partial_put, with_partial}
 use Rattle.zst_pool.proofs.Bounds.{SetIs-later}
 use Rattle.zst_pool.specs.PartialRows.{rows_with_partial}
@@ -29,7 +30,6 @@ use Rattle.zst_pool.specs.declared.fault.PoolFault.{PoolFault}
 use Rattle.zst_pool.specs.declared.fault.PoolFault.TheVariants as pools
 use Rattle.zst_pool.specs.declared.pool.Pool as coded_pool
 use Rattle.zst_pool.proofs.PoolsAtRest.{rests_on, since}
-use Rattle.zst_recv.proofs.Results.{unless_ok}
 use Rattle.zst_recv.specs.ReceiveSteps.{Stage, Waits, Lives, Ends, Batch, put, put_at}
 use Rattle.zst_recv.specs.Commits.{CommitsBatch, Puts}
 use Rattle.zst_recv.specs.Stages.{CanPutFor, IsStage, IsBatch, LivesOn, StageFits, has_partial}

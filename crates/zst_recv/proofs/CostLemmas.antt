@@ -8,8 +8,8 @@ use Rattle.zst_block.specs.IoCalls.{TakesAtMost, Works}
 use Rattle.zst_block.specs.IoStates.{IoState}
 use Rattle.zst_block.specs.declared.fault.BlockFault.{BlockFault}
 use Rattle.zst_block.specs.declared.fault.BlockFault.TheVariants as blocks
-use Rattle.zst_dir.specs.Spelling.{dir_bytes}
-use Rattle.zst_image.specs.Reads.{dir_sectors, free_by}
+use Rattle.zst_block.proofs.TakenSectors.{takes_more, takes_then}
+use Rattle.zst_image.specs.Reads.{free_by}
 use Rattle.zst_image.specs.declared.pool_state.PoolState.{PoolState}
 use Rattle.zst_objset.specs.declared.fault.ObjFault.{ObjFault}
 use Rattle.zst_objset.specs.declared.fault.ObjFault.TheVariants as sets
@@ -28,17 +28,6 @@ use Rattle.zst_pool.specs.declared.fault.PoolFault.{PoolFault}
 use Rattle.zst_pool.specs.declared.fault.PoolFault.TheVariants as pools
 
 -- ---- sectors that are taken
-
-takes_more : (few most : ℕ) (old new : FreeSectors) → few ≤ most → TakesAtMost few old new → TakesAtMost most old new
-takes_more few most old new le takes = record { sectors = takes.sectors; left = omega (arith, takes.left, le); longest = omega (arith, takes.longest, le); unbroken = takes.unbroken }
-
-takes_then : (one other : ℕ) (old mid new : FreeSectors) → TakesAtMost one old mid → TakesAtMost other mid new → TakesAtMost (one + other) old new
-takes_then one other old mid new first second = record {
-  sectors = second.sectors ∙ first.sectors;
-  left = omega (arith, first.left, second.left);
-  longest = omega (arith, first.longest, second.longest);
-  unbroken = λ none. second.unbroken (first.unbroken none);
-}
 
 -- ---- what is needed
 
@@ -82,7 +71,7 @@ pub spends_then : (records more : List Covered) (old mid new : FreeSectors) (sto
 spends_then records more old mid new stop first second =
     let all = sum_by-append (λ (c : Covered). record_cost c.head) records more in
     record {
-      takes = takes_more (records_cost records + records_cost more) (records_cost (records ++ more)) old new (omega (arith, all)) (takes_then (records_cost records) (records_cost more) old mid new first.takes second.takes);
+      takes = takes_more (records_cost records + records_cost more) (records_cost (records ++ more)) old new (omega (arith, all)) (takes_then old mid new first.takes second.takes);
       before = λ need largest is. omega (arith, all, second.before need largest is, first.takes.longest);
       needed = λ need largest is. needed_behind need records more (second.needed need largest is);
     }
@@ -155,7 +144,7 @@ short_read records kept left stop need largest is shorter longest spends = recor
 pub short_put : (records : List Covered) (kept : PoolState) (mid left : FreeSectors) (stop : Option BlockFault) (need largest : ℕ) → Spends records (free_by kept.body) mid stop
     → IsCallFull mid left kept.dir need largest → PieceIsShort records kept left need largest
 short_put records kept mid left stop need largest spends full = record {
-  taken = takes_then (records_cost records) (dir_sectors (length (dir_bytes kept.dir) + 2048)) (free_by kept.body) mid left spends.takes full.taken;
+  taken = takes_then (free_by kept.body) mid left spends.takes full.taken;
   shorter = full.shorter;
   needed = needed_none need records full.needed;
   is_longest = full.is_longest;

@@ -1,10 +1,9 @@
 -- What is drained of a text: the covered records that are there are taken, one after another.
-use Rattle.std.proofs.Common.{◌≡◌, ℕ, ◌≤◌, ◌^◌, ◌||◌, Bool, true, false, List, [], ◌∷◌, ◌++◌, length, sum_by, refl, sym, ap, ◌∙◌, subst, arith, append_assoc}
+use Rattle.std.proofs.Common.{◌≡◌, ℕ, ◌≤◌, ◌^◌, ◌||◌, Bool, true, false, List, [], ◌∷◌, ◌++◌, length, refl, sym, ap, ◌∙◌, subst, arith, append_assoc}
 use Rattle.std.specs.Prelude.{Option, Some, None, Result, Ok, Err}
 use Rattle.std.specs.List.{All}
 use Rattle.std.proofs.lemmas.List.{append-nil, drop_at}
 use Rattle.std.proofs.lemmas.List.Elements.{All-drop, All-head}
-use Rattle.std.proofs.lemmas.List.Sums.{sum_by-append}
 use Rattle.zst_outside.specs.Causes.{Rose-earlier}
 use Rattle.zst_outside.specs.Images.{DiskState, OnlyReads-none}
 use Rattle.zst_block.specs.IoCalls.{fails}
@@ -20,7 +19,7 @@ use Rattle.zst_pool.specs.Calls.{IsUnderWay}
 use Rattle.zst_reader.specs.StandsFor.{StandsFor, HandsOut, handed_of}
 use Rattle.zst_reader.specs.declared.reader.Reader.{Reader}
 use Rattle.zst_record.specs.Decoding.{features_in}
-use Rattle.zst_record.specs.Heads.{Covered, size_of}
+use Rattle.zst_record.specs.Heads.{Covered}
 use Rattle.zst_record.specs.Laws.{AreBytes}
 use Rattle.zst_stream.specs.PassedRecords.{HasPassed}
 use Rattle.zst_stream.specs.Reading.{Outcome, reading}
@@ -30,6 +29,7 @@ use Rattle.zst_recv.specs.ReceiveSteps.{Batch, EndedBatch, batch_of, batch_by, t
 use Rattle.zst_recv.specs.TakenRecords.{AreTaken, Drained, Drains, IsRead, Takes}
 use Rattle.zst_recv.specs.declared.fault.RecvFault.{RecvFault}
 use Rattle.zst_recv.specs.declared.fault.RecvFault.TheVariants as faults
+use Rattle.zst_recv.proofs.RecordCounts.{few_records}
 
 -- ---- what is written
 
@@ -81,13 +81,9 @@ is_read r text handed c bytes stands =
     let one : HasPassed (features_in text) c = All-head P c f.0 from in
     record { features = features_in text; fits = one.fits; payload = one.len; stated = one.stated }
 
-few : (cs : List Covered) → length cs ≤ sum_by (λ c. size_of c.head) cs
-few [] = omega arith
-few (c ∷ cs) = let first = sum_by-append (λ (c : Covered). size_of c.head) (c ∷ []) cs in omega (arith, few cs)
-
 -- a stream has no more records than bytes
 pub handed_within : (r : Reader) (text : List ℕ) (handed : List Covered) → StandsFor r text handed → handed_of r ≤ 2 ^ 62
-handed_within r text handed s = let a = s.number in let b = s.sizes in let d = s.bounded in omega (arith, few handed)
+handed_within r text handed s = let a = s.number in let b = s.sizes in let d = s.bounded in omega (arith, few_records handed)
 
 module _ (ask : RecvAsk) (pool : Pool) (ys : List Covered) where
   then_by : (xs : List Covered) (plain after : Batch) → ((w : Batch) → AreTaken ask pool xs w after → batch_of ask pool (xs ++ ys) w ≡ batch_of ask pool ys after) → (r : Result Batch Refusal)

@@ -170,14 +170,6 @@ waits_behind (stages.Ends row) is = is
 waits_behind (stages.Done received) is = is
 waits_behind stages.Over is = is
 
-pub not_not : (b : Bool) → not b ≡ false → b ≡ true
-not_not true is = refl
-not_not false is = absurd cc
-
-pub not_false : (b : Bool) → not b ≡ true → b ≡ false
-not_false true is = absurd cc
-not_false false is = refl
-
 pub both_false : (one other : Bool) → other ≡ false → (one && other) ≡ false
 both_false true other is = is
 both_false false other is = refl

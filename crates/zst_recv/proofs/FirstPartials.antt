@@ -26,7 +26,7 @@ use Rattle.zst_plan.specs.Receipts.{IsRecvPlanOf}
 use Rattle.zst_plan.specs.RecvPlan.{Base, Begins, RecvPlan, Resumes, snapshot_name}
 use Rattle.zst_plan.specs.declared.receive.RecvAsk.{RecvAsk}
 use Rattle.zst_plan.specs.declared.receive.RecvPlan.TheVariants as plans
-use Rattle.zst_recv.proofs.AlikeAnswers.{at_names, none_alike}
+use Rattle.zst_plan.proofs.AlikeAnswers.{none_alike, at_names}
 use Rattle.zst_recv.specs.ReceiveSteps.{Lives}
 use Rattle.zst_recv.specs.Stages.{CanPutFor, IsStage, IsBatch}
 use Rattle.zst_recv.specs.declared.batch.Batch as batches

@@ -1,5 +1,3 @@
-pub mod Results
-mod AlikeAnswers
 mod FirstPartials
 mod RecordEffects
 mod RecordCounts
@@ -14,13 +12,13 @@ mod BatchMoves
 mod ByteLimits
 mod FeedAnswers
 pub mod CommitLemmas
-mod PieceStages
-mod FeedEnds
+pub mod PieceStages
+pub mod FeedEnds
 mod FedPools
 mod DamageLemmas
 mod CostLemmas
 mod TokenRows
-mod PlanRefusals
+pub mod PlanRefusals
 mod KeptBlocks
 mod ListedRows
 mod KeptPartials

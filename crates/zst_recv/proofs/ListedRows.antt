@@ -4,7 +4,7 @@ use Rattle.std.specs.Prelude.{ℕ}
 use Rattle.zst_dir.specs.Rows.{Rows, HasSnapshot, IsLawful, is_for}
 use Rattle.zst_dir.specs.declared.rows.Partial.{Partial as Row}
 use Rattle.zst_model.proofs.OrderLaws.{same_bytes}
-use Rattle.zst_pool.proofs.DestroyedRows.{found_passes}
+use Rattle.zst_model.proofs.FoundElements.{found_passes}
 use Rattle.zst_recv.proofs.TokenRows.{found_fits, found_is}
 use Rattle.zst_recv.specs.GoingOn.{FittingReceive, FittingRow, IsRow}
 use Rattle.zst_recv.specs.Stages.{LivesOn}

@@ -4,7 +4,6 @@ use Rattle.std.specs.Prelude.{Option, Some, None, Result, Ok, Err, IfErr, IfSome
 use Rattle.zst_model.specs.declared.refusals.apply_fault.ApplyFault.{ApplyFault}
 use Rattle.zst_model.specs.declared.refusals.faults.Quantity.TheVariants as quantities
 use Rattle.zst_model.specs.declared.refusals.plan_fault.PlanFault.{PlanFault}
-use Rattle.zst_model.specs.declared.refusals.plan_fault.PlanFault.TheVariants as plans
 use Rattle.zst_model.specs.declared.refusals.refusal.Refusal.{Refusal}
 use Rattle.zst_model.specs.declared.refusals.refusal.Refusal.TheVariants as refusals
 use Rattle.zst_model.specs.declared.states.item.Item.{Item}
@@ -15,6 +14,7 @@ use Rattle.zst_model.specs.sends.ReceivedRecords.{is_past, of_record, received}
 use Rattle.zst_model.specs.states.AppliedItems.{unless, ◌>>=◌}
 use Rattle.zst_model.specs.states.DatedState.{DatedState, apply_dated}
 use Rattle.zst_model.specs.states.State.{index_bound}
+use Rattle.zst_model.proofs.PlanFaults.{plan_cases}
 use Rattle.zst_apply.specs.AppliedRecords.{received_all}
 use Rattle.zst_plan.specs.RecvPlan.{RecvPlan, recv_plan}
 use Rattle.zst_plan.specs.declared.receive.RecvAsk.{RecvAsk}
@@ -34,22 +34,7 @@ IsOwn refusals.DiskFault = ⊥
 IsOwn _ = Unit {0}
 
 own_plan : (fault : PlanFault) → IsOwn (refusal_of fault)
-own_plan (plans.BadName place) = tt
-own_plan (plans.NoSuch what) = tt
-own_plan (plans.Exists what) = tt
-own_plan (plans.Busy holder) = tt
-own_plan (plans.NotAncestor to from) = tt
-own_plan (plans.NotRedactionOf bookmark snapshot) = tt
-own_plan (plans.NotDescendant name) = tt
-own_plan (plans.Modified name) = tt
-own_plan (plans.NotLatest have want) = tt
-own_plan (plans.NoOrigin guid) = tt
-own_plan (plans.NotContained guid) = tt
-own_plan (plans.PartialExists name) = tt
-own_plan (plans.NoPartial name) = tt
-own_plan (plans.WrongResume have want) = tt
-own_plan (plans.Unsupported lack) = tt
-own_plan (plans.Limit which number) = tt
+own_plan = plan_cases (λ fault. IsOwn) (λ fault. tt) (λ which number. tt)
 
 own_of_plan : (plan : Result RecvPlan PlanFault) → IfErr (of_plan plan) IsOwn
 own_of_plan (Ok plan) = tt

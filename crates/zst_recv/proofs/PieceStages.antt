@@ -89,7 +89,7 @@ stands_behind bound has stages.Over stage none is = absurd is
 
 -- ---- behind a piece
 
-none_first : (one other : Option Refusal) → first_fault one other ≡ None → (one ≡ None) × (other ≡ None)
+pub none_first : (one other : Option Refusal) → first_fault one other ≡ None → (one ≡ None) × (other ≡ None)
 none_first None other is = (refl, is)
 none_first (Some refusal) other is = absurd cc
 

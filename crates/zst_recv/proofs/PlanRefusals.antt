@@ -5,12 +5,14 @@ use Rattle.zst_model.specs.declared.refusals.plan_fault.PlanFault.{PlanFault}
 use Rattle.zst_model.specs.declared.refusals.plan_fault.PlanFault.TheVariants as plans
 use Rattle.zst_model.specs.declared.refusals.stream_fault.StreamFault.{StreamFault}
 use Rattle.zst_model.specs.declared.sends.header.Header.{Header}
+use Rattle.zst_model.proofs.EmptyLists.{nothing_left}
 use Rattle.zst_objset.specs.declared.fault.ObjFault.{ObjFault}
 use Rattle.zst_objset.specs.declared.fault.ObjFault.TheVariants as sets
 use Rattle.zst_block.specs.declared.fault.BlockFault.TheVariants as blocks
 use Rattle.zst_plan.specs.Places.{AnswerAlike}
 use Rattle.zst_plan.specs.RecvPlan.{RecvPlan}
 use Rattle.zst_plan.specs.declared.receive.RecvAsk.{RecvAsk}
+use Rattle.zst_plan.proofs.AlikeAnswers.{ok_alike, err_alike}
 use Rattle.zst_pool.specs.Calls.{IsCallFault}
 use Rattle.zst_pool.specs.declared.fault.PoolFault.{PoolFault}
 use Rattle.zst_pool.specs.declared.fault.PoolFault.TheVariants as pools
@@ -28,7 +30,6 @@ use Rattle.zst_recv.specs.declared.fault.RecvFault.{RecvFault}
 use Rattle.zst_recv.specs.declared.fault.RecvFault.TheVariants as faults
 use Rattle.zst_recv.specs.declared.stage.Stage as coded
 use Rattle.zst_recv.specs.declared.stage.Stage.TheVariants as stages
-use Rattle.zst_recv.proofs.AlikeAnswers.{err_alike, ok_alike}
 use Rattle.zst_recv.proofs.HandedRecords.{covered_front}
 
 -- ---- answers
@@ -93,13 +94,9 @@ front_begins text rest first others header covered begins =
     let same : begins.first ≡ first = cc in
     record { first = first; rest = others; len = begins.len; covered = covered; head = subst (λ (c : Covered). c.head ≡ heads.Begin header begins.len) same begins.head }
 
-no_front : (A : Type 0) (xs ys : List A) → xs ++ ys ≡ [] → xs ≡ []
-no_front A [] ys is = refl
-no_front A (x ∷ xs) ys is = absurd (cc is)
-
 -- and one that covers nothing covers nothing so far
 pub front_none : (text rest : List ℕ) → (reading (text ++ rest)).covered ≡ [] → (reading text).covered ≡ []
-front_none text rest none = let f : FrontOf (reading text) (reading (text ++ rest)) = front text rest in no_front Covered (reading text).covered f.others (sym f.covered ∙ none)
+front_none text rest none = let f : FrontOf (reading text) (reading (text ++ rest)) = front text rest in nothing_left (reading text).covered f.others (sym f.covered ∙ none)
 
 pub later_begins : (text rest : List ℕ) (header : Header) → Begins text header → Begins (text ++ rest) header
 later_begins text rest header begins =

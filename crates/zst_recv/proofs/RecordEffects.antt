@@ -31,6 +31,7 @@ use Rattle.zst_record.specs.Heads.{Covered, payload_len}
 use Rattle.zst_record.specs.declared.head.Head.{Head}
 use Rattle.zst_record.specs.declared.head.Head.TheVariants as heads
 use Rattle.zst_record.proofs.SizeLaws.{block-bounded}
+use Rattle.zst_record.proofs.DecodingLaws.{in-range}
 use Rattle.zst_stream.specs.Items.{items_by}
 use Rattle.zst_stream.specs.Reading.{closing}
 use Rattle.zst_tree.specs.Indices.{Blocks}
@@ -105,10 +106,6 @@ free_range offset size is = go (nat_lt (offset + size) (2 ^ 64)) refl is
     go true e h = inr (ltb-true (offset + size) (2 ^ 64) e)
     go false e h = inl (eqb-true size to_end h)
 
-redact_range : (offset size : ℕ) → is_range offset size ≡ true → offset + size < 2 ^ 64
-unfolding is_range
-redact_range offset size is = ltb-true (offset + size) (2 ^ 64) is
-
 -- the range of a record that is taken ends within 64 bits
 pub ends_fit : (features number index flags : ℕ) (head : Head) (payload : List ℕ) (snap after : DatedState) → Fits features head → length payload ≡ payload_len head
     → received_all number index (items_by flags payload head) snap ≡ Ok after → EndFits head
@@ -121,7 +118,7 @@ ends_fit features number index flags (heads.Write object kind offset size to) pa
 ends_fit features number index flags (heads.Free object offset size to) payload snap after fits long is = free_range offset size fits.range
 ends_fit features number index flags (heads.End sums to) payload snap after fits long is = tt
 ends_fit features number index flags (heads.Spill object size to) payload snap after fits long is = tt
-ends_fit features number index flags (heads.Redact object offset size to) payload snap after fits long is = redact_range offset size fits.range
+ends_fit features number index flags (heads.Redact object offset size to) payload snap after fits long is = in-range offset size fits.range
 
 -- ---- a set
 

@@ -42,7 +42,7 @@ rules-unless : (o : Option StreamFault) (r : Ruling) → Rules r → Rules (unle
 rules-unless None r h = h
 rules-unless (Some fault) r h = tt
 
-no_end : (head : Head) → closing head ≡ None → is_end head ≡ false
+pub no_end : (head : Head) → closing head ≡ None → is_end head ≡ false
 no_end (heads.Begin header len) is = refl
 no_end (heads.Object object kind bonus_kind block_size bonus_len max_block to) is = refl
 no_end (heads.FreeObjects first count to) is = refl

@@ -1,89 +1,23 @@
 -- What stands before what, in the pool that runs while a receive is under way and in the pool that it began with.
-use Rattle.std.proofs.Common.{◌≡◌, inl, inr, ◌⊎◌, ℕ, ◌<◌, ◌≤◌, Bool, true, false, List, [], ◌∷◌, ◌++◌, map, Option, Some, None, IfSome, AllPairs, Contains, find, cond, refl, sym, ap, ◌∙◌, subst, arith}
-use Rattle.std.proofs.lemmas.List.Elements.{All-contains, Contains-append_left, Contains-append_right, Contains-append_cases}
-use Rattle.zst_model.specs.pools.Pool.{Pool, Dataset, Snapshot, Bookmark, Partial, HasDataset, HasSnapshot, IsLinked, dataset_of_snapshot, dataset_of_bookmark}
+use Rattle.std.proofs.Common.{inl, inr, ℕ, ◌≤◌, List, [], ◌∷◌, ◌++◌, Option, Some, None, IfSome, Contains}
+use Rattle.std.proofs.lemmas.List.Elements.{All-contains}
+use Rattle.zst_model.specs.pools.Pool.{Pool, Snapshot, Bookmark, Partial, HasDataset, HasSnapshot, IsLinked, dataset_of_snapshot, dataset_of_bookmark}
 use Rattle.zst_model.specs.pools.Ancestry.{IsOrigin, IsBase, Source, OfSnapshot, OfBookmark, StandsBefore, Earlier, AtOrigin, BeforeOrigin, BaseCounts, IsBefore, IsBeforePartial}
-use Rattle.zst_model.specs.pools.Rows.{Row, snapshot_row, head_row, partial_row, rows}
+use Rattle.zst_model.specs.pools.Rows.{Row, rows}
 use Rattle.zst_model.specs.pools.Soundness.{Agrees, DatedUpTo, IsBookmarkOf, Sound}
 use Rattle.zst_model.specs.states.State.{State}
 use Rattle.zst_laws.specs.RememberedStates.{SourceRemembers}
-use Rattle.zst_model.proofs.InsertedLaws.{All-from_contains, AllPairs-head, AllPairs-tail, contains_cases, contains_nothing, contains-map, map_contains}
-
--- ---- elements that pairs tell apart
-
--- two elements of which neither may stand before the other are one
-pub same_element : {A : Type 0} (R : A → A → Type 0) (xs : List A) → AllPairs R xs → (a b : A)
-    → Contains xs a → Contains xs b → (R a b → ⊥) → (R b a → ⊥) → a ≡ b
-same_element R [] pairs a b here there not_ab not_ba = absurd (contains_nothing a here)
-same_element {A = A} R (x ∷ xs) pairs a b here there not_ab not_ba =
-    go (same_element R xs (AllPairs-tail R x xs pairs) a b) (contains_cases x xs a here) (contains_cases x xs b there)
-  where
-    behind : (c d : A) → x ≡ c → Contains xs d → R c d
-    behind c d e later = subst (λ y. R y d) e (All-contains (R x) xs d (AllPairs-head R x xs pairs) later)
-
-    go : (Contains xs a → Contains xs b → (R a b → ⊥) → (R b a → ⊥) → a ≡ b) → (x ≡ a) ⊎ Contains xs a → (x ≡ b) ⊎ Contains xs b → a ≡ b
-    go rest (inl e) (inl f) = sym e ∙ f
-    go rest (inl e) (inr k) = absurd (not_ab (behind a b e k))
-    go rest (inr k) (inl f) = absurd (not_ba (behind b a f k))
-    go rest (inr k) (inr l) = rest k l not_ab not_ba
-
--- where none is found, each fails
-pub none_passes : {A : Type 0} (p : A → Bool) (xs : List A) → find p xs ≡ None → (x : A) → Contains xs x → p x ≡ false
-none_passes p [] e x there = absurd (contains_nothing x there)
-none_passes {A = A} p (y ∷ ys) e x there = go (p y) refl e (λ f k. none_passes p ys f x k) (contains_cases y ys x there)
-  where
-    go : (t : Bool) → p y ≡ t → cond t (Some y) (find p ys) ≡ None → (find p ys ≡ None → Contains ys x → p x ≡ false) → (y ≡ x) ⊎ Contains ys x → p x ≡ false
-    go true is e rest place = absurd cc
-    go false is e rest (inl same) = ap p (sym same) ∙ is
-    go false is e rest (inr later) = rest e later
-
--- a later snapshot of a dataset has a greater number
-abbrev pub Rises : Snapshot → Snapshot → Type 0
-Rises a b = dataset_of_snapshot a ≡ dataset_of_snapshot b → a.number < b.number
-
--- so snapshots of one dataset and one number are one
-pub same_snapshot : (snapshots : List Snapshot) → AllPairs Rises snapshots → (a b : Snapshot)
-    → Contains snapshots a → Contains snapshots b → dataset_of_snapshot a ≡ dataset_of_snapshot b → a.number ≡ b.number → a ≡ b
-same_snapshot snapshots rise a b here there of same =
-    same_element Rises snapshots rise a b here there (λ h. let l = h of in omega arith) (λ h. let l = h (sym of) in omega arith)
-
--- a snapshot agrees with its own state
-pub agrees_itself : (snapshot : Snapshot) → Agrees snapshot snapshot.objects
-agrees_itself snapshot = record { numbers = λ k n d. refl; number_dates = λ k n d. refl; indices = λ k i n l d. refl; index_dates = λ k i n l d. refl }
+use Rattle.zst_laws.proofs.pools.Descent.{row_cases, IsRow, SnapshotRow, HeadRow, PartialRow, snapshot_has_row, head_has_row, partial_has_row}
+use Rattle.zst_model.proofs.InsertedLaws.{All-from_contains}
 
 -- ---- rows
 
--- a row is of a snapshot, a head or a partial state
-pub data IsRow (pool : Pool) : Row → Type 0 where
-  SnapshotRow : (snapshot : Snapshot) → Contains pool.snapshots snapshot → IsRow pool (snapshot_row snapshot)
-  HeadRow : (dataset : Dataset) → Contains pool.datasets dataset → IsRow pool (head_row pool.number dataset)
-  PartialRow : (partial : Partial) → Contains pool.partials partial → IsRow pool (partial_row pool.number partial)
-
 module _ (pool : Pool) where
-  abbrev heads : List Row
-  heads = map (head_row pool.number) pool.datasets
-
-  abbrev partials : List Row
-  partials = map (partial_row pool.number) pool.partials
-
+  -- a row of a pool is one of its rows
   pub has_row : (row : Row) → IsRow pool row → Contains (rows pool) row
-  has_row row (SnapshotRow snapshot there) =
-      Contains-append_left (map snapshot_row pool.snapshots) (heads ++ partials) (snapshot_row snapshot) (contains-map snapshot_row pool.snapshots snapshot there)
-  has_row row (HeadRow dataset there) =
-      Contains-append_right (map snapshot_row pool.snapshots) (heads ++ partials) (head_row pool.number dataset)
-      (Contains-append_left heads partials (head_row pool.number dataset) (contains-map (head_row pool.number) pool.datasets dataset there))
-  has_row row (PartialRow partial there) =
-      Contains-append_right (map snapshot_row pool.snapshots) (heads ++ partials) (partial_row pool.number partial)
-      (Contains-append_right heads partials (partial_row pool.number partial) (contains-map (partial_row pool.number) pool.partials partial there))
-
-  pub row_cases : (row : Row) → Contains (rows pool) row → IsRow pool row
-  row_cases row there = elim (Contains-append_cases (map snapshot_row pool.snapshots) (heads ++ partials) row there) [
-    | inl h ↦ let found = map_contains snapshot_row pool.snapshots row h in subst (IsRow pool) found.2 (SnapshotRow found.0 found.1)
-    | inr h ↦ elim (Contains-append_cases heads partials row h) [
-      | inl k ↦ let found = map_contains (head_row pool.number) pool.datasets row k in subst (IsRow pool) found.2 (HeadRow found.0 found.1)
-      | inr k ↦ let found = map_contains (partial_row pool.number) pool.partials row k in subst (IsRow pool) found.2 (PartialRow found.0 found.1)
-    ]
-  ]
+  has_row row (SnapshotRow snapshot there) = snapshot_has_row pool snapshot there
+  has_row row (HeadRow dataset there) = head_has_row pool dataset there
+  has_row row (PartialRow partial there) = partial_has_row pool partial there
 
   -- what a sound pool says of a row
   pub sound_agrees : Sound pool → (earlier : Snapshot) → Contains pool.snapshots earlier → (row : Row) → IsRow pool row → IsBefore pool (OfSnapshot earlier) row.place → Agrees earlier row.objects

@@ -8,6 +8,8 @@ use Rattle.zst_model.specs.declared.states.item.Item.{Item}
 use Rattle.zst_model.specs.pools.Pool.{Pool, Partial}
 use Rattle.zst_model.specs.sends.Points.{point_of}
 use Rattle.zst_model.specs.states.AppliedItems.{apply_all, ◌>>=◌}
+use Rattle.zst_model.proofs.Points.{point_of-append}
+use Rattle.zst_model.proofs.Results.{bind_ok, ok_parts}
 use Rattle.zst_plan.specs.RecvPlan.{RecvPlan, Begins, Resumes, recv_plan}
 use Rattle.zst_plan.specs.declared.receive.RecvAsk.{RecvAsk}
 use Rattle.zst_record.specs.declared.head.Head.{Head}
@@ -15,12 +17,13 @@ use Rattle.zst_record.specs.declared.head.Head.TheVariants as heads
 use Rattle.zst_record.specs.Heads.{Covered}
 use Rattle.zst_stream.specs.Items.{items_by, items_of}
 use Rattle.zst_stream.specs.PassedRecords.{IsBegin}
+use Rattle.zst_stream.proofs.ItemStreams.{say_append}
 use Rattle.zst_recv.specs.ReceiveSteps.{Stage, Waits, Lives, Ends, Batch, batch_of, batch_by, began, begun, moved_by, of_plan, opened, taken, taken_at, went_on, with_applied}
 use Rattle.zst_replication.specs.Resumption.{IsApplied}
-use Rattle.zst_replication.proofs.RecordEffects.{all_applied, applied_on, moves, points_on}
+use Rattle.zst_replication.proofs.RecordEffects.{all_applied, applied_on, moves}
 use Rattle.zst_replication.proofs.FirstRecords.{FirstIsBegin}
-use Rattle.zst_replication.proofs.Results.{bound, ok_parts, plan_ok}
-use Rattle.zst_replication.proofs.StreamRecords.{IsEnd, items_on}
+use Rattle.zst_replication.proofs.Results.{plan_ok}
+use Rattle.zst_replication.proofs.StreamRecords.{IsEnd}
 
 -- behind these records a partial state is what they make of that with which it began, and the first of them is the BEGIN that was planned
 pub record AppliedBehind (ask : RecvAsk) (start : Pool) (records : List Covered) (flags : ℕ) (partial : Partial) : Type 0 where
@@ -90,7 +93,7 @@ module _ (law : ReceivedIsApplied) (ask : RecvAsk) (start pool : Pool) where
 
   began_applied : (c : Covered) (batch after : Batch) (head : Head) → c.head ≡ head → IsBegin head → pool ≡ start → began ask pool batch head ≡ Ok after → Applied ask start pool after.stage (c ∷ [])
   began_applied c batch after (heads.Begin header len) head is same e =
-      let found = bound (of_plan (recv_plan ask header pool)) (λ plan. Ok (opened ask header plan)) after e in
+      let found = bind_ok (of_plan (recv_plan ask header pool)) (λ plan. Ok (opened ask header plan)) after e in
       subst (λ (w : Batch). Applied ask start pool w.stage (c ∷ [])) (ok_parts _ _ found.2)
       (opened_applied c header len found.0 head (subst (λ (p : Pool). recv_plan ask header p ≡ Ok found.0) same (plan_ok _ found.0 found.1)))
   began_applied c batch after (heads.Object object kind bonus_kind block_size bonus_len max_block to) head is same e = absurd is
@@ -110,7 +113,7 @@ module _ (law : ReceivedIsApplied) (ask : RecvAsk) (start pool : Pool) where
   behind_on c records flags partial next behind applied point further =
       let done = items_of flags records in
       let said = items_by flags c.payload c.head in
-      let all : items_of flags (records ++ c ∷ []) ≡ done ++ said = items_on flags records (c ∷ []) ∙ ap (λ (is : List Item). done ++ is) (append-nil said) in
+      let all : items_of flags (records ++ c ∷ []) ≡ done ++ said = say_append flags records (c ∷ []) ∙ ap (λ (is : List Item). done ++ is) (append-nil said) in
       record {
         is = record {
           header = behind.is.header;
@@ -122,7 +125,7 @@ module _ (law : ReceivedIsApplied) (ask : RecvAsk) (start pool : Pool) where
               ap (λ (is : List Item). apply_all is behind.is.begun.objects.state) all
               ∙ applied_on done said behind.is.begun.objects.state partial.objects.state next.objects.state behind.is.objects applied;
           reached =
-              point ∙ ap (λ (at : Point). point_of at said) behind.is.reached ∙ sym (points_on behind.is.begun.point done said)
+              point ∙ ap (λ (at : Point). point_of at said) behind.is.reached ∙ sym (point_of-append behind.is.begun.point done said)
               ∙ sym (ap (point_of behind.is.begun.point) all);
           stays = further ∙ ap (λ (p : Partial). record p { objects = next.objects; point = next.point }) behind.is.stays;
         };
@@ -136,7 +139,7 @@ module _ (law : ReceivedIsApplied) (ask : RecvAsk) (start pool : Pool) where
   moved_applied : (c : Covered) (records : List Covered) (flags : ℕ) (partial : Partial) (batch after : Batch) → AppliedBehind ask start records flags partial
       → (moved_by (pool.number + 1) c flags partial >>= λ next. Ok (with_applied flags next batch)) ≡ Ok after → Applied ask start pool after.stage (records ++ c ∷ [])
   moved_applied c records flags partial batch after behind e =
-      let found = bound (moved_by (pool.number + 1) c flags partial) (λ next. Ok (with_applied flags next batch)) after e in
+      let found = bind_ok (moved_by (pool.number + 1) c flags partial) (λ next. Ok (with_applied flags next batch)) after e in
       let moved = moves (pool.number + 1) c flags partial found.0 found.1 in
       subst (λ (w : Batch). Applied ask start pool w.stage (records ++ c ∷ [])) (ok_parts _ _ found.2)
       (behind_on c records flags partial found.0 behind

@@ -1,11 +1,13 @@
 -- A receive in sessions.
 use Rattle.std.proofs.Common.{◌≡◌, ◌⊎◌, inl, inr, ℕ, List, Option, Some, None, refl, sym, ap, ◌∙◌, subst, find}
 use Rattle.std.specs.Prelude.{bytes_eq}
+use Rattle.std.proofs.lemmas.Option.{same_Some}
 use Rattle.zst_model.specs.pools.KeptPool.{kept_of}
 use Rattle.zst_model.specs.pools.Pool.{Pool, Partial, partial_of}
 use Rattle.zst_model.specs.sends.Headers.{Sent, choice_of, header_of, sent_view}
 use Rattle.zst_model.specs.sends.Target.{BaseOk}
 use Rattle.zst_model.specs.states.State.{IsState}
+use Rattle.zst_model.proofs.FoundElements.{found_kept}
 use Rattle.zst_plan.specs.RecvPlan.{Base}
 use Rattle.zst_plan.specs.declared.receive.RecvAsk.{RecvAsk}
 use Rattle.zst_recv.specs.Feeds.{receives}
@@ -14,15 +16,14 @@ use Rattle.zst_replication.specs.Outcomes.{Course, HasOneMore, Progress, base_na
 use Rattle.zst_replication.specs.Resumption.{Begun, Between, Chain, ChainsAreUnderway, ChainsComplete, FitRestIsReceived, GoneOn, IsUnderway, ResumedStopsAreProgress}
 use Rattle.zst_replication.specs.Replicas.{IsSendable, StopsAreProgress}
 use Rattle.zst_replication.proofs.FreshReceives.{began_in}
-use Rattle.zst_replication.proofs.Results.{some_parts}
-use Rattle.zst_replication.proofs.Rows.{found_kept, none_left, none_kept}
+use Rattle.zst_replication.proofs.Rows.{none_left, none_kept}
 
 -- a partial state that a session left was there, or it is underway
 left_underway : (sent : Sent) (ask : RecvAsk) (course : Course) (old new : Pool) (partial : Partial) → Progress ask (sent_view sent) course old new → partial_of ask.target new ≡ Some partial
     → (partial_of ask.target old ≡ Some partial) ⊎ (IsUnderway sent ask.target course.state new partial × (partial.component ≡ course.component) × (partial.base ≡ course.base))
 left_underway sent ask course old new partial (inl nothing) there = inl (sym (ap (λ (ps : List Partial). find (λ p. bytes_eq p.target ask.target) ps) nothing.partials) ∙ there)
 left_underway sent ask course old new partial (inr (inl way)) there =
-    let same : way.partial ≡ partial = some_parts way.partial partial (sym way.has.there ∙ there) in
+    let same : way.partial ≡ partial = same_Some way.partial partial (sym way.has.there ∙ there) in
     subst (λ (p : Partial). (partial_of ask.target old ≡ Some p) ⊎ (IsUnderway sent ask.target course.state new p × (p.component ≡ course.component) × (p.base ≡ course.base))) same
     (inr (record { there = way.has.there; kept = way.kept; way = record { header = way.header; reached = refl; objects = way.stands } }, way.named, way.based))
 left_underway sent ask course old new partial (inr (inr received)) there =
@@ -65,7 +66,7 @@ module _ (stops : StopsAreProgress) (resumed : ResumedStopsAreProgress) (sent : 
       go : IsOn start first → (partial_of ask.target (kept_of start) ≡ Some partial) ⊎ (IsUnderway sent ask.target (base_objects base).state new partial × (partial.component ≡ first.component) × (partial.base ≡ first.base)) → IsOn new partial
       go on (inl old) =
           let was = found_kept (λ (p : Partial). bytes_eq p.target target) (λ (p : Partial). p.keep) start.partials first found on.0.kept in
-          let same : first ≡ partial = some_parts first partial (sym was ∙ subst (λ (t : List ℕ). partial_of t (kept_of start) ≡ Some partial) same old) in
+          let same : first ≡ partial = same_Some first partial (sym was ∙ subst (λ (t : List ℕ). partial_of t (kept_of start) ≡ Some partial) same old) in
           still first partial start new same on there
       go on (inr now) = (subst (λ (t : List ℕ). IsUnderway sent t (base_objects base).state new partial) same now.0, now.1 ∙ on.1, now.2 ∙ on.2)
   underway pool (Between old _ chain same) partial there = still partial partial old pool refl (underway old chain partial (sym same ∙ there)) there

@@ -9,6 +9,7 @@ use Rattle.zst_stream.specs.Laws.{FrontsAgree}
 use Rattle.zst_stream.specs.Reading.{reading}
 use Rattle.zst_recv.specs.Feeds.{new_records}
 use Rattle.zst_recv.specs.ReceiveSteps.{Stage, Goes, Stops, Batch, at_stage, batch_of, committed, fed, first_fault, is_kept, keeps_front, left_by, put, settled}
+use Rattle.zst_recv.proofs.PieceStages.{none_first}
 
 -- the records of a longer text are those of its front, and the new ones
 pub new_are : FrontsAgree → (text piece : List ℕ) → (reading (text ++ piece)).covered ≡ (reading text).covered ++ new_records text piece
@@ -45,17 +46,13 @@ settles before pool batch (Some refusal) next after e = go (keeps_front refusal 
     go true e = absurd (stops_not before pool refusal (put batch pool) next after e)
     go false e = absurd cc
 
-no_first : (a b : Option Refusal) → first_fault a b ≡ None → (a ≡ None) × (b ≡ None)
-no_first None b e = (refl, e)
-no_first (Some refusal) b e = absurd cc
-
 pub goes_on : (ask : RecvAsk) (records : List Covered) (fault : Option Refusal) (stage after : Stage) (pool next : Pool) → fed ask records fault stage pool ≡ Goes next after
     → GoesOn ask records fault stage after pool next
 unfolding fed
 goes_on ask records fault stage after pool next e =
     let done = batch_of ask pool records (at_stage stage) in
     let well = settles stage pool done.batch (first_fault done.fault fault) next after e in
-    let none = no_first done.fault fault well.0 in
+    let none = none_first done.fault fault well.0 in
     record { none_refused = none.0; none_found = none.1; after_is = well.2; put_is = well.1 }
 
 -- ---- a feed that stops

@@ -2,6 +2,7 @@
 use Rattle.std.proofs.Common.{◌≡◌, inl, inr, ℕ, ◌<◌, Bool, true, false, not, List, [], ◌∷◌, map, Option, Some, None, is_some, option_map, refl, sym, ap, ◌∙◌, subst, cond, find}
 use Rattle.std.specs.Prelude.{bytes_eq, filter}
 use Rattle.std.proofs.lemmas.Bool.{cond-true, cond-false}
+use Rattle.std.proofs.lemmas.Option.{same_Some}
 use Rattle.zst_model.proofs.OrderLaws.{same_bytes, bytes_same}
 use Rattle.zst_model.specs.declared.sends.header.Header.{Header}
 use Rattle.zst_model.specs.pools.KeptPool.{kept_of}
@@ -11,7 +12,6 @@ use Rattle.zst_plan.specs.RecvPlan.{snapshot_name}
 use Rattle.zst_plan.specs.declared.receive.RecvAsk.{RecvAsk}
 use Rattle.zst_pool.specs.Partials.{changed_at, dataset_from, head_from, latest_snapshot, rolled, rolled_to}
 use Rattle.zst_replication.specs.Outcomes.{HasOneMore}
-use Rattle.zst_replication.proofs.Results.{some_parts}
 use Rattle.zst_replication.proofs.Rows.{filter_twice}
 use Rattle.zst_replication.proofs.RunningPools.{Finished, Heads, finished_datasets, finished_snapshot}
 
@@ -37,7 +37,7 @@ found_named name (x ∷ xs) d e = go (bytes_eq x.name name) refl (found_named na
   where
     go : (t : Bool) → bytes_eq x.name name ≡ t → (find_named name xs ≡ Some d → bytes_eq d.name name ≡ true)
         → cond t (Some x) (find_named name xs) ≡ Some d → bytes_eq d.name name ≡ true
-    go true b rest e = subst (λ (y : Dataset). bytes_eq y.name name ≡ true) (some_parts x d e) b
+    go true b rest e = subst (λ (y : Dataset). bytes_eq y.name name ≡ true) (same_Some x d e) b
     go false b rest e = rest e
 
 -- a change that leaves the datasets of this name leaves what is found
@@ -159,7 +159,7 @@ finished_there partial ds = go (find_named partial.target ds) refl
       there = changed_there partial.target (head_from partial) (λ d. refl) ds d e;
       head = refl;
       redact = refl;
-      kept = λ x n. let same : d ≡ x = some_parts d x (sym e ∙ n) in (ap (λ (y : Dataset). y.kind) same, ap (λ (y : Dataset). y.origin) same);
+      kept = λ x n. let same : d ≡ x = same_Some d x (sym e ∙ n) in (ap (λ (y : Dataset). y.kind) same, ap (λ (y : Dataset). y.origin) same);
       made = λ n. absurd (let both = sym e ∙ n in cc);
     }
 

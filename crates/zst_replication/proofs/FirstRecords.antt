@@ -7,6 +7,7 @@ use Rattle.zst_model.specs.declared.refusals.faults.Lack.TheVariants as lacks
 use Rattle.zst_model.specs.declared.refusals.stream_fault.StreamFault.{StreamFault}
 use Rattle.zst_model.specs.declared.refusals.stream_fault.StreamFault.TheVariants.{Grammar, Unsupported}
 use Rattle.zst_model.specs.declared.sends.header.Header.{Header}
+use Rattle.zst_model.proofs.Results.{ok_parts}
 use Rattle.zst_record.specs.declared.head.Head.{Head}
 use Rattle.zst_record.specs.declared.head.Head.TheVariants as heads
 use Rattle.zst_record.specs.Decoding.{Decoded, begin_of, begin_with, check, decoded, features_in, header_with, is_payload_len, lack_of_feature, name_in, named, needs_payload, others_of, snapshot_of, snapshot_with}
@@ -15,7 +16,6 @@ use Rattle.zst_record.specs.Heads.{Covered}
 use Rattle.zst_record.specs.Payload as payloads
 use Rattle.zst_stream.specs.PassedRecords.{IsBegin}
 use Rattle.zst_stream.specs.Reading.{Reading, Ruling, wait, refuse, last, more, after, begun, cover, is_built, judged, next_by, not_built, opened, reading, reading_from, ruling, sealed_next, unless}
-use Rattle.zst_replication.proofs.Results.{ok_parts}
 
 abbrev pub FirstIsBegin : List Covered → Type 0
 FirstIsBegin [] = Unit {0}

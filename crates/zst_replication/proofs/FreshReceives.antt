@@ -5,6 +5,7 @@ use Rattle.zst_model.specs.pools.Pool.{Pool, IsPool, partial_of, snapshot_named}
 use Rattle.zst_model.specs.sends.Headers.{Sent, header_of, sent_view}
 use Rattle.zst_model.specs.sends.Target.{target}
 use Rattle.zst_model.specs.states.State.{IsState, State}
+use Rattle.zst_model.proofs.Results.{ok_parts}
 use Rattle.zst_plan.specs.RecvPlan.{Base, RecvPlan, Begins, recv_plan, snapshot_name}
 use Rattle.zst_plan.specs.declared.receive.RecvAsk.{RecvAsk}
 use Rattle.zst_recv.specs.ReceiveSteps.{begun}
@@ -13,7 +14,6 @@ use Rattle.zst_replication.specs.Outcomes.{HasOneMore, base_name, base_objects}
 use Rattle.zst_replication.specs.Replicas.{IsSendable, MatchesBase, SentIsReceived, StopsAreProgress}
 use Rattle.zst_replication.proofs.ReceivePlans.{begins_anew, lawful_base}
 use Rattle.zst_replication.proofs.ReplicaLemmas.{BeginsWith, ended_plan, is_view, made, progressed, received}
-use Rattle.zst_replication.proofs.Results.{ok_parts}
 
 -- the base of a plan is lawful, and no snapshot has the component
 pub record BeganIn (ask : RecvAsk) (start : Pool) (component : List ℕ) (base : Base) : Type 0 where

@@ -3,16 +3,17 @@ use Rattle.std.proofs.Common.{◌≡◌, ◌≢◌, ◌⊎◌, inl, inr, ℕ, �
 use Rattle.std.specs.Prelude.{bytes_eq}
 use Rattle.std.proofs.lemmas.Bool.{true≢false}
 use Rattle.std.proofs.lemmas.List.Elements.{All-contains}
+use Rattle.std.proofs.lemmas.Option.{same_Some}
 use Rattle.zst_model.proofs.InsertedLaws.{AllPairs-head, AllPairs-tail, contains_cases, contains_first, contains_later, contains_nothing}
 use Rattle.zst_model.proofs.OrderLaws.{bytes_same, same_bytes}
 use Rattle.zst_model.specs.pools.Pool.{Pool, Dataset, Snapshot, Bookmark, Partial, HasDataset, HasSnapshot, dataset_of_snapshot, dataset_of_bookmark, snapshot_is_before}
 use Rattle.zst_model.specs.pools.Soundness.{DatedUpTo}
 use Rattle.zst_model.specs.states.DatedState.{DatedState}
+use Rattle.zst_model.proofs.UniqueElements.{same_named}
 use Rattle.zst_plan.specs.RecvPlan.{is_dated_after, last_of}
 use Rattle.zst_pool.specs.Partials.{last_from, last_where, latest_snapshot}
 use Rattle.zst_replication.proofs.EarlierDates.{Stays}
-use Rattle.zst_replication.proofs.Results.{some_parts}
-use Rattle.zst_replication.proofs.Ancestry.{Rises, same_element}
+use Rattle.zst_laws.proofs.pools.Descent.{Rises}
 
 -- ---- the last that passes a test
 
@@ -63,7 +64,7 @@ last_stands {A = A} R p (y ∷ ys) found last pairs e =
         → ((found ≡ Some last) × ((x : A) → Contains (y ∷ ys) x → p x ≡ false)) ⊎ IsLast R p (y ∷ ys) last
     go t is (inr later) = inr (contains_later y ys last later.0, later.1, λ x there passes. behind x later.0 (contains_cases y ys x there) (λ k. later.2 x k passes))
     go true is (inl now) =
-        let same = some_parts y last now.0 in
+        let same = same_Some y last now.0 in
         inr (subst (λ (z : A). Contains (y ∷ ys) z) same (contains_first y ys), ap p (sym same) ∙ is, λ x there passes. only x same now.1 passes (contains_cases y ys x there))
     go false is (inl before) = inl (before.0, λ x there. fails x is before.1 (contains_cases y ys x there))
 
@@ -154,18 +155,14 @@ pub record AreOrdered (snapshots : List Snapshot) : Type 0 where
   pub order : AllPairs (λ a b. snapshot_is_before b a ≡ false) snapshots
   pub differ : AllPairs (λ a b. a.name ≢ b.name) snapshots
 
--- snapshots whose names differ and that have one name are one
-same_named : (snapshots : List Snapshot) → AllPairs (λ a b. a.name ≢ b.name) snapshots → (a b : Snapshot) → Contains snapshots a → Contains snapshots b → a.name ≡ b.name → a ≡ b
-same_named snapshots differ a b here there same = same_element (λ c d. c.name ≢ d.name) snapshots differ a b here there (λ h. h same) (λ h. h (sym same))
-
 -- a base is the snapshot of its name
 pub named_base : (start : Pool) → AreOrdered start.snapshots → (base : Option Snapshot) → IfSome base (λ snapshot. Contains start.snapshots snapshot) → (other : Snapshot) → Contains start.snapshots other
     → option_map (λ snapshot. snapshot.name) base ≡ Some other.name → base ≡ Some other
 named_base start named None has other there e = absurd cc
 named_base start named (Some snapshot) has other there e =
-    ap (λ (s : Snapshot). Some s) (same_named start.snapshots named.differ snapshot other has there (some_parts snapshot.name other.name e))
+    ap (λ (s : Snapshot). Some s) (same_named start.snapshots named.differ snapshot other has there (same_Some snapshot.name other.name e))
 
 -- it is there
 pub base_named : (start : Pool) (base : Option Snapshot) → IfSome base (λ snapshot. Contains start.snapshots snapshot) → (name : List ℕ) → option_map (λ snapshot. snapshot.name) base ≡ Some name → HasSnapshot start name
 base_named start None has name e = absurd cc
-base_named start (Some snapshot) has name e = (snapshot, has, some_parts snapshot.name name e)
+base_named start (Some snapshot) has name e = (snapshot, has, same_Some snapshot.name name e)

@@ -13,13 +13,14 @@ use Rattle.zst_model.specs.declared.refusals.plan_fault.PlanFault.TheVariants as
 use Rattle.zst_model.specs.declared.sends.header.Header.{Header}
 use Rattle.zst_model.specs.pools.Pool.{Pool, Dataset, Snapshot, Bookmark, HasDataset, dataset_named, dataset_of_snapshot, dataset_of_bookmark}
 use Rattle.zst_model.specs.states.AppliedItems.{unless, ◌>>=◌}
+use Rattle.zst_model.proofs.FoundElements.{found_passes, none_passes}
+use Rattle.zst_model.proofs.Results.{bind_ok, ok_parts, unless_ok}
 use Rattle.zst_plan.specs.RecvPlan as planning
 use Rattle.zst_plan.specs.RecvPlan.{Base, base_anew, base_by_head, base_for, base_onto, find_latest, if_kind, if_source, is_dated_after, latest_of, rolled_back}
 use Rattle.zst_plan.specs.declared.receive.RecvAsk.{RecvAsk}
 use Rattle.zst_replication.proofs.GrownPartials.{IsLatest, IsOver, MayGoBack, last_is, latest_is}
-use Rattle.zst_replication.proofs.ReceivePlans.{base_there, found_there, or_parts}
-use Rattle.zst_replication.proofs.Results.{bound, ok_parts, unless_ok}
-use Rattle.zst_replication.proofs.Ancestry.{Rises, none_passes}
+use Rattle.zst_replication.proofs.ReceivePlans.{base_there, or_parts}
+use Rattle.zst_laws.proofs.pools.Descent.{Rises}
 
 -- a bookmark of this dataset that is later than this number
 abbrev is_later : List ℕ → ℕ → Bookmark → Bool
@@ -59,7 +60,7 @@ module _ (ask : RecvAsk) (header : Header) (pool : Pool) (rise : AllPairs Rises 
       let kinded : Snapshot → Result Base PlanFault = λ latest. if_kind dataset.kind header (own latest) in
       let sourced : Snapshot → Result Base PlanFault = λ latest. if_source latest.guid header (kinded latest) in
       let grown = unless_ok (planning.is_full header || is_some ask.origin) (plans.Exists (present.Named (names.Dataset dataset.name))) (find_latest dataset.name header pool >>= sourced) base e in
-      let found = bound (find_latest dataset.name header pool) sourced base grown.1 in
+      let found = bind_ok (find_latest dataset.name header pool) sourced base grown.1 in
       let last = or_parts (latest_of dataset.name pool) (plans.NotLatest 0 header.from) found.0 found.1 in
       let source = unless_ok (not (found.0.guid == header.from)) (plans.NotLatest found.0.guid header.from) (kinded found.0) base found.2 in
       let kind = unless_ok (not (dataset.kind == header.kind)) (plans.Unsupported lacks.Kind) (own found.0) base source.1 in
@@ -78,7 +79,7 @@ module _ (ask : RecvAsk) (header : Header) (pool : Pool) (rise : AllPairs Rises 
       go None is e = inr (λ has. true≢false
           (sym (bytes_same has.0.name ask.target has.2) ∙ none_passes (λ dataset. bytes_eq dataset.name ask.target) pool.datasets is has.0 has.1))
       go (Some dataset) is e =
-          let found = found_there (λ dataset. bytes_eq dataset.name ask.target) pool.datasets dataset is in
+          let found = found_passes (λ dataset. bytes_eq dataset.name ask.target) pool.datasets dataset is in
           let latest = onto_latest dataset base found.0 e in
           let same = same_bytes dataset.name ask.target found.1 in
           inl (latest.0, latest.1, subst (λ (n : List ℕ). IsLatest pool n latest.0) same latest.2, subst (λ (n : List ℕ). MayGoBack pool n latest.0.number) same latest.3)

@@ -49,7 +49,7 @@ module _ (pool : Pool) (is : IsPool pool) where
   some_guid (OfBookmark bookmark) there =
       (All-contains (λ (b : Bookmark). IsGuid b.guid × IsGuidSet b.redact × IsRunList b.runs × (b.time < 2 ^ 64)) pool.bookmarks bookmark is.bookmarks there).0.0
 
-not_full : (guid : ℕ) → 0 < guid → (guid == 0) ≡ false
+pub not_full : (guid : ℕ) → 0 < guid → (guid == 0) ≡ false
 not_full guid some = grind (arith, nat_tests, some)
 
 snapshot_row_there : (pool : Pool) (snapshot : Snapshot) → Contains pool.snapshots snapshot → Contains (rows pool) (snapshot_row snapshot)

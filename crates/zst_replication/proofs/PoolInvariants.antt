@@ -5,6 +5,7 @@ use Rattle.std.specs.Option.{option_map_or}
 use Rattle.std.proofs.lemmas.Bool.{true≢false}
 use Rattle.std.proofs.lemmas.List.Elements.{All-contains}
 use Rattle.zst_laws.specs.ReceivedRecords.{ReceivedIsApplied}
+use Rattle.zst_laws.proofs.pools.Descent.{SnapshotRow, PartialRow}
 use Rattle.zst_names.specs.Names.{IsDataset}
 use Rattle.zst_model.proofs.OrderLaws.{bytes_same}
 use Rattle.zst_model.specs.declared.refusals.refusal.Refusal.{Refusal}
@@ -14,6 +15,10 @@ use Rattle.zst_model.specs.pools.Rows.{partial_row, snapshot_row}
 use Rattle.zst_model.specs.pools.Soundness.{DatedUpTo, Sound}
 use Rattle.zst_model.specs.states.AppliedItems.{◌>>=◌}
 use Rattle.zst_model.specs.states.DatedState.{DatedState}
+use Rattle.zst_model.proofs.DatedStates.{dated_higher}
+use Rattle.zst_model.proofs.FoundElements.{found_passes, none_passes}
+use Rattle.zst_model.proofs.FilteredLists.{filter_contains}
+use Rattle.zst_model.proofs.Results.{bind_ok, ok_parts}
 use Rattle.zst_plan.specs.RecvPlan.{RecvPlan, recv_plan, snapshot_name}
 use Rattle.zst_plan.specs.declared.receive.RecvAsk.{RecvAsk}
 use Rattle.zst_pool.specs.Partials.{partials_of_others, rolled_back, with_finished, with_partial}
@@ -25,19 +30,19 @@ use Rattle.zst_recv.proofs.CommitLemmas.{commit_is}
 use Rattle.zst_recv.specs.Answers.{is_done}
 use Rattle.zst_recv.specs.Feeds.{and_feed, fault_of, fed_piece, feeds, new_records, receives}
 use Rattle.zst_recv.specs.ReceiveSteps.{Stage, Waits, Lives, Ends, Batch, Fed, Goes, Stops, at_stage, batch_of, batch_by, began, begun, fed, left_by, moved_by, of_plan, opened, put, put_at, taken, taken_at, went_on, with_applied}
-use Rattle.zst_replication.proofs.EarlierDates.{all_carry, dated_higher, stays_on, stays_same}
+use Rattle.zst_replication.proofs.EarlierDates.{all_carry, stays_on, stays_same}
 use Rattle.zst_replication.proofs.FeedSteps.{goes_on, stops_by}
 use Rattle.zst_replication.proofs.FeedSequences.{Stands, ended_feed, fed_ended, feed_worked, put_stands, stands_first}
 use Rattle.zst_replication.proofs.GrownPartials.{Grown, IsLatest, MayGoBack, base_named, grown_on, latest_number}
 use Rattle.zst_replication.proofs.RecordEffects.{moves}
 use Rattle.zst_replication.proofs.LatestBases.{planned_over}
-use Rattle.zst_replication.proofs.ReceivePlans.{begins_anew, filtered_there, found_there, resumes}
-use Rattle.zst_replication.proofs.Results.{bound, ok_parts, plan_ok}
+use Rattle.zst_replication.proofs.ReceivePlans.{begins_anew, resumes}
+use Rattle.zst_replication.proofs.Results.{plan_ok}
 use Rattle.zst_replication.proofs.Rows.{none_left, others_all}
 use Rattle.zst_replication.proofs.RunningPools.{Heads}
 use Rattle.zst_replication.proofs.SoundSnapshots.{finished}
 use Rattle.zst_replication.proofs.SoundPartials.{AreOlds, back_olds, same_olds, under}
-use Rattle.zst_replication.proofs.Ancestry.{PartialRow, SnapshotRow, fewer_linked, none_passes, old_number, owner, sound_dated}
+use Rattle.zst_replication.proofs.Ancestry.{fewer_linked, old_number, owner, sound_dated}
 
 -- the pool without a partial state of the target
 abbrev pub cleared : RecvAsk → Pool → Pool
@@ -72,7 +77,7 @@ pub record HoldsAll (ask : RecvAsk) (start : Pool) (Holds : Pool → Type 0) : T
   pub fewer : (pool : Pool) (partials : List Partial) → ((partial : Partial) → Contains partials partial → Contains pool.partials partial) → Holds pool → Holds (record pool { partials = partials })
 
 pub some : (ask : RecvAsk) (start : Pool) (partial : Partial) → Contains (cleared ask start).partials partial → Contains start.partials partial
-some ask start partial there = filtered_there (λ (p : Partial). not (bytes_eq p.target ask.target)) start.partials partial there
+some ask start partial there = filter_contains (λ (p : Partial). not (bytes_eq p.target ask.target)) start.partials partial there
 
 module _ (law : ReceivedIsApplied) (ask : RecvAsk) (start : Pool) (linked : IsLinked start) (sound : Sound start) where
   -- ---- one record
@@ -131,7 +136,7 @@ module _ (law : ReceivedIsApplied) (ask : RecvAsk) (start : Pool) (linked : IsLi
       go None none = fresh_grown header plan number pool up none planned
       go (Some old) found =
           subst (λ (p : RecvPlan). Comes ask start number (opened ask header p).stage pool) (sym (resumes ask header start old plan found planned))
-          (old_grown number old up (found_there (λ (p : Partial). bytes_eq p.target ask.target) start.partials old found).0)
+          (old_grown number old up (found_passes (λ (p : Partial). bytes_eq p.target ask.target) start.partials old found).0)
 
   module _ (pool : Pool) (up : start.number ≤ pool.number) where
     -- what the batch of a feed has under way, in the next commit
@@ -144,7 +149,7 @@ module _ (law : ReceivedIsApplied) (ask : RecvAsk) (start : Pool) (linked : IsLi
     began_comes : (batch after : Batch) (head : Head) → Coming batch → batch.stage ≡ Waits → began ask pool batch head ≡ Ok after → Coming after
     began_comes batch after (heads.Begin header len) comes waits e =
         let same : pool ≡ start = subst (λ (s : Stage). Comes ask start (pool.number + 1) s pool) waits comes in
-        let found = bound (of_plan (recv_plan ask header pool)) (λ plan. Ok (opened ask header plan)) after e in
+        let found = bind_ok (of_plan (recv_plan ask header pool)) (λ plan. Ok (opened ask header plan)) after e in
         let planned = subst (λ (p : Pool). recv_plan ask header p ≡ Ok found.0) same (plan_ok _ found.0 found.1) in
         subst (λ (w : Batch). Coming w) (ok_parts _ _ found.2) (opened_comes header found.0 (pool.number + 1) pool (omega (arith, up)) planned)
     began_comes batch after (heads.Object object kind bonus_kind block_size bonus_len max_block to) comes waits e = same_batch batch after comes e
@@ -159,7 +164,7 @@ module _ (law : ReceivedIsApplied) (ask : RecvAsk) (start : Pool) (linked : IsLi
     moved_comes : (batch after : Batch) (c : Covered) (flags : ℕ) (partial : Partial) → IsGrown ask start (pool.number + 1) partial
         → (moved_by (pool.number + 1) c flags partial >>= λ moved. Ok (with_applied flags moved batch)) ≡ Ok after → Coming after
     moved_comes batch after c flags partial grown e =
-        let found = bound (moved_by (pool.number + 1) c flags partial) (λ moved. Ok (with_applied flags moved batch)) after e in
+        let found = bind_ok (moved_by (pool.number + 1) c flags partial) (λ moved. Ok (with_applied flags moved batch)) after e in
         let next = found.0 in
         let moved = moves (pool.number + 1) c flags partial next found.1 in
         let carries = all_carry law (pool.number + 1) c.index _ partial.objects next.objects moved.objects in
@@ -290,7 +295,7 @@ module _ (law : ReceivedIsApplied) (ask : RecvAsk) (start : Pool) (linked : IsLi
     left_holds Waits pool is = is
     left_holds (Lives flags partial) pool is =
         let stays = λ (p : Partial). not (bytes_eq p.target partial.target && not p.keep) in
-        all.fewer pool (filter stays pool.partials) (λ p there. filtered_there stays pool.partials p there) is
+        all.fewer pool (filter stays pool.partials) (λ p there. filter_contains stays pool.partials p there) is
     left_holds (Ends partial) pool is = is
 
     -- a feed that goes on leaves the receive so, and one that stops such a pool

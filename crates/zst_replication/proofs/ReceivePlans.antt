@@ -1,12 +1,12 @@
 -- What a receive begins with.
-use Rattle.std.proofs.Common.{◌≡◌, ◌⊎◌, inl, inr, ℕ, ◌+◌, Bool, true, false, not, List, [], ◌∷◌, length, nat_lt, Option, Some, None, is_some, Result, Ok, Err, refl, sym, ap, ◌∙◌, subst, cond, ◌==◌, ◌&&◌, ◌||◌, ◌<◌, ◌^◌, find, arith}
-use Rattle.std.specs.Prelude.{Contains, bytes_eq, IfSome, bit_and, filter}
+use Rattle.std.proofs.Common.{◌≡◌, ℕ, ◌+◌, Bool, true, false, not, List, [], ◌∷◌, length, nat_lt, Option, Some, None, is_some, Result, Ok, Err, refl, sym, ap, ◌∙◌, subst, cond, ◌==◌, ◌&&◌, ◌||◌, ◌<◌, ◌^◌, find, arith}
+use Rattle.std.specs.Prelude.{Contains, bytes_eq, IfSome, bit_and}
 use Rattle.std.specs.Option.{ok_or, option_map_or}
 use Rattle.std.proofs.lemmas.List.Elements.{All-contains}
-use Rattle.std.proofs.lemmas.Bool.{true≢false}
+use Rattle.std.proofs.lemmas.Bool.{true≢false, not-false}
 use Rattle.std.proofs.lemmas.Bool.Decides.{nat_tests}
-use Rattle.zst_model.proofs.InsertedLaws.{contains_first, contains_later, contains_cases}
-use Rattle.zst_model.proofs.OrderLaws.{same_bytes}
+use Rattle.std.proofs.lemmas.Option.{same_Some}
+use Rattle.zst_model.proofs.InsertedLaws.{contains_first, contains_later}
 use Rattle.zst_model.specs.declared.refusals.faults.Lack.TheVariants as lacks
 use Rattle.zst_model.specs.declared.refusals.faults.Quantity.TheVariants as quantities
 use Rattle.zst_model.specs.declared.refusals.subjects.Holder.TheVariants as holders
@@ -23,11 +23,14 @@ use Rattle.zst_model.specs.sends.Headers.{free_records}
 use Rattle.zst_model.specs.sends.SendPlan.{absent, find_snapshot, kind_of}
 use Rattle.zst_model.specs.states.AppliedItems.{unless, ◌>>=◌}
 use Rattle.zst_model.specs.states.State.{IsState, no_objects}
+use Rattle.zst_model.proofs.Options.{none_there}
+use Rattle.zst_model.proofs.FoundElements.{found_passes}
+use Rattle.zst_model.proofs.FilteredLists.{filter_contains}
+use Rattle.zst_model.proofs.Results.{bind_ok, ok_parts, unless_ok}
 use Rattle.zst_plan.specs.RecvPlan as planning
 use Rattle.zst_plan.specs.RecvPlan.{Base, RecvPlan, Begins, Resumes, base_anew, base_by_guid, base_by_head, base_by_origin, base_for, base_onto, cloned_base, component_for, find_latest, fresh_plan, if_contained, if_frees, if_from_origin, if_increment, if_kind, if_new, if_plain, if_room, if_source, if_within, is_dated_after, is_full, is_resumed, last_of, latest_of, new_datasets, recv_plan, resumed_plan, rolled_back, snapshot_name, wrong_resume}
 use Rattle.zst_plan.specs.declared.receive.RecvAsk.{RecvAsk}
 use Rattle.zst_replication.specs.Outcomes.{base_objects}
-use Rattle.zst_replication.proofs.Results.{bound, ok_parts, some_parts, unless_ok}
 
 -- the plan of a target without a partial state
 pub record Fresh (ask : RecvAsk) (header : Header) (pool : Pool) (plan : RecvPlan) : Type 0 where
@@ -37,10 +40,6 @@ pub record Fresh (ask : RecvAsk) (header : Header) (pool : Pool) (plan : RecvPla
   pub based : base_for ask header pool ≡ Ok base
   pub new : snapshot_named (snapshot_name ask.target component) pool ≡ None
   pub plan_is : plan ≡ Begins component base
-
-none_there : {A : Type 0} (o : Option A) → is_some o ≡ false → o ≡ None
-none_there None h = refl
-none_there (Some x) h = absurd (true≢false h)
 
 roomy : (ask : RecvAsk) (pool : Pool) (plan last : RecvPlan) → if_room ask.target pool (Ok last) ≡ Ok plan → last ≡ plan
 roomy ask pool plan last e =
@@ -58,7 +57,7 @@ fresh ask header pool plan component named e =
     let newed : Base → Result RecvPlan PlanFault = λ base. if_new name pool (roomed base) in
     let next : Base → Result RecvPlan PlanFault = λ base. if_contained base header (newed base) in
     let plain = unless_ok (planning.is_resumed header) (plans.NoPartial ask.target) (base_for ask header pool >>= next) plan e in
-    let found = bound (base_for ask header pool) next plan plain.1 in
+    let found = bind_ok (base_for ask header pool) next plan plain.1 in
     let inside = unless_ok (not (planning.is_contained (planning.redacted_for found.0.snapshot) header)) (plans.NotContained (planning.outside_guid (planning.redacted_for found.0.snapshot) header)) (newed found.0) plan found.2 in
     let new = unless_ok (is_some (snapshot_named name pool)) (plans.Exists (present.Named (names.Snapshot name))) (roomed found.0) plan inside.1 in
     record {
@@ -74,36 +73,16 @@ pub begins_anew : (ask : RecvAsk) (header : Header) (pool : Pool) (plan : RecvPl
 unfolding recv_plan
 begins_anew ask header pool plan none e =
     let next : List ℕ → Result RecvPlan PlanFault = λ component. option_map_or (resumed_plan header) (partial_of ask.target pool) (fresh_plan ask header component pool) in
-    let found = bound (component_for ask header) next plan e in
+    let found = bind_ok (component_for ask header) next plan e in
     fresh ask header pool plan found.0 found.1
     (subst (λ (o : Option Partial). option_map_or (resumed_plan header) o (fresh_plan ask header found.0 pool) ≡ Ok plan) none found.2)
 
 -- ---- the base is a snapshot of the pool
 
-pub found_there : {A : Type 0} (p : A → Bool) (xs : List A) (x : A) → find p xs ≡ Some x → Contains xs x × (p x ≡ true)
-found_there p [] x h = absurd cc
-found_there {A = A} p (y ∷ ys) x h = go (p y) refl (found_there p ys x) h
-  where
-    go : (t : Bool) → p y ≡ t → (find p ys ≡ Some x → Contains ys x × (p x ≡ true)) → cond t (Some y) (find p ys) ≡ Some x → Contains (y ∷ ys) x × (p x ≡ true)
-    go true is rest k = let same = some_parts y x k in (subst (λ (z : A). Contains (y ∷ ys) z) same (contains_first y ys), subst (λ (z : A). p z ≡ true) same is)
-    go false is rest k = let found = rest k in (contains_later y ys x found.0, found.1)
-
 last_there : {A : Type 0} (xs : List A) (x : A) → last_of xs ≡ Some x → Contains xs x
 last_there [] x e = absurd cc
-last_there {A = A} (y ∷ []) x e = subst (λ (z : A). Contains (y ∷ []) z) (some_parts y x e) (contains_first y [])
+last_there {A = A} (y ∷ []) x e = subst (λ (z : A). Contains (y ∷ []) z) (same_Some y x e) (contains_first y [])
 last_there (y ∷ z ∷ zs) x e = contains_later y (z ∷ zs) x (last_there (z ∷ zs) x e)
-
-pub filtered_there : {A : Type 0} (p : A → Bool) (xs : List A) (x : A) → Contains (filter p xs) x → Contains xs x
-filtered_there p [] x h = h
-filtered_there {A = A} p (y ∷ ys) x h = go (p y) (filtered_there p ys x) h
-  where
-    first_or_later : (Contains (filter p ys) x → Contains ys x) → (y ≡ x) ⊎ Contains (filter p ys) x → Contains (y ∷ ys) x
-    first_or_later rest (inl e) = subst (λ (z : A). Contains (y ∷ ys) z) e (contains_first y ys)
-    first_or_later rest (inr k) = contains_later y ys x (rest k)
-
-    go : (t : Bool) → (Contains (filter p ys) x → Contains ys x) → Contains (cond t (y ∷ filter p ys) (filter p ys)) x → Contains (y ∷ ys) x
-    go true rest k = first_or_later rest (contains_cases y (filter p ys) x k)
-    go false rest k = contains_later y ys x (rest k)
 
 -- the base is a snapshot of the pool, an increment's has its source's guid, and the head goes back only where that was asked
 pub record IsGood (ask : RecvAsk) (header : Header) (pool : Pool) (base : Base) : Type 0 where
@@ -117,10 +96,6 @@ or_parts (Some y) fault x e = ap (λ y. Some y) (ok_parts y x e)
 
 pub same_number : (a b : ℕ) → (a == b) ≡ true → a ≡ b
 same_number a b h = grind (arith, nat_tests, h)
-
-not_false : (t : Bool) → not t ≡ false → t ≡ true
-not_false true e = refl
-not_false false e = absurd cc
 
 module _ (ask : RecvAsk) (header : Header) (pool : Pool) where
   from_there : (snapshot : Snapshot) (rolls : Bool) (base : Base) → Contains pool.snapshots snapshot → (is_full header ≡ false → snapshot.guid ≡ header.from) → (rolls ≡ true → ask.force ≡ true)
@@ -140,7 +115,7 @@ module _ (ask : RecvAsk) (header : Header) (pool : Pool) where
       go : (t : Bool) → cond t (unless (not ask.force) (plans.Modified dataset.name) (rolled_back dataset latest pool)) (Ok (record { snapshot = Some latest; rolls = false })) ≡ Ok base → IsGood ask header pool base
       go true e =
           let forced = unless_ok (not ask.force) (plans.Modified dataset.name) (rolled_back dataset latest pool) base e in
-          held (find (λ bookmark. bytes_eq (dataset_of_bookmark bookmark) dataset.name && nat_lt latest.number bookmark.number) pool.bookmarks) (not_false ask.force forced.0) forced.1
+          held (find (λ bookmark. bytes_eq (dataset_of_bookmark bookmark) dataset.name && nat_lt latest.number bookmark.number) pool.bookmarks) (not-false ask.force forced.0) forced.1
       go false e = from_there latest false base there guid (λ r. absurd cc) e
 
   onto : (dataset : Dataset) (base : Base) → base_onto ask header pool dataset ≡ Ok base → IsGood ask header pool base
@@ -149,12 +124,12 @@ module _ (ask : RecvAsk) (header : Header) (pool : Pool) where
       let kinded : Snapshot → Result Base PlanFault = λ latest. if_kind dataset.kind header (own latest) in
       let sourced : Snapshot → Result Base PlanFault = λ latest. if_source latest.guid header (kinded latest) in
       let grown = unless_ok (planning.is_full header || is_some ask.origin) (plans.Exists (present.Named (names.Dataset dataset.name))) (find_latest dataset.name header pool >>= sourced) base e in
-      let found = bound (find_latest dataset.name header pool) sourced base grown.1 in
+      let found = bind_ok (find_latest dataset.name header pool) sourced base grown.1 in
       let latest = or_parts (latest_of dataset.name pool) (plans.NotLatest 0 header.from) found.0 found.1 in
       let source = unless_ok (not (found.0.guid == header.from)) (plans.NotLatest found.0.guid header.from) (kinded found.0) base found.2 in
       let kind = unless_ok (not (dataset.kind == header.kind)) (plans.Unsupported lacks.Kind) (own found.0) base source.1 in
-      headed dataset found.0 base (filtered_there (λ snapshot. bytes_eq (dataset_of_snapshot snapshot) dataset.name) pool.snapshots found.0 (last_there _ found.0 latest))
-      (λ full. same_number found.0.guid header.from (not_false (found.0.guid == header.from) source.0)) kind.1
+      headed dataset found.0 base (filter_contains (λ snapshot. bytes_eq (dataset_of_snapshot snapshot) dataset.name) pool.snapshots found.0 (last_there _ found.0 latest))
+      (λ full. same_number found.0.guid header.from (not-false (found.0.guid == header.from) source.0)) kind.1
 
   cloned : (snapshot : Snapshot) (base : Base) → Contains pool.snapshots snapshot → (is_full header ≡ false → snapshot.guid ≡ header.from) → cloned_base header pool snapshot ≡ Ok base → IsGood ask header pool base
   cloned snapshot base there guid e =
@@ -168,21 +143,21 @@ module _ (ask : RecvAsk) (header : Header) (pool : Pool) where
           (ok_or (find (λ snapshot. snapshot.guid == header.from) pool.snapshots) (plans.NoOrigin header.from) >>= cloned_base header pool) ≡ Ok base → IsGood ask header pool base
       go true full e = subst (λ (b : Base). IsGood ask header pool b) (ok_parts _ _ e) (record { there = tt; by_guid = λ f. absurd (true≢false (sym full ∙ f)); rolls = λ r. absurd cc })
       go false full e =
-          let found = bound (ok_or (find (λ snapshot. snapshot.guid == header.from) pool.snapshots) (plans.NoOrigin header.from)) (cloned_base header pool) base e in
-          let there = found_there (λ snapshot. snapshot.guid == header.from) pool.snapshots found.0 (or_parts _ (plans.NoOrigin header.from) found.0 found.1) in
+          let found = bind_ok (ok_or (find (λ snapshot. snapshot.guid == header.from) pool.snapshots) (plans.NoOrigin header.from)) (cloned_base header pool) base e in
+          let there = found_passes (λ snapshot. snapshot.guid == header.from) pool.snapshots found.0 (or_parts _ (plans.NoOrigin header.from) found.0 found.1) in
           cloned found.0 base there.0 (λ f. same_number found.0.guid header.from there.1) found.2
 
   from_origin : (t : Bool) (snapshot : Snapshot) (rest : Result Base PlanFault) (base : Base) → cond t rest (if_source snapshot.guid header rest) ≡ Ok base → (rest ≡ Ok base) × (t ≡ false → snapshot.guid ≡ header.from)
   from_origin true snapshot rest base e = (e, λ f. absurd cc)
   from_origin false snapshot rest base e =
       let source = unless_ok (not (snapshot.guid == header.from)) (plans.NotLatest snapshot.guid header.from) rest base e in
-      (source.1, λ f. same_number snapshot.guid header.from (not_false (snapshot.guid == header.from) source.0))
+      (source.1, λ f. same_number snapshot.guid header.from (not-false (snapshot.guid == header.from) source.0))
 
   asked : (name : List ℕ) (base : Base) → base_by_origin header pool name ≡ Ok base → IsGood ask header pool base
   asked name base e =
       let freed : Snapshot → Result Base PlanFault = λ snapshot. if_frees header (cloned_base header pool snapshot) in
-      let found = bound (find_snapshot name pool) (λ snapshot. if_from_origin snapshot header (freed snapshot)) base e in
-      let there = found_there (λ snapshot. bytes_eq snapshot.name name) pool.snapshots found.0 (or_parts _ (absent (names.Snapshot name)) found.0 found.1) in
+      let found = bind_ok (find_snapshot name pool) (λ snapshot. if_from_origin snapshot header (freed snapshot)) base e in
+      let there = found_passes (λ snapshot. bytes_eq snapshot.name name) pool.snapshots found.0 (or_parts _ (absent (names.Snapshot name)) found.0 found.1) in
       let from = from_origin (is_full header) found.0 (freed found.0) base found.2 in
       let frees = unless_ok (is_full header && bit_and header.flags free_records == 0) (plans.Unsupported lacks.FullWithoutFrees) (cloned_base header pool found.0) base from.0 in
       cloned found.0 base there.0 from.1 frees.1
@@ -225,8 +200,5 @@ pub resumes : (ask : RecvAsk) (header : Header) (pool : Pool) (old : Partial) (p
 unfolding recv_plan
 resumes ask header pool old plan found e =
     let next : List ℕ → Result RecvPlan PlanFault = λ component. option_map_or (resumed_plan header) (partial_of ask.target pool) (fresh_plan ask header component pool) in
-    let named = bound (component_for ask header) next plan e in
+    let named = bind_ok (component_for ask header) next plan e in
     resumed_is header old plan (subst (λ (o : Option Partial). option_map_or (resumed_plan header) o (fresh_plan ask header named.0 pool) ≡ Ok plan) found named.2)
-
-pub own_target : (target : List ℕ) (pool : Pool) (old : Partial) → partial_of target pool ≡ Some old → old.target ≡ target
-own_target target pool old found = same_bytes old.target target (found_there (λ (p : Partial). bytes_eq p.target target) pool.partials old found).1

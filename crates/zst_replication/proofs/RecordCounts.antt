@@ -6,6 +6,7 @@ use Rattle.zst_model.specs.declared.refusals.refusal.Refusal.{Refusal}
 use Rattle.zst_model.specs.declared.sends.header.Header.{Header}
 use Rattle.zst_model.specs.pools.Pool.{Pool, Partial}
 use Rattle.zst_model.specs.states.AppliedItems.{◌>>=◌}
+use Rattle.zst_model.proofs.Results.{bind_ok, ok_parts}
 use Rattle.zst_plan.specs.RecvPlan.{RecvPlan, Resumes, Begins, recv_plan}
 use Rattle.zst_plan.specs.declared.receive.RecvAsk.{RecvAsk}
 use Rattle.zst_record.specs.declared.head.Head.{Head}
@@ -20,7 +21,6 @@ use Rattle.zst_recv.specs.Feeds.{fault_of, new_records}
 use Rattle.zst_recv.specs.ReceiveSteps.{Stage, Waits, Lives, Ends, Batch, at_stage, batch_of, batch_by, began, moved_by, of_plan, opened, taken, taken_at, went_on, with_applied}
 use Rattle.zst_replication.specs.RecordCounts.{Counts, RecordsAreCounted}
 use Rattle.zst_replication.proofs.FeedSteps.{goes_on, new_are}
-use Rattle.zst_replication.proofs.Results.{bound, ok_parts}
 
 -- behind so many records of so many, this many between BEGIN and END were applied
 abbrev Counted : ℕ → ℕ → Stage → ℕ → Type 0
@@ -40,7 +40,7 @@ module _ (ask : RecvAsk) (pool : Pool) (c : Covered) (count place n : ℕ) (batc
 
   began_counted : (head : Head) (after : Batch) → IsBegin head → place ≡ 0 → n + batch.applied ≡ 0 → began ask pool batch head ≡ Ok after → CountedBatch count (place + 1) after n
   began_counted (heads.Begin header len) after is at none e =
-      let found = bound (of_plan (recv_plan ask header pool)) (λ plan. Ok (opened ask header plan)) after e in
+      let found = bind_ok (of_plan (recv_plan ask header pool)) (λ plan. Ok (opened ask header plan)) after e in
       subst (λ (w : Batch). CountedBatch count (place + 1) w n) (ok_parts _ _ found.2) (opened_counted header found.0 at (omega (arith, none)))
   began_counted (heads.Object object kind bonus_kind block_size bonus_len max_block to) after is at none e = absurd is
   began_counted (heads.FreeObjects first many to) after is at none e = absurd is
@@ -52,7 +52,7 @@ module _ (ask : RecvAsk) (pool : Pool) (c : Covered) (count place n : ℕ) (batc
 
   moved_counted : (flags : ℕ) (r : Result Partial Refusal) (after : Batch) → place ≡ n + batch.applied + 1 → (r >>= λ moved. Ok (with_applied flags moved batch)) ≡ Ok after → CountedBatch count (place + 1) after n
   moved_counted flags r after at e =
-      let found = bound r (λ moved. Ok (with_applied flags moved batch)) after e in
+      let found = bind_ok r (λ moved. Ok (with_applied flags moved batch)) after e in
       subst (λ (w : Batch). CountedBatch count (place + 1) w n) (ok_parts _ _ found.2) (omega (arith, at))
 
   went_counted : (flags : ℕ) (partial : Partial) (head : Head) (after : Batch) → IsLater head → (closing head ≡ None) ⊎ (place + 1 ≡ count) → place ≡ n + batch.applied + 1

@@ -16,12 +16,14 @@ use Rattle.zst_model.specs.sends.Target.{BaseOk, CanRedact, redacted, redacted_o
 use Rattle.zst_model.specs.sends.View.{IsView}
 use Rattle.zst_model.specs.states.AppliedItems.{apply_all}
 use Rattle.zst_model.specs.states.State.{IsState, Object, State}
+use Rattle.zst_model.proofs.Results.{ok_parts}
 use Rattle.zst_plan.specs.RecvPlan.{RecvPlan, recv_plan, snapshot_name}
 use Rattle.zst_plan.specs.declared.receive.RecvAsk.{RecvAsk}
 use Rattle.zst_record.specs.Heads.{Covered}
 use Rattle.zst_record.specs.Payload.{stated_point}
 use Rattle.zst_stream.specs.Items.{items_of}
 use Rattle.zst_stream.specs.Reading.{Outcome, complete, reading, waiting}
+use Rattle.zst_stream.proofs.ItemStreams.{say_append}
 use Rattle.zst_send.specs.Sends.{begun, begun_text, begun_view}
 use Rattle.zst_recv.specs.Feeds.{receives}
 use Rattle.zst_recv.specs.ReceiveSteps.{Stage, Waits, Lives, Ends, Fed, Goes, Stops, opened, pool_of}
@@ -31,10 +33,9 @@ use Rattle.zst_replication.specs.Replicas.{AreOfStream, IsSendable}
 use Rattle.zst_replication.proofs.AppliedRecords.{Applied, AppliedBehind, BehindEnd}
 use Rattle.zst_replication.proofs.FinishedReceives.{one_more, one_more_kept}
 use Rattle.zst_replication.proofs.FeedSequences.{Stands, Way, receives_way}
-use Rattle.zst_replication.proofs.Results.{ok_parts}
 use Rattle.zst_replication.proofs.RunningPools.{keep_by}
 use Rattle.zst_replication.proofs.StoppedReceives.{living_nothing, living_partial, start_untouched}
-use Rattle.zst_replication.proofs.StreamRecords.{Stream, all_said, begin_is, items_on, stream_of}
+use Rattle.zst_replication.proofs.StreamRecords.{Stream, all_said, begin_is, stream_of}
 
 -- the items of a send are the same whatever BEGIN says of a token
 same_items : (sent : Sent) (at : Option Point) (point : Point) → items (begun_view sent at) point ≡ items (sent_view sent) point
@@ -208,7 +209,7 @@ module _ (laws : Grounds) (sent : Sent) (at : Option Point) (can : IsSendable se
           on = further front left flags partial behind split
 
           said : items_of (begun sent at).flags front ++ items_of (begun sent at).flags left ≡ rest
-          said = sym (items_on (begun sent at).flags front left) ∙ ap (items_of (begun sent at).flags) split ∙ streamed.said
+          said = sym (say_append (begun sent at).flags front left) ∙ ap (items_of (begun sent at).flags) split ∙ streamed.said
 
           go : (t : Bool) → partial.keep ≡ t → Progressed (kept_of pool)
           go false is = inl (living_nothing ask start pool partial stands.asked stands.runs (begins.kept (sym stands.asked.keep ∙ is)) is)

@@ -17,6 +17,8 @@ use Rattle.zst_model.specs.sends.Target.{target}
 use Rattle.zst_model.specs.sends.View.{View}
 use Rattle.zst_model.specs.states.AppliedItems.{unless, ◌>>=◌}
 use Rattle.zst_model.specs.states.State.{State}
+use Rattle.zst_model.proofs.FoundElements.{own_target, found_passes}
+use Rattle.zst_model.proofs.Results.{ok_parts}
 use Rattle.zst_plan.specs.RecvPlan.{RecvPlan, Resumes, fresh_plan, goes_on, is_resumed, recv_plan, resumed_plan, snapshot_name, wrong_resume}
 use Rattle.zst_plan.specs.declared.receive.RecvAsk.{RecvAsk}
 use Rattle.zst_token.specs.PartialToken.{token_for}
@@ -27,9 +29,8 @@ use Rattle.zst_recv.specs.Tokens.{token_of_partial}
 use Rattle.zst_replication.specs.Grounds.{Grounds}
 use Rattle.zst_replication.specs.Outcomes.{HasOneMore, Progress, course_on}
 use Rattle.zst_replication.specs.Resumption.{FitRestIsReceived, IsUnderway, RestIsReceived, ResumedStopsAreProgress, TokensGoOn}
-use Rattle.zst_replication.proofs.ReceivePlans.{found_there, own_target, resumes}
+use Rattle.zst_replication.proofs.ReceivePlans.{resumes}
 use Rattle.zst_replication.proofs.ReplicaLemmas.{BeginsWith, made, progressed, received}
-use Rattle.zst_replication.proofs.Results.{ok_parts}
 use Rattle.zst_replication.proofs.RunningPools.{keep_by}
 
 -- ---- the receive
@@ -40,7 +41,7 @@ module _ (sent : Sent) (state : State) (ask : RecvAsk) (pool : Pool) (partial : 
   free =
       subst (λ (t : List ℕ). HasSnapshot pool (snapshot_name t partial.component) → ⊥) (own_target ask.target pool partial underway.there)
       (All-contains (λ (p : Partial). HasSnapshot pool (p.target ++ 64 ∷ p.component) → ⊥) pool.partials partial lawful.linked.components
-      (found_there (λ (p : Partial). bytes_eq p.target ask.target) pool.partials partial underway.there).0)
+      (found_passes (λ (p : Partial). bytes_eq p.target ask.target) pool.partials partial underway.there).0)
 
   new : snapshot_named (snapshot_name ask.target partial.component) pool ≡ None
   new = go (snapshot_named (snapshot_name ask.target partial.component) pool) refl
@@ -48,7 +49,7 @@ module _ (sent : Sent) (state : State) (ask : RecvAsk) (pool : Pool) (partial : 
       go : (o : Option Snapshot) → snapshot_named (snapshot_name ask.target partial.component) pool ≡ o → o ≡ None
       go None e = refl
       go (Some snapshot) e =
-          let found = found_there (λ (s : Snapshot). bytes_eq s.name (snapshot_name ask.target partial.component)) pool.snapshots snapshot e in
+          let found = found_passes (λ (s : Snapshot). bytes_eq s.name (snapshot_name ask.target partial.component)) pool.snapshots snapshot e in
           absurd (free (snapshot, found.0, same_bytes snapshot.name (snapshot_name ask.target partial.component) found.1))
 
   is_kept : keep_by ask pool ≡ true

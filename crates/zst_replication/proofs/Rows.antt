@@ -102,18 +102,3 @@ none_kept t k (x ∷ xs) none = go (t x) (k x) refl none (none_kept t k xs)
     go true b is n rest = absurd cc
     go false true is n rest = ap (λ (c : Bool). cond c (Some x) (find t (filter k xs))) is ∙ rest n
     go false false is n rest = rest n
-
-pub found_kept : {A : Type 0} (t k : A → Bool) (xs : List A) (y : A) → find t xs ≡ Some y → k y ≡ true → find t (filter k xs) ≡ Some y
-found_kept t k [] y found kept = absurd cc
-found_kept {A = A} t k (x ∷ xs) y found kept = go (t x) refl found (λ more. found_kept t k xs y more kept)
-  where
-    later : (b : Bool) → t x ≡ false → find t (filter k xs) ≡ Some y → find t (cond b (x ∷ filter k xs) (filter k xs)) ≡ Some y
-    later true is more = ap (λ (c : Bool). cond c (Some x) (find t (filter k xs))) is ∙ more
-    later false is more = more
-
-    go : (a : Bool) → t x ≡ a → cond a (Some x) (find t xs) ≡ Some y → (find t xs ≡ Some y → find t (filter k xs) ≡ Some y) → find t (cond (k x) (x ∷ filter k xs) (filter k xs)) ≡ Some y
-    go true is f rest =
-        let same : Some x ≡ Some y = f in
-        let here : x ≡ y = cc in
-        ap (λ (b : Bool). find t (cond b (x ∷ filter k xs) (filter k xs))) (ap k here ∙ kept) ∙ ap (λ (c : Bool). cond c (Some x) (find t (filter k xs))) is ∙ f
-    go false is f rest = later (k x) is (rest f)

@@ -7,6 +7,8 @@ use Rattle.zst_model.specs.declared.refusals.refusal.Refusal.{Refusal}
 use Rattle.zst_model.specs.declared.sends.header.Header.{Header}
 use Rattle.zst_model.specs.pools.Pool.{Pool, Dataset, Snapshot, Partial, partial_of, inserted, is_before, snapshot_is_before}
 use Rattle.zst_model.specs.states.AppliedItems.{◌>>=◌}
+use Rattle.zst_model.proofs.FoundElements.{own_target}
+use Rattle.zst_model.proofs.Results.{bind_ok, ok_parts}
 use Rattle.zst_plan.specs.RecvPlan.{RecvPlan, recv_plan}
 use Rattle.zst_plan.specs.declared.receive.RecvAsk.{RecvAsk}
 use Rattle.zst_pool.specs.Partials.{changed_at, dataset_from, head_from, partial_finished, partial_put, partials_of_others, rolled_back, with_finished, with_partial}
@@ -17,8 +19,8 @@ use Rattle.zst_recv.proofs.CommitLemmas.{commit_is}
 use Rattle.zst_recv.specs.Answers.{is_done}
 use Rattle.zst_recv.specs.ReceiveSteps.{Stage, Waits, Lives, Ends, Batch, at_stage, batch_of, batch_by, began, moved_by, of_plan, opened, put, put_at, taken, taken_at, went_on, with_applied}
 use Rattle.zst_replication.proofs.RecordEffects.{moves}
-use Rattle.zst_replication.proofs.ReceivePlans.{base_there, begins_anew, own_target, resumes}
-use Rattle.zst_replication.proofs.Results.{bound, ok_parts, plan_ok}
+use Rattle.zst_replication.proofs.ReceivePlans.{base_there, begins_anew, resumes}
+use Rattle.zst_replication.proofs.Results.{plan_ok}
 use Rattle.zst_replication.proofs.Rows.{none_left, others_inserted}
 
 -- ---- the pools
@@ -128,7 +130,7 @@ module _ (ask : RecvAsk) (start pool : Pool) (before : Stage) (same : before ≡
 
   began_worked : (batch after : Batch) (head : Head) → Worked ask start before batch → batch.stage ≡ Waits → began ask pool batch head ≡ Ok after → Worked ask start before after
   began_worked batch after (heads.Begin header len) worked waiting e =
-      let found = bound (of_plan (recv_plan ask header pool)) (λ plan. Ok (opened ask header plan)) after e in
+      let found = bind_ok (of_plan (recv_plan ask header pool)) (λ plan. Ok (opened ask header plan)) after e in
       subst (λ (w : Batch). Worked ask start before w) (ok_parts _ _ found.2) (opened_worked header found.0 (worked.waits waiting) (plan_ok _ found.0 found.1))
   began_worked batch after (heads.Object object kind bonus_kind block_size bonus_len max_block to) worked waiting e = subst (λ (w : Batch). Worked ask start before w) (ok_parts _ _ e) worked
   began_worked batch after (heads.FreeObjects first many to) worked waiting e = subst (λ (w : Batch). Worked ask start before w) (ok_parts _ _ e) worked
@@ -141,7 +143,7 @@ module _ (ask : RecvAsk) (start pool : Pool) (before : Stage) (same : before ≡
   moved_worked : (batch after : Batch) (c : Covered) (flags : ℕ) (partial : Partial) → Worked ask start before batch → IsAsked ask start partial
       → (moved_by (pool.number + 1) c flags partial >>= λ moved. Ok (with_applied flags moved batch)) ≡ Ok after → Worked ask start before after
   moved_worked batch after c flags partial worked asked e =
-      let found = bound (moved_by (pool.number + 1) c flags partial) (λ moved. Ok (with_applied flags moved batch)) after e in
+      let found = bind_ok (moved_by (pool.number + 1) c flags partial) (λ moved. Ok (with_applied flags moved batch)) after e in
       let further = (moves (pool.number + 1) c flags partial found.0 found.1).further in
       subst (λ (w : Batch). Worked ask start before w) (ok_parts _ _ found.2)
       (record {

@@ -1,9 +1,9 @@
 -- What is sent of a lawful pool can be stated, from its beginning and from each point.
-use Rattle.std.proofs.Common.{◌≡◌, ◌⊎◌, inl, inr, ℕ, suc, ◌+◌, ◌<◌, ◌^◌, ◌==◌, ◌||◌, ◌&&◌, not, nat_lt, Bool, true, false, List, [], ◌∷◌, length, Option, Some, None, is_some, option_map, Result, Ok, refl, sym, ap, ◌∙◌, subst, cond, find, arith}
+use Rattle.std.proofs.Common.{◌≡◌, ◌⊎◌, inl, inr, ℕ, suc, ◌+◌, ◌<◌, ◌^◌, ◌==◌, ◌||◌, not, nat_lt, Bool, true, false, List, [], ◌∷◌, length, Option, Some, None, is_some, option_map, Result, Ok, refl, sym, ap, ◌∙◌, subst, cond, find, arith}
 use Rattle.std.specs.Prelude.{Contains, IfSome, bit_and, bit_or, bytes_eq, if◌then◌else◌}
 use Rattle.std.specs.List.{position_or_len}
 use Rattle.std.specs.Option.{ok_or, option_map_or, option_or}
-use Rattle.std.proofs.lemmas.Bool.{true≢false}
+use Rattle.std.proofs.lemmas.Bool.{true≢false, and_parts, not-false}
 use Rattle.std.proofs.lemmas.Bool.Decides.{nat_tests}
 use Rattle.std.proofs.lemmas.List.Elements.{All-contains}
 use Rattle.zst_laws.specs.HeaderExample.{SentIsStated}
@@ -24,6 +24,8 @@ use Rattle.zst_model.specs.sends.Headers.{IsOf, IsRedactionOf, Sent, choice_of, 
 use Rattle.zst_model.specs.sends.SendPlan.{comes_before, has_guids, if_before, if_no_relay, if_redaction, is_redacted, kind_of, redacts_snapshot, send_plan, sent_of}
 use Rattle.zst_model.specs.states.AppliedItems.{◌>>=◌}
 use Rattle.zst_model.specs.states.State.{IsState}
+use Rattle.zst_model.proofs.FoundElements.{found_passes, none_passes}
+use Rattle.zst_model.proofs.Results.{bind_ok, ok_parts, unless_ok}
 use Rattle.zst_plan.specs.ResumePlan.{find_from, find_marked, find_to, first_from, is_from, no_guid, resumed_send}
 use Rattle.zst_token.specs.declared.token.Token.{Token}
 use Rattle.zst_record.specs.Decoding.{needs_payload, others_of}
@@ -38,20 +40,10 @@ use Rattle.zst_send.specs.Openings.{built, is_plain, opening}
 use Rattle.zst_send.specs.Sends.{begun}
 use Rattle.zst_replication.specs.MatchingBases.{IsTokenPoint, PlainCanBeSent, RestCanBeSent}
 use Rattle.zst_replication.specs.Replicas.{IsSendable}
-use Rattle.zst_replication.proofs.ReceivePlans.{found_there, or_parts}
-use Rattle.zst_replication.proofs.Results.{bound, ok_parts, unless_ok}
-use Rattle.zst_replication.proofs.Ancestry.{none_passes}
+use Rattle.zst_replication.proofs.ReceivePlans.{or_parts}
+use Rattle.zst_replication.proofs.MatchingBases.{not_full}
 
 -- ---- what is opened is planned, and plain
-
-both_parts : (a b : Bool) → (a && b) ≡ true → (a ≡ true) × (b ≡ true)
-both_parts true true e = (refl, refl)
-both_parts true false e = absurd cc
-both_parts false b e = absurd cc
-
-yes_of : (t : Bool) → not t ≡ false → t ≡ true
-yes_of true e = refl
-yes_of false e = absurd cc
 
 none_of : {A : Type 0} (o : Option A) → not (is_some o) ≡ true → o ≡ None
 none_of None e = refl
@@ -69,20 +61,20 @@ record IsPlain (sent : Sent) : Type 0 where
 built_plain : (planned sent : Sent) → built planned ≡ Ok sent → (planned ≡ sent) × IsPlain sent
 built_plain planned sent e =
     let plain = unless_ok (not (is_plain planned)) (plans.Unsupported lacks.NotBuilt) (Ok planned) sent e in
-    let both = both_parts (not (is_some planned.redaction)) (not (has_guids (source_guids planned.source))) (yes_of (is_plain planned) plain.0) in
+    let both = and_parts (not (is_some planned.redaction)) (not (has_guids (source_guids planned.source))) (not-false (is_plain planned) plain.0) in
     let same = ok_parts planned sent plain.1 in
     (same, subst IsPlain same (record { whole = none_of planned.redaction both.0; source = no_guids (source_guids planned.source) both.1 }))
 
 opens : (ask : SendAsk) (pool : Pool) (sent : Sent) → opening ask pool ≡ Ok sent → (send_plan ask pool ≡ Ok sent) × IsPlain sent
 opens ask pool sent e =
-    let found = bound (send_plan ask pool) built sent e in
+    let found = bind_ok (send_plan ask pool) built sent e in
     let plain = built_plain found.0 sent found.2 in
     (found.1 ∙ ap (λ (s : Sent). Ok s) plain.0, plain.1)
 
 -- ---- what a token finds is of its pool
 
 first_there : {A : Type 0} (p : A → Bool) (xs : List A) (fault : PlanFault) (x : A) → ok_or (find p xs) fault ≡ Ok x → Contains xs x
-first_there p xs fault x e = (found_there p xs x (or_parts (find p xs) fault x e)).0
+first_there p xs fault x e = (found_passes p xs x (or_parts (find p xs) fault x e)).0
 
 source_from : (snapshots : List Snapshot) (bookmarks : List Bookmark) (p : Snapshot → Bool) (q : Bookmark → Bool) (fault : PlanFault) (source : Option Source) (pool : Pool) → snapshots ≡ pool.snapshots → bookmarks ≡ pool.bookmarks
     → ok_or (option_map Some (option_or (option_map OfSnapshot (find p snapshots)) (option_map OfBookmark (find q bookmarks)))) fault ≡ Ok source → IfSome source (IsIn pool)
@@ -92,10 +84,10 @@ source_from snapshots bookmarks p q fault source pool same also e = go (find p s
         → ok_or (option_map Some (option_or (option_map OfSnapshot s) (option_map OfBookmark b))) fault ≡ Ok source → IfSome source (IsIn pool)
     go (Some snapshot) b is found e =
         subst (λ (o : Option Source). IfSome o (IsIn pool)) (ok_parts _ source e)
-        (subst (λ (ss : List Snapshot). Contains ss snapshot) same (found_there p snapshots snapshot is).0)
+        (subst (λ (ss : List Snapshot). Contains ss snapshot) same (found_passes p snapshots snapshot is).0)
     go None (Some bookmark) is found e =
         subst (λ (o : Option Source). IfSome o (IsIn pool)) (ok_parts _ source e)
-        (subst (λ (bs : List Bookmark). Contains bs bookmark) also (found_there q bookmarks bookmark found).0)
+        (subst (λ (bs : List Bookmark). Contains bs bookmark) also (found_passes q bookmarks bookmark found).0)
     go None None is found e = absurd cc
 
 source_there : (token : Token) (pool : Pool) (to : Snapshot) (source : Option Source) → find_from token pool to ≡ Ok source → IfSome source (IsIn pool)
@@ -138,7 +130,7 @@ owner pool snapshot has = go (dataset_named (dataset_of_snapshot snapshot) pool)
         absurd (true≢false (sym (bytes_same has.0.name (dataset_of_snapshot snapshot) has.2)
         ∙ none_passes (λ (d : Dataset). bytes_eq d.name (dataset_of_snapshot snapshot)) pool.datasets none has.0 has.1))
     go (Some dataset) found =
-        let is = found_there (λ (d : Dataset). bytes_eq d.name (dataset_of_snapshot snapshot)) pool.datasets dataset found in
+        let is = found_passes (λ (d : Dataset). bytes_eq d.name (dataset_of_snapshot snapshot)) pool.datasets dataset found in
         record {
           dataset = dataset;
           there = is.0;
@@ -150,9 +142,9 @@ of_token : (token : Token) (pool : Pool) (sent : Sent) → IsPool pool → resum
 unfolding resumed_send
 of_token token pool sent lawful e whole =
     let marked : Snapshot → Option Source → Result Sent PlanFault = λ snapshot source. find_marked token pool >>= (λ redaction. sent_of pool snapshot source redaction) in
-    let to = bound (find_to token pool) (λ snapshot. find_from token pool snapshot >>= marked snapshot) sent e in
-    let from = bound (find_from token pool to.0) (marked to.0) sent to.2 in
-    let mark = bound (find_marked token pool) (λ redaction. sent_of pool to.0 from.0 redaction) sent from.2 in
+    let to = bind_ok (find_to token pool) (λ snapshot. find_from token pool snapshot >>= marked snapshot) sent e in
+    let from = bind_ok (find_from token pool to.0) (marked to.0) sent to.2 in
+    let mark = bind_ok (find_marked token pool) (λ redaction. sent_of pool to.0 from.0 redaction) sent from.2 in
     let is = found_is pool to.0 from.0 mark.0 sent mark.2 in
     let there = first_there (λ snapshot. snapshot.guid == token.to) pool.snapshots (no_guid token.to) to.0 to.1 in
     let own = owner pool to.0 (All-contains (λ (s : Snapshot). HasDataset pool (dataset_of_snapshot s)) pool.snapshots to.0 lawful.linked.snapshots there) in
@@ -179,9 +171,6 @@ zero_free (byte ∷ rest) none = go (byte == 0) refl (zero_free rest (λ there. 
     go : (t : Bool) → (byte == 0) ≡ t → position_or_len (λ b. b == 0) rest ≡ length rest → cond (not t) (1 + position_or_len (λ b. b == 0) rest) 0 ≡ suc (length rest)
     go true is same = absurd (none (subst (λ (b : ℕ). Contains (byte ∷ rest) b) (zero_is byte is) (contains_first byte rest)))
     go false is same = omega (arith, same)
-
-some_guid : (guid : ℕ) → 0 < guid → (guid == 0) ≡ false
-some_guid guid some = grind (arith, nat_tests, some)
 
 kind_test : (kind : ℕ) → IsKind kind → ((kind == 2) || (kind == 3)) ≡ true
 kind_test kind (inl e) = ap (λ (k : ℕ). (k == 2) || (k == 3)) e
@@ -273,7 +262,7 @@ module _ (lengths : PayloadHasLength) (header : Header) (features : ℕ) (resume
       flags = stated.flags;
       time = stated.time;
       to = stated.to.1;
-      to_there = some_guid header.to stated.to.0;
+      to_there = not_full header.to stated.to.0;
       from = stated.from;
       name = let short = stated.name.short in omega (arith, short);
       no_zero = zero_free header.name stated.name.no_zero;

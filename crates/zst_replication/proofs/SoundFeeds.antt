@@ -4,6 +4,7 @@ use Rattle.zst_names.specs.Names.{IsDataset}
 use Rattle.zst_laws.specs.ReceivedRecords.{ReceivedIsApplied}
 use Rattle.zst_laws.specs.RememberedStates.{OwnIsRemembered, RememberedIsBase, StepsRemember}
 use Rattle.zst_laws.specs.StepInvariants.{StepsKeepPools, StepsKeepSound}
+use Rattle.zst_laws.proofs.pools.Descent.{PartialRow}
 use Rattle.zst_model.proofs.InsertedLaws.{inserted_has_rest, inserted_has_row}
 use Rattle.zst_model.specs.pools.Ancestry.{Source, OfSnapshot, OfBookmark, number_of_source, IsIn, IsBeforePartial}
 use Rattle.zst_model.specs.pools.KeptPool.{kept_of}
@@ -12,6 +13,7 @@ use Rattle.zst_model.specs.pools.Rows.{partial_row}
 use Rattle.zst_model.specs.pools.Soundness.{Agrees, Sound}
 use Rattle.zst_model.specs.sends.Target.{Remembers}
 use Rattle.zst_model.specs.states.State.{State}
+use Rattle.zst_model.proofs.FilteredLists.{filter_contains}
 use Rattle.zst_plan.specs.RecvPlan.{snapshot_name}
 use Rattle.zst_plan.specs.declared.receive.RecvAsk.{RecvAsk}
 use Rattle.zst_recv.specs.Feeds.{receives}
@@ -20,11 +22,10 @@ use Rattle.zst_replication.specs.Histories.{ByCommand, ByReceive, EventsAreHisto
 use Rattle.zst_replication.specs.Soundness.{ReceivesKeepSound}
 use Rattle.zst_replication.proofs.PoolInvariants.{FedWell, HoldsAll, cleared, receive_well, some, well_holds}
 use Rattle.zst_replication.proofs.GrownPartials.{AreOrdered}
-use Rattle.zst_replication.proofs.ReceivePlans.{filtered_there}
 use Rattle.zst_replication.proofs.RunningPools.{finished_snapshot}
 use Rattle.zst_replication.proofs.SoundSnapshots.{finished, finished_remembers, finished_sound}
 use Rattle.zst_replication.proofs.SoundPartials.{under, under_remembers, under_sound}
-use Rattle.zst_replication.proofs.Ancestry.{PartialRow, fewer_before_partial, fewer_linked, fewer_remembers, fewer_sound, has_row, sound_agrees}
+use Rattle.zst_replication.proofs.Ancestry.{fewer_before_partial, fewer_linked, fewer_remembers, fewer_sound, has_row, sound_agrees}
 
 -- a source is in a pool that has all snapshots and bookmarks of one that it is in
 some_in : (pool other : Pool) (source : Source) → ((snapshot : Snapshot) → Contains pool.snapshots snapshot → Contains other.snapshots snapshot) → pool.bookmarks ≡ other.bookmarks
@@ -126,7 +127,7 @@ module _ (law : ReceivedIsApplied) (ask : RecvAsk) (pool : Pool) (is_name : IsDa
       record { number = is.number; target = stands.asked.target; there = new_there pool.snapshots after partial is.number (ap (λ (p : Pool). p.snapshots) is.pool_is) }
 
 kept : (pool : Pool) (partial : Partial) → Contains (kept_of pool).partials partial → Contains pool.partials partial
-kept pool partial there = filtered_there (λ (p : Partial). p.keep) pool.partials partial there
+kept pool partial there = filter_contains (λ (p : Partial). p.keep) pool.partials partial there
 
 pub receives_sound : ReceivedIsApplied → ReceivesKeepSound
 receives_sound law ask pool pieces is_name lawful sound =

@@ -12,12 +12,13 @@ use Rattle.zst_model.specs.pools.Soundness.{Agrees, DatedUpTo, IsBookmarkOf, Sou
 use Rattle.zst_model.specs.sends.Target.{Remembers}
 use Rattle.zst_model.specs.states.DatedState.{DatedState}
 use Rattle.zst_model.specs.states.State.{State}
+use Rattle.zst_model.proofs.DatedStates.{dated_higher}
 use Rattle.zst_laws.specs.RememberedStates.{SourceRemembers}
+use Rattle.zst_laws.proofs.pools.Descent.{Rises, row_cases, IsRow, SnapshotRow, HeadRow, PartialRow}
 use Rattle.zst_pool.specs.Partials.{changed_at, latest_snapshot, rolled, rolled_back, rolled_to}
-use Rattle.zst_replication.proofs.EarlierDates.{dated_higher}
 use Rattle.zst_replication.proofs.SourceStates.{Finds, clone_fits, finds_snapshot, finds_source, latest_fits, target_fits}
 use Rattle.zst_replication.proofs.GrownPartials.{AreOrdered, Grown, IsLatest, MayGoBack, latest_is}
-use Rattle.zst_replication.proofs.Ancestry.{HasOldOrigins, IsRow, SnapshotRow, HeadRow, PartialRow, Rises, counted, old_number, old_origins, owner, row_cases, sound_dated, stood_before, stood_before_partial}
+use Rattle.zst_replication.proofs.Ancestry.{HasOldOrigins, counted, old_number, old_origins, owner, sound_dated, stood_before, stood_before_partial}
 
 -- ---- the datasets
 

@@ -15,15 +15,16 @@ use Rattle.zst_model.specs.pools.Soundness.{Agrees, DatedUpTo, IsBookmarkOf, Sou
 use Rattle.zst_model.specs.sends.Target.{Remembers}
 use Rattle.zst_model.specs.states.DatedState.{DatedState}
 use Rattle.zst_model.specs.states.State.{State}
+use Rattle.zst_model.proofs.DatedStates.{dated_higher}
+use Rattle.zst_model.proofs.FoundElements.{found_passes, none_passes}
 use Rattle.zst_laws.specs.RememberedStates.{IsOwn, SourceRemembers}
+use Rattle.zst_laws.proofs.pools.Descent.{Rises, agrees_itself, row_cases, IsRow, SnapshotRow, HeadRow, PartialRow}
 use Rattle.zst_pool.specs.Partials.{changed_at, dataset_from, head_from}
-use Rattle.zst_replication.proofs.EarlierDates.{dated_higher}
 use Rattle.zst_replication.proofs.SourceStates.{Finds, clone_fits, counts_absent, finds_snapshot, finds_source, target_fits}
 use Rattle.zst_replication.proofs.GrownPartials.{AreOrdered, Grown}
-use Rattle.zst_replication.proofs.ReceivePlans.{found_there}
 use Rattle.zst_replication.proofs.RunningPools.{finished_datasets, finished_snapshot}
 use Rattle.zst_replication.proofs.SoundPartials.{AreOlds, IsHeadOf}
-use Rattle.zst_replication.proofs.Ancestry.{HasOldOrigins, IsRow, SnapshotRow, HeadRow, PartialRow, Rises, agrees_itself, none_passes, old_number, old_origins, owner, row_cases, sound_dated, stood_before, stood_before_partial}
+use Rattle.zst_replication.proofs.Ancestry.{HasOldOrigins, old_number, old_origins, owner, sound_dated, stood_before, stood_before_partial}
 
 -- ---- the snapshots
 
@@ -234,7 +235,7 @@ module _ (start : Pool) (linked : IsLinked start) (named : AreOrdered start.snap
         where
           go : (o : Option Dataset) → find (λ d. bytes_eq d.name partial.target) start.datasets ≡ o → Fits partial.objects
           go (Some dataset) e =
-              let found = found_there (λ d. bytes_eq d.name partial.target) start.datasets dataset e in
+              let found = found_passes (λ d. bytes_eq d.name partial.target) start.datasets dataset e in
               let has : HasDataset start partial.target = (dataset, found.0, same_bytes dataset.name partial.target found.1) in
               target_fits start named olds number partial grown source Fits finds bound has (stood partial.target bound has before)
           go None e =

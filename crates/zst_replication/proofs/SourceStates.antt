@@ -1,8 +1,9 @@
 -- What is so of the states that a source stands before, and of what a receive makes of them.
-use Rattle.std.proofs.Common.{◌≡◌, ◌⊎◌, inl, inr, ℕ, zero, suc, ◌<◌, ◌≤◌, Bool, true, List, Option, Some, None, Contains, ◌&&◌, ◌||◌, nat_lt, false, refl, sym, ap, ◌∙◌, subst, arith}
+use Rattle.std.proofs.Common.{◌≡◌, ◌⊎◌, inl, inr, ℕ, ◌<◌, ◌≤◌, Bool, true, List, Option, Some, None, Contains, ◌&&◌, ◌||◌, nat_lt, false, refl, sym, ap, ◌∙◌, subst, arith}
 use Rattle.std.proofs.lemmas.Bool.{true≢false, and_from, and_parts, cases_lt, lt-ltb, ltb-true, or_left, or_right}
 use Rattle.std.proofs.lemmas.List.Elements.{All-contains}
 use Rattle.zst_laws.specs.RememberedStates.{IsOwn, SourceRemembers}
+use Rattle.zst_laws.proofs.pools.Descent.{same_snapshot, agrees_itself, IsRow, SnapshotRow, HeadRow}
 use Rattle.zst_model.specs.pools.Ancestry.{IsOrigin, Source, OfSnapshot, OfBookmark, dataset_of_source, number_of_source, IsIn, Marks, StandsBefore, Earlier, AtOrigin, BeforeOrigin, BaseCounts, IsBefore, IsBeforePartial}
 use Rattle.zst_model.specs.pools.Pool.{Pool, Dataset, Snapshot, Bookmark, Partial, HasDataset, IsLinked, dataset_of_snapshot}
 use Rattle.zst_model.specs.pools.Rows.{Row, snapshot_row, head_row}
@@ -11,20 +12,14 @@ use Rattle.zst_model.specs.sends.Inclusion.{any_below}
 use Rattle.zst_model.specs.sends.Target.{Remembers}
 use Rattle.zst_model.specs.states.DatedState.{DatedState}
 use Rattle.zst_model.specs.states.State.{State, is_number, index_bound, number_bound}
+use Rattle.zst_model.proofs.IndexTests.{any_passes}
+use Rattle.zst_model.proofs.Ancestry.{stands_before_head}
 use Rattle.zst_plan.specs.RecvPlan.{is_dated_after}
 use Rattle.zst_replication.proofs.EarlierDates.{Stays, stays_agrees, stays_remembers}
 use Rattle.zst_replication.proofs.GrownPartials.{AreOrdered, Grown, IsLatest, MayGoBack, named_base}
-use Rattle.zst_replication.proofs.Ancestry.{IsRow, SnapshotRow, HeadRow, agrees_itself, has_row, old_number, owner, same_snapshot, sound_agrees}
+use Rattle.zst_replication.proofs.Ancestry.{has_row, old_number, owner, sound_agrees}
 
 -- ---- a state without late dates
-
-any_some : (test : ℕ → Bool) (bound i : ℕ) → i < bound → test i ≡ true → any_below test bound ≡ true
-unfolding any_below
-any_some test zero i less passes = absurd (omega arith)
-any_some test (suc bound) i less passes = elim (cases_lt i bound) [
-  | inl below ↦ or_right (test bound) (any_below test bound) (any_some test bound i below passes)
-  | inr last ↦ let same : i ≡ bound = omega arith in or_left (test bound) (any_below test bound) (subst (λ (n : ℕ). test n ≡ true) same passes)
-]
 
 module _ (number : ℕ) (snap : DatedState) (none : is_dated_after number snap ≡ false) where
   abbrev any_index : ℕ → Bool
@@ -35,7 +30,7 @@ module _ (number : ℕ) (snap : DatedState) (none : is_dated_after number snap �
   not_late k n late =
       let less : k < number_bound = ltb-true k number_bound ((and_parts (nat_lt 0 k) (nat_lt k number_bound) n).1) in
       true≢false
-      (sym (any_some (λ k. is_number k && (nat_lt number (snap.number_date k) || any_index k)) number_bound k less (and_from (is_number k) (nat_lt number (snap.number_date k) || any_index k) n late)) ∙ none)
+      (sym (any_passes (λ k. is_number k && (nat_lt number (snap.number_date k) || any_index k)) number_bound k less (and_from (is_number k) (nat_lt number (snap.number_date k) || any_index k) n late)) ∙ none)
 
   -- each number, and each index of it, is dated up to the number
   early_number : (k : ℕ) → is_number k ≡ true → snap.number_date k ≤ number
@@ -46,7 +41,7 @@ module _ (number : ℕ) (snap : DatedState) (none : is_dated_after number snap �
 
   early_index : (k i : ℕ) → is_number k ≡ true → i < index_bound → snap.index_date k i ≤ number
   early_index k i n b = elim (cases_lt number (snap.index_date k i)) [
-    | inl late ↦ absurd (not_late k n (or_right (nat_lt number (snap.number_date k)) (any_index k) (any_some (λ i. nat_lt number (snap.index_date k i)) index_bound i b (lt-ltb _ _ late))))
+    | inl late ↦ absurd (not_late k n (or_right (nat_lt number (snap.number_date k)) (any_index k) (any_passes (λ i. nat_lt number (snap.index_date k i)) index_bound i b (lt-ltb _ _ late))))
     | inr early ↦ early
   ]
 
@@ -66,12 +61,6 @@ pub record Finds (pool : Pool) (olds : List Partial) (target : List ℕ) (source
 marks_own : (source : Source) (snapshot : Snapshot) → Marks source snapshot → IsOwn source snapshot
 marks_own (OfSnapshot from) snapshot marks = record { dataset = ap dataset_of_snapshot marks; number = ap (λ (s : Snapshot). s.number) marks }
 marks_own (OfBookmark from) snapshot marks = record { dataset = marks.dataset; number = marks.number }
-
--- what stands before what a dataset has at a number stands before its head
-before_head : (pool : Pool) (source : Source) (name : List ℕ) (bound : Option ℕ) → StandsBefore pool source name bound → StandsBefore pool source name None
-before_head pool source name bound (Earlier _ _ same below) = Earlier name None same tt
-before_head pool source name bound (AtOrigin _ _ origin is marks) = AtOrigin name None origin is marks
-before_head pool source name bound (BeforeOrigin _ _ origin is before) = BeforeOrigin name None origin is before
 
 -- a base counts for partial states of one target alike, and always where the target is absent
 counts_as : (pool : Pool) (source : Source) (old partial : Partial) → old.target ≡ partial.target → BaseCounts pool source partial → BaseCounts pool source old
@@ -132,7 +121,7 @@ module _ (start : Pool) (named : AreOrdered start.snapshots) (olds : List Partia
           subst (λ (d : DatedState). Fits d) (sym is.objects)
           (finds.held is.old is.there (inl (record {
             target = subst (HasDataset start) (sym is.target) has;
-            before = subst (λ (n : List ℕ). StandsBefore start source n None) (sym is.target) (before_head start source partial.target bound before);
+            before = subst (λ (n : List ℕ). StandsBefore start source n None) (sym is.target) (stands_before_head start source partial.target bound before);
           })))
     ])
 

@@ -1,5 +1,5 @@
 -- The records of a send's stream.
-use Rattle.std.proofs.Common.{◌≡◌, ◌⊎◌, inl, inr, ℕ, List, [], ◌∷◌, ◌++◌, length, map, None, refl, sym, ap, ◌∙◌, subst, append_assoc, append-nil}
+use Rattle.std.proofs.Common.{◌≡◌, ◌⊎◌, inl, inr, ℕ, List, [], ◌∷◌, ◌++◌, length, map, None, refl, sym, ap, ◌∙◌, subst, append-nil}
 use Rattle.zst_model.specs.declared.sends.header.Header.{Header}
 use Rattle.zst_model.specs.declared.sends.header.Point.{Point}
 use Rattle.zst_model.specs.declared.states.item.Item.{Item}
@@ -17,6 +17,7 @@ use Rattle.zst_stream.specs.Items.{CanSend, ViewIsRead, ViewIsStream, items_by, 
 use Rattle.zst_stream.specs.Laws.{CoversArePieces, ImageIsRead, all_pieces, piece_of}
 use Rattle.zst_stream.specs.Reading.{Reading, closing, reading}
 use Rattle.zst_stream.specs.Records.{pieces_for, view_text}
+use Rattle.zst_stream.proofs.ItemStreams.{say_append}
 
 -- neither BEGIN nor END, and END
 abbrev pub IsMiddle : Head → Type 0
@@ -43,13 +44,6 @@ pub record Stream (header : Header) (sent : List Item) (records : List Covered) 
 
 pub first_is : {A : Type 0} (x y : A) (xs ys : List A) → x ∷ xs ≡ y ∷ ys → (x ≡ y) × (xs ≡ ys)
 first_is x y xs ys e = (cc, cc)
-
--- what records say one after another
-pub items_on : (flags : ℕ) (xs ys : List Covered) → items_of flags (xs ++ ys) ≡ items_of flags xs ++ items_of flags ys
-items_on flags [] ys = refl
-items_on flags (c ∷ xs) ys =
-    ap (λ (is : List Item). items_by flags c.payload c.head ++ is) (items_on flags xs ys)
-    ∙ sym (append_assoc (items_by flags c.payload c.head) (items_of flags xs) (items_of flags ys))
 
 middle_not_end : (head : Head) → IsMiddle head → IsEnd head → ⊥
 middle_not_end (heads.End sums to) middle end = let open_still = middle.1 in cc
@@ -96,7 +90,7 @@ module _ (header : Header) (sent : List Item) (records : List Covered) (stream :
       let says : items_of header.flags left ≡ [] =
       ap (items_of header.flags) e ∙ ap (λ (is : List Item). is ++ items_of header.flags more) (end_says header.flags last.payload last.head end) ∙ ap (items_of header.flags) none in
       sym (append-nil (items_of header.flags (begin ∷ rest))) ∙ ap (λ (is : List Item). items_of header.flags (begin ∷ rest) ++ is) (sym says)
-      ∙ sym (items_on header.flags (begin ∷ rest) left) ∙ ap (items_of header.flags) is ∙ stream.said
+      ∙ sym (say_append header.flags (begin ∷ rest) left) ∙ ap (items_of header.flags) is ∙ stream.said
 
 none_mapped : (cs : List Covered) → map piece_of cs ≡ [] → cs ≡ []
 none_mapped [] e = refl

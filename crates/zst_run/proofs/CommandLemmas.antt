@@ -1,5 +1,5 @@
 -- What stands after a command on the pool of an image, from what opening and stepping say.
-use Rattle.std.specs.Prelude.{false, Option, Some, None, Result, Ok, Err}
+use Rattle.std.specs.Prelude.{false, Some, None, Result, Ok, Err}
 use Rattle.std.proofs.Common.{◌≡◌, ◌≢◌, ◌⊎◌, inl, inr, ⊎_elim, ℕ, ◌≤◌, List, [], refl, sym, ap, ◌∙◌, subst, arith, Bool}
 use Rattle.zst_outside.specs.Causes.{Rose-earlier}
 use Rattle.zst_outside.specs.Images.{DiskState, Leaves, Leaves-weaker, Leaves-then, OnlyReads, OnlyReads-then, IsSynced}
@@ -12,11 +12,10 @@ use Rattle.zst_model.specs.refusals.Refusal.{refusal_of}
 use Rattle.zst_model.specs.pools.Step.{Stepped, commits, stepped}
 use Rattle.zst_model.specs.declared.pools.command.Command.{Command}
 use Rattle.zst_model.specs.declared.pools.command.Command.TheVariants as commands
-use Rattle.zst_model.specs.declared.refusals.faults.Quantity.{Quantity}
 use Rattle.zst_model.specs.declared.refusals.plan_fault.PlanFault.{PlanFault}
-use Rattle.zst_model.specs.declared.refusals.plan_fault.PlanFault.TheVariants as plans
 use Rattle.zst_model.specs.declared.refusals.refusal.Refusal.{Refusal}
 use Rattle.zst_model.specs.declared.refusals.refusal.Refusal.TheVariants as refusals
+use Rattle.zst_model.proofs.PlanFaults.{plan_cases, plan_of, plan_is}
 use Rattle.zst_laws.specs.StepInvariants.{StepsKeepKept}
 use Rattle.zst_tree.specs.Damage.{IsSeen, NamesNode, SumsUp}
 use Rattle.zst_objset.specs.Damage.{IsDamagedBlock, IsDamagedObject, IsDamagedSet}
@@ -41,29 +40,9 @@ use Rattle.zst_run.specs.Commands.{OldOrReads, IsPoolRefusal, OfStepping, Answer
 
 -- ---- plans' faults as refusals
 
--- what holds of a limit and of each other fault of a plan holds of its refusal
-pub of_plan : (P : Refusal → Type 0) → ((fault : PlanFault) → P (refusals.Plan fault)) → ((which : Quantity) (number : ℕ) → P (refusals.Limit which number))
-    → (fault : PlanFault) → P (refusal_of fault)
-of_plan P plan limit (plans.BadName place) = plan (plans.BadName place)
-of_plan P plan limit (plans.NoSuch what) = plan (plans.NoSuch what)
-of_plan P plan limit (plans.Exists what) = plan (plans.Exists what)
-of_plan P plan limit (plans.Busy holder) = plan (plans.Busy holder)
-of_plan P plan limit (plans.NotAncestor to from) = plan (plans.NotAncestor to from)
-of_plan P plan limit (plans.NotRedactionOf bookmark snapshot) = plan (plans.NotRedactionOf bookmark snapshot)
-of_plan P plan limit (plans.NotDescendant name) = plan (plans.NotDescendant name)
-of_plan P plan limit (plans.Modified name) = plan (plans.Modified name)
-of_plan P plan limit (plans.NotLatest have want) = plan (plans.NotLatest have want)
-of_plan P plan limit (plans.NoOrigin guid) = plan (plans.NoOrigin guid)
-of_plan P plan limit (plans.NotContained guid) = plan (plans.NotContained guid)
-of_plan P plan limit (plans.PartialExists name) = plan (plans.PartialExists name)
-of_plan P plan limit (plans.NoPartial name) = plan (plans.NoPartial name)
-of_plan P plan limit (plans.WrongResume have want) = plan (plans.WrongResume have want)
-of_plan P plan limit (plans.Unsupported lack) = plan (plans.Unsupported lack)
-of_plan P plan limit (plans.Limit which number) = limit which number
-
 -- a pool's fault is the disk's only as that
 pub disk_fault : (fault : PoolFault) → pool_refusal fault ≡ refusals.DiskFault → fault ≡ faults.DiskFault
-disk_fault (faults.Plan fault) is = absurd (of_plan (λ r. r ≡ refusals.DiskFault → ⊥) (λ f e. absurd (cc e)) (λ w n e. absurd (cc e)) fault is)
+disk_fault (faults.Plan fault) is = absurd (plan_cases (λ f r. r ≡ refusals.DiskFault → ⊥) (λ f e. absurd (cc e)) (λ w n e. absurd (cc e)) fault is)
 disk_fault (faults.CannotApply fault) is = absurd (cc is)
 disk_fault (faults.Redacted object block) is = absurd (cc is)
 disk_fault (faults.Full need largest) is = absurd (cc is)
@@ -74,7 +53,7 @@ disk_fault faults.OutOfMemory is = absurd (cc is)
 
 -- and that it had failed only as that
 pub failed_before : (fault : PoolFault) → pool_refusal fault ≡ refusals.Failed → fault ≡ faults.Failed
-failed_before (faults.Plan fault) is = absurd (of_plan (λ r. r ≡ refusals.Failed → ⊥) (λ f e. absurd (cc e)) (λ w n e. absurd (cc e)) fault is)
+failed_before (faults.Plan fault) is = absurd (plan_cases (λ f r. r ≡ refusals.Failed → ⊥) (λ f e. absurd (cc e)) (λ w n e. absurd (cc e)) fault is)
 failed_before (faults.CannotApply fault) is = absurd (cc is)
 failed_before (faults.Redacted object block) is = absurd (cc is)
 failed_before (faults.Full need largest) is = absurd (cc is)
@@ -86,7 +65,7 @@ failed_before faults.OutOfMemory is = absurd (cc is)
 -- and a full disk's only as that
 pub full_only : (fault : PoolFault) (need largest : ℕ) → pool_refusal fault ≡ refusals.Full need largest → fault ≡ faults.Full need largest
 full_only (faults.Plan fault) need largest is =
-    absurd (of_plan (λ r. r ≡ refusals.Full need largest → ⊥) (λ f e. absurd (cc e)) (λ w n e. absurd (cc e)) fault is)
+    absurd (plan_cases (λ f r. r ≡ refusals.Full need largest → ⊥) (λ f e. absurd (cc e)) (λ w n e. absurd (cc e)) fault is)
 full_only (faults.CannotApply fault) need largest is = absurd (cc is)
 full_only (faults.Redacted object block) need largest is = absurd (cc is)
 full_only (faults.Full n l) need largest is = cc is
@@ -99,7 +78,7 @@ full_only faults.OutOfMemory need largest is = absurd (cc is)
 pub damaged_only : (fault : PoolFault) (sector : ℕ) (stated found : List ℕ) → pool_refusal fault ≡ refusals.Damaged sector stated found
     → fault ≡ faults.Damaged sector stated found
 damaged_only (faults.Plan fault) sector stated found is =
-    absurd (of_plan (λ r. r ≡ refusals.Damaged sector stated found → ⊥) (λ f e. absurd (cc e)) (λ w n e. absurd (cc e)) fault is)
+    absurd (plan_cases (λ f r. r ≡ refusals.Damaged sector stated found → ⊥) (λ f e. absurd (cc e)) (λ w n e. absurd (cc e)) fault is)
 damaged_only (faults.CannotApply fault) sector stated found is = absurd (cc is)
 damaged_only (faults.Redacted object block) sector stated found is = absurd (cc is)
 damaged_only (faults.Full need largest) sector stated found is = absurd (cc is)
@@ -107,30 +86,6 @@ damaged_only (faults.Damaged a s f) sector stated found is = cc is
 damaged_only faults.DiskFault sector stated found is = absurd (cc is)
 damaged_only faults.Failed sector stated found is = absurd (cc is)
 damaged_only faults.OutOfMemory sector stated found is = absurd (cc is)
-
--- the plan's fault that a refusal is
-abbrev plan_of : Refusal → Option PlanFault
-plan_of (refusals.Plan fault) = Some fault
-plan_of (refusals.Limit which number) = Some (plans.Limit which number)
-plan_of refusal = None
-
-plan_is : (fault : PlanFault) → plan_of (refusal_of fault) ≡ Some fault
-plan_is (plans.BadName place) = refl
-plan_is (plans.NoSuch what) = refl
-plan_is (plans.Exists what) = refl
-plan_is (plans.Busy holder) = refl
-plan_is (plans.NotAncestor to from) = refl
-plan_is (plans.NotRedactionOf bookmark snapshot) = refl
-plan_is (plans.NotDescendant name) = refl
-plan_is (plans.Modified name) = refl
-plan_is (plans.NotLatest have want) = refl
-plan_is (plans.NoOrigin guid) = refl
-plan_is (plans.NotContained guid) = refl
-plan_is (plans.PartialExists name) = refl
-plan_is (plans.NoPartial name) = refl
-plan_is (plans.WrongResume have want) = refl
-plan_is (plans.Unsupported lack) = refl
-plan_is (plans.Limit which number) = refl
 
 -- one that stands among no limits names its fault
 pub plan_named : (fault plan : PlanFault) → refusal_of fault ≡ refusals.Plan plan → fault ≡ plan
@@ -237,7 +192,7 @@ pub answers_refused : {tight : Bool} (command : Command) (here' : DiskState) (ke
     → Answers tight command kept.body rows pool here' after (Err (pool_refusal fault))
 answers_refused {tight = tight} command here' kept rows pool after (faults.Plan fault) same room still is =
     let rests = still (λ e. absurd (cc e)) is.1 in
-    of_plan (λ r. after ≡ Err r → Answers tight command kept.body rows pool here' after (Err r)) (λ f e. (e, rests)) (λ w n e. (e, rests)) fault is.0
+    plan_cases (λ f r. after ≡ Err r → Answers tight command kept.body rows pool here' after (Err r)) (λ f e. (e, rests)) (λ w n e. (e, rests)) fault is.0
 answers_refused {tight = tight} command here' kept rows pool after (faults.CannotApply fault) same room still is = (is.0, still (λ e. absurd (cc e)) is.1)
 answers_refused {tight = tight} command here' kept rows pool after (faults.Redacted object block) same room still is = (is.0, still (λ e. absurd (cc e)) is.1)
 answers_refused {tight = tight} command here' kept rows pool after (faults.Full need largest) same room still is = (
@@ -350,7 +305,7 @@ ran_done now command here here' kept rows lines same opens plan = record {
 opened_then : (now : ℕ) (command : Command) (here here' : DiskState) (kept : PoolState) (rows : Rows) (fault : PoolFault) → fault ≢ faults.Failed
     → (fault ≢ faults.DiskFault → Ran now command here here' (Err (pool_refusal fault)) kept.body rows) → Opened now command here here' (Err (pool_refusal fault))
 opened_then now command here here' kept rows (faults.Plan fault) alive ran =
-    of_plan (λ r. Ran now command here here' (Err r) kept.body rows → Opened now command here here' (Err r)) (λ f is. (kept.body, rows, is))
+    plan_cases (λ f r. Ran now command here here' (Err r) kept.body rows → Opened now command here here' (Err r)) (λ f is. (kept.body, rows, is))
     (λ w n is. (kept.body, rows, is)) fault (ran (λ e. absurd (cc e)))
 opened_then now command here here' kept rows (faults.CannotApply fault) alive ran = (kept.body, rows, ran (λ e. absurd (cc e)))
 opened_then now command here here' kept rows (faults.Redacted object block) alive ran = (kept.body, rows, ran (λ e. absurd (cc e)))

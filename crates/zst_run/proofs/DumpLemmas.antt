@@ -23,6 +23,7 @@ use Rattle.zst_dump.specs.declared.counts.Counts.{Counts}
 use Rattle.zst_run.specs.Dumps.{Dumps, Ends, WroteAll, NoFault, IsWithin, dump_text, ending_of}
 use Rattle.zst_run.specs.DumpTurns.{Dumping, IsAtEnd, IsFailed, IsLast, IsTooLong, TookMore, progress_of}
 use Rattle.zst_run.specs.Replies.{HandsOn}
+use Rattle.zst_run.proofs.ReceiveLemmas.{gave_then}
 
 -- ---- readings
 
@@ -63,9 +64,6 @@ none_counted start input kept = omega (arith, kept)
 printed_kept : (a b c : SinkState) (text : List ℕ) → Printed a b text → c.written ≡ b.written → c.faults ≡ b.faults → Printed a c text
 printed_kept a b c text p kept stays =
     record { wrote = Wrote-kept a b c text [] p.wrote kept (omega (arith, stays)); stays = stays ∙ p.stays }
-
-gave_then : (a b c : SourceState) (text more : List ℕ) → Gave a b text → Gave b c more → Gave a c (text ++ more)
-gave_then a b c text more first next = next ∙ ap (λ (t : List ℕ). t ++ more) first ∙ append_assoc a.given text more
 
 gave_none : (a b c : SourceState) (text : List ℕ) → Gave a b text → Gave b c [] → Gave a c text
 gave_none a b c text first none = rw (append-nil text) at (gave_then a b c text [] first none)

@@ -12,6 +12,7 @@ use Rattle.zst_model.specs.declared.refusals.refusal.Refusal.TheVariants as refu
 use Rattle.zst_model.specs.declared.refusals.stream_fault.StreamFault.{StreamFault}
 use Rattle.zst_model.specs.pools.KeptPool.{KeepsAll, kept_of}
 use Rattle.zst_model.specs.pools.Pool.{Pool}
+use Rattle.zst_model.proofs.PlanFaults.{plan_cases}
 use Rattle.zst_dir.specs.Rows.{Rows}
 use Rattle.zst_image.specs.Faults.{open_refusal}
 use Rattle.zst_uber.specs.DiskCalls as disk_calls
@@ -33,7 +34,7 @@ use Rattle.zst_recv.specs.declared.fault.RecvFault.TheVariants as faults
 use Rattle.zst_run.specs.Receives.{IsDamagedReceive, IsOnTheWay, IsReceiveRefusal, ReceiveEnds, ReceiveRan, Receiving, SaysOfPlan, Stopped, CostMore}
 use Rattle.zst_run.specs.ReceiveTurns.{ReadsAlong, Fed, IsEnd, IsReady, told}
 use Rattle.zst_run.specs.declared.receive.Receipt.{Receipt}
-use Rattle.zst_run.proofs.CommandLemmas.{images_after, of_plan, open_alive, open_disk, rests_read}
+use Rattle.zst_run.proofs.CommandLemmas.{images_after, open_alive, open_disk, rests_read}
 use Rattle.zst_run.proofs.ReceiveDamage.{damaged_here, told_damaged}
 use Rattle.zst_run.proofs.FedPieces.{none_fed}
 use Rattle.zst_run.proofs.ReceiveLemmas.{says_other}
@@ -115,7 +116,7 @@ unopened whole ask here here' input fault there answer reads synced cause = reco
 -- ---- where it is opened
 
 pool_no_source : (fault : PoolFault) → pool_refusal fault ≢ refusals.SourceFault
-pool_no_source (pools.Plan fault) is = of_plan (λ r. r ≡ refusals.SourceFault → ⊥) (λ f e. absurd (cc e)) (λ which number e. absurd (cc e)) fault is
+pool_no_source (pools.Plan fault) is = plan_cases (λ f r. r ≡ refusals.SourceFault → ⊥) (λ f e. absurd (cc e)) (λ which number e. absurd (cc e)) fault is
 pool_no_source (pools.CannotApply fault) is = absurd (cc is)
 pool_no_source (pools.Redacted object block) is = absurd (cc is)
 pool_no_source (pools.Full need largest) is = absurd (cc is)

@@ -13,6 +13,7 @@ use Rattle.zst_model.specs.declared.refusals.refusal.Refusal.TheVariants as refu
 use Rattle.zst_model.specs.declared.sends.header.Point.{Point}
 use Rattle.zst_model.specs.pools.Pool.{Pool}
 use Rattle.zst_model.specs.sends.Headers.{Sent}
+use Rattle.zst_model.proofs.PlanFaults.{plan_cases}
 use Rattle.zst_dir.specs.RowNames.{AreNamed}
 use Rattle.zst_dir.specs.Rows.{Rows}
 use Rattle.zst_image.specs.Faults.{open_refusal}
@@ -33,7 +34,7 @@ use Rattle.zst_run.specs.Commands.{Opens, SaysOfOpening}
 use Rattle.zst_run.specs.SendPieces.{IfUnplanned}
 use Rattle.zst_run.specs.declared.send.SendRequest.{SendRequest}
 use Rattle.zst_run.specs.Sends.{HasSet, IsDamagedRequest, IsSendRefusal, OfGiving, OfSending, RefusalEnds, SendRan, Sends, SendsBy, TellsOf, start_of, to_send}
-use Rattle.zst_run.proofs.CommandLemmas.{of_plan, open_alive, open_disk, told_before}
+use Rattle.zst_run.proofs.CommandLemmas.{open_alive, open_disk, told_before}
 use Rattle.zst_run.proofs.SendLemmas.{sent_earlier}
 
 -- ---- where the pool can't be opened
@@ -98,7 +99,7 @@ is_of_opening (refusals.BadVersion number) = true
 is_of_opening refusal = false
 
 pub pool_is_open : (fault : PoolFault) → is_of_opening (pool_refusal fault) ≡ false
-pool_is_open (faults.Plan fault) = of_plan (λ r. is_of_opening r ≡ false) (λ f. refl) (λ which number. refl) fault
+pool_is_open (faults.Plan fault) = plan_cases (λ f r. is_of_opening r ≡ false) (λ f. refl) (λ which number. refl) fault
 pool_is_open (faults.CannotApply fault) = refl
 pool_is_open (faults.Redacted object block) = refl
 pool_is_open (faults.Full need largest) = refl

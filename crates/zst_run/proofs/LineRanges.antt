@@ -15,8 +15,8 @@ use Rattle.zst_line.specs.declared.line.Line.{Line}
 use Rattle.zst_line.specs.declared.line.Line.TheVariants.{Dump, Create, Step, Redact, Send, Resume, Receive, Token, Check, Gen, Reclaim, Replay}
 use Rattle.zst_line.proofs.FirstWords.{same_kind}
 use Rattle.zst_line.proofs.OptionPlaces.{last_takes, value_fits}
-use Rattle.zst_line.proofs.Texts.{differ}
 use Rattle.zst_model.specs.declared.refusals.subjects.Name.{Name}
+use Rattle.zst_model.proofs.NameTests.{differ}
 use Rattle.zst_run.specs.LineEffects.{IsInRange}
 use Rattle.zst_run.specs.Receives.{IsTarget}
 use Rattle.zst_run.specs.Sends.{IsSource}

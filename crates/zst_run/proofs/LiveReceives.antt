@@ -4,17 +4,11 @@ use Rattle.std.proofs.Common.{◌≡◌, ℕ, ◌+◌, ◌≤◌, Bool, true, fa
 use Rattle.std.proofs.lemmas.List.{length-take-le}
 use Rattle.zst_outside.specs.Images.{DiskState}
 use Rattle.zst_outside.specs.States.{SourceState}
-use Rattle.zst_dir.specs.Rows.{Rows}
-use Rattle.zst_reader.specs.InputReads.{stream_limit}
-use Rattle.zst_recv.specs.Stages.{RecvFits, fed_of, is_live, stage_of}
+use Rattle.zst_recv.specs.Stages.{fed_of, is_live, stage_of}
 use Rattle.zst_recv.specs.declared.recv.Recv.{Recv}
 use Rattle.zst_run.specs.Receives.{piece_size}
 use Rattle.zst_run.specs.ReceiveTurns.{Fills, LivesOrEnds, turn_behind}
 use Rattle.zst_run.specs.declared.receive.End.{End}
-
--- a receive was fed no more bytes than a stream may have
-pub fed_within : (rows : Rows) (recv : Recv) → RecvFits rows recv → fed_of recv ≤ stream_limit
-fed_within rows recv fits = let stands = fits.reads.stands in omega (arith, stands.pushed, stands.bounded)
 
 -- one that goes on is live, over a pool that works, and was fed a whole piece where more is to come
 pub lives_on : (old now : DiskState) (recv recv' : Recv) (failed : Bool) (input input' : SourceState) (room : List ℕ) (count : ℕ) (end : Option End) → count ≤ length room → length room ≡ piece_size

@@ -16,6 +16,7 @@ use Rattle.zst_recv.specs.Feeds.{new_records}
 use Rattle.zst_recv.specs.declared.recv.Recv.{Recv}
 use Rattle.zst_run.specs.Receives.{CostMore, pieces_cost}
 use Rattle.zst_run.specs.ReceiveTurns.{GrewBy, HasHanded}
+use Rattle.zst_pool.proofs.Room.{dir-more}
 
 -- a piece behind a text did, over what the pool kept, and the body is as it was
 pub record IsShortBehind (kept kept' : PoolState) (text piece : List ℕ) (need largest : ℕ) : Type 0 where
@@ -60,15 +61,12 @@ cost_one count text (first ∷ rest) piece =
     let dir : dir_sectors (count + 2048 + 2048 * length rest + 2048) ≡ dir_sectors (count + 2048 * length (first ∷ rest) + 2048) = ap dir_sectors size in
     omega (arith, again, same, dir)
 
-dir_more : (count more : ℕ) → count ≤ more → dir_sectors count ≤ dir_sectors more
-dir_more count more le = omega (arith, le)
-
 -- it costs no more than it does in a directory of as many bytes as there may be
 cost_within : (first kept : PoolState) (pieces : List (List ℕ)) (piece : List ℕ) → GrewBy first kept pieces
     → pieces_cost (length (dir_bytes first.dir)) [] pieces + piece_cost (new_records (concat pieces) piece) kept.dir ≤ pieces_cost (length (dir_bytes first.dir)) [] (pieces ++ piece ∷ [])
 cost_within first kept pieces piece grew =
     let one = cost_one (length (dir_bytes first.dir)) [] pieces piece in
-    let dir = dir_more (length (dir_bytes kept.dir) + 2048) (length (dir_bytes first.dir) + 2048 * length pieces + 2048) (let d = grew.directory in omega (arith, d)) in
+    let dir = dir-more (length (dir_bytes kept.dir) + 2048) (length (dir_bytes first.dir) + 2048 * length pieces + 2048) (let d = grew.directory in omega (arith, d)) in
     omega (arith, one, dir)
 
 pub grew_none : (first : PoolState) → GrewBy first first []

@@ -8,6 +8,7 @@ use Rattle.zst_image.specs.Reads.{free_by}
 use Rattle.zst_image.specs.declared.pool_state.PoolState.{PoolState}
 use Rattle.zst_model.specs.declared.refusals.refusal.Refusal.{Refusal}
 use Rattle.zst_model.specs.declared.refusals.refusal.Refusal.TheVariants as refusals
+use Rattle.zst_model.proofs.PlanFaults.{plan_cases}
 use Rattle.zst_pool.specs.declared.fault.PoolFault.TheVariants as pools
 use Rattle.zst_recv.specs.Damage.{IsDamagedFeed}
 use Rattle.zst_recv.specs.Faults.{recv_refusal}
@@ -19,11 +20,10 @@ use Rattle.zst_run.specs.declared.receive.End.{End}
 use Rattle.zst_run.specs.declared.receive.End.TheVariants.{Ended, Failed}
 use Rattle.zst_run.specs.declared.receive.Receipt.{Receipt}
 use Rattle.zst_run.specs.declared.receive.Turn.TheVariants as turns
-use Rattle.zst_run.proofs.CommandLemmas.{of_plan}
 
 -- E25 is one of the pool
 pub damaged_only : (fault : RecvFault) (sector : ℕ) (stated found : List ℕ) → recv_refusal fault ≡ refusals.Damaged sector stated found → fault ≡ faults.Pool (pools.Damaged sector stated found)
-damaged_only (faults.Pool (pools.Plan fault)) sector stated found is = absurd (of_plan (λ r. r ≡ refusals.Damaged sector stated found → ⊥) (λ f e. cc (e)) (λ which number e. cc (e)) fault is)
+damaged_only (faults.Pool (pools.Plan fault)) sector stated found is = absurd (plan_cases (λ f r. r ≡ refusals.Damaged sector stated found → ⊥) (λ f e. cc (e)) (λ which number e. cc (e)) fault is)
 damaged_only (faults.Pool (pools.CannotApply fault)) sector stated found is = absurd (cc is)
 damaged_only (faults.Pool (pools.Redacted object block)) sector stated found is = absurd (cc is)
 damaged_only (faults.Pool (pools.Full need largest)) sector stated found is = absurd (cc is)

@@ -25,6 +25,7 @@ use Rattle.zst_recv.specs.declared.fault.RecvFault.{RecvFault}
 use Rattle.zst_recv.specs.declared.fault.RecvFault.TheVariants as faults
 use Rattle.zst_recv.specs.declared.recv.FeedReport as coded
 use Rattle.zst_recv.specs.declared.recv.Recv.{Recv}
+use Rattle.zst_recv.proofs.PlanRefusals.{by_covered}
 use Rattle.zst_run.specs.Receives.{SaysOfPlan}
 use Rattle.zst_run.specs.ReceiveTurns.{HasFed, PlansOn, TurnPlans, cut_refusal, told, turn_behind}
 use Rattle.zst_run.specs.declared.receive.End.{End}
@@ -82,17 +83,6 @@ plan_only (faults.Stream fault) told is = absurd (cc is)
 plan_only (faults.CannotApply index fault) told is = absurd (cc is)
 
 -- ---- texts
-
-no_front : (A : Type 0) (xs ys : List A) → xs ++ ys ≡ [] → xs ≡ []
-no_front A [] ys is = refl
-no_front A (x ∷ xs) ys is = absurd (cc is)
-
-by_covered : (P : Type 0) (text : List ℕ) → ((reading text).covered ≡ [] → P) → ((first : Covered) (others : List Covered) → (reading text).covered ≡ first ∷ others → P) → P
-by_covered P text none some = by (reading text).covered refl
-  where
-    by : (l : List Covered) → (reading text).covered ≡ l → P
-    by [] is = none is
-    by (first ∷ others) is = some first others is
 
 none_refused : (rows : Rows) (ask : RecvAsk) (text : List ℕ) (fault : PlanFault) → (reading text).covered ≡ [] → RefusesOne rows ask text fault → ⊥
 none_refused rows ask text fault none refuses = let b = refuses.begins in let empty : b.first ∷ b.rest ≡ [] = sym b.covered ∙ none in cc (empty)

@@ -14,6 +14,7 @@ use Rattle.zst_model.specs.declared.refusals.refusal.Refusal.TheVariants as refu
 use Rattle.zst_model.specs.declared.sends.header.Point.{Point}
 use Rattle.zst_model.specs.refusals.Refusal.{refusal_of}
 use Rattle.zst_model.specs.sends.Headers.{Sent}
+use Rattle.zst_model.proofs.PlanFaults.{plan_cases}
 use Rattle.zst_dir.specs.Rows.{Rows}
 use Rattle.zst_tree.specs.Damage.{IsSeen}
 use Rattle.zst_tree.specs.declared.tree.ObjSet.{ObjSet}
@@ -39,13 +40,13 @@ use Rattle.zst_run.specs.Replies.{HandsOn}
 use Rattle.zst_run.specs.declared.send.SendRequest.{SendRequest}
 use Rattle.zst_run.specs.Sends.{HasSet, IsDamagedRequest, IsSendRefusal, OfGiving, RefusalEnds, SendsBy, TellsOf, TextEnds}
 use Rattle.zst_run.specs.SendPieces.{IfUnplanned, IsOpenRefusal, OpensBy, Passed, PieceWritten, PlansOpen, Sending, WhySendEnds, WritesPiece}
-use Rattle.zst_run.proofs.CommandLemmas.{damaged_only, disk_fault, failed_before, full_only, of_plan, plan_named}
+use Rattle.zst_run.proofs.CommandLemmas.{damaged_only, disk_fault, failed_before, full_only, plan_named}
 
 -- ---- refusals
 
 -- a pool's fault is never the output's
 no_sink : (fault : PoolFault) → pool_refusal fault ≢ refusals.SinkFault
-no_sink (faults.Plan fault) is = absurd (of_plan (λ r. r ≡ refusals.SinkFault → ⊥) (λ f e. absurd (cc e)) (λ w n e. absurd (cc e)) fault is)
+no_sink (faults.Plan fault) is = absurd (plan_cases (λ f r. r ≡ refusals.SinkFault → ⊥) (λ f e. absurd (cc e)) (λ w n e. absurd (cc e)) fault is)
 no_sink (faults.CannotApply fault) is = absurd (cc is)
 no_sink (faults.Redacted object block) is = absurd (cc is)
 no_sink (faults.Full need largest) is = absurd (cc is)
@@ -272,7 +273,7 @@ wants_memory has start (Err fault) = inr refl
 
 -- a plan's refusal is how its send ends
 by_plan : (fault : PlanFault) (before after : ℕ) → RefusalEnds fault before after (Err (refusal_of fault))
-by_plan fault before after = of_plan (λ r. r ≡ refusal_of fault → RefusalEnds fault before after (Err r)) (λ f is. is) (λ which number is. is) fault refl
+by_plan fault before after = plan_cases (λ f r. r ≡ refusal_of fault → RefusalEnds fault before after (Err r)) (λ f is. is) (λ which number is. is) fault refl
 
 -- a send that isn't opened writes nothing
 pub unopened_by : (has : Blocks) (start : Option Point) (planned : Result Sent PlanFault) (before after : ℕ) (out : SinkState) (refusal : Refusal) → OpensBy has start planned (Err refusal)
@@ -331,7 +332,7 @@ unopened_because planned refusal is fault same =
 pub unopened_damage : (Is : DamageFact) (refusal : Refusal) → IsOpenRefusal refusal → TellsOf Is (Err refusal)
 unopened_damage Is refusal is = λ sector stated found same.
     let told : refusal ≡ refusals.Damaged sector stated found = cc same in
-    ⊎_elim (λ plan. absurd (of_plan (λ r. r ≡ refusals.Damaged sector stated found → ⊥) (λ f e. absurd (cc e)) (λ w n e. absurd (cc e)) plan.0 (sym plan.1 ∙ told)))
+    ⊎_elim (λ plan. absurd (plan_cases (λ f r. r ≡ refusals.Damaged sector stated found → ⊥) (λ f e. absurd (cc e)) (λ w n e. absurd (cc e)) plan.0 (sym plan.1 ∙ told)))
     (λ memory. absurd (cc (memory, told)))
     is
 

@@ -10,6 +10,7 @@ use Rattle.zst_image.specs.declared.pool_state.PoolState.{PoolState}
 use Rattle.zst_model.specs.declared.refusals.refusal.Refusal.TheVariants as refusals
 use Rattle.zst_model.specs.declared.refusals.stream_fault.StreamFault.{StreamFault}
 use Rattle.zst_model.specs.pools.Pool.{Pool}
+use Rattle.zst_model.proofs.PlanFaults.{plan_cases}
 use Rattle.zst_pool.specs.Calls.{IsAtRest}
 use Rattle.zst_pool.specs.Faults.{pool_refusal}
 use Rattle.zst_pool.specs.declared.fault.PoolFault.{PoolFault}
@@ -33,7 +34,6 @@ use Rattle.zst_run.specs.ReceiveTurns.{Fills, HasFed, HasHanded, IsInputOf, IsPi
 use Rattle.zst_run.specs.declared.receive.End.{End}
 use Rattle.zst_run.specs.declared.receive.End.TheVariants.{Ended, Failed}
 use Rattle.zst_run.specs.declared.receive.Turn.TheVariants as turns
-use Rattle.zst_run.proofs.CommandLemmas.{of_plan}
 use Rattle.zst_recv.specs.Costs.{PieceGrows}
 use Rattle.zst_recv.specs.Feeds.{new_records}
 use Rattle.zst_run.proofs.ReceiveLemmas.{recv_full}
@@ -43,7 +43,7 @@ use Rattle.zst_run.proofs.TurnLemmas.{turn_without, turned_more, turned_over, tu
 -- ---- faults of the stream
 
 pool_no_stream : (fault : PoolFault) (told : StreamFault) → pool_refusal fault ≢ refusals.Stream told
-pool_no_stream (pools.Plan fault) told is = of_plan (λ r. r ≡ refusals.Stream told → ⊥) (λ f e. absurd (cc e)) (λ which number e. absurd (cc e)) fault is
+pool_no_stream (pools.Plan fault) told is = plan_cases (λ f r. r ≡ refusals.Stream told → ⊥) (λ f e. absurd (cc e)) (λ which number e. absurd (cc e)) fault is
 pool_no_stream (pools.CannotApply fault) told is = absurd (cc is)
 pool_no_stream (pools.Redacted object block) told is = absurd (cc is)
 pool_no_stream (pools.Full need largest) told is = absurd (cc is)

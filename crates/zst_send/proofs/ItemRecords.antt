@@ -1,9 +1,9 @@
 -- The record of an item, as the writer puts it.
-use Rattle.std.proofs.Common.{◌≡◌, ℕ, ◌*◌, Bool, true, false, if◌then◌else◌, List, [], ◌∷◌, ◌++◌, length, take, drop, flat_map, refl, sym, ap, ◌∙◌, arith, length-append}
+use Rattle.std.proofs.Common.{◌≡◌, ℕ, Bool, true, false, if◌then◌else◌, List, [], ◌++◌, length, take, drop, flat_map, refl, sym, ap, ◌∙◌, arith, length-append}
 use Rattle.std.proofs.Math.Seq.{take-append_seam}
 use Rattle.std.proofs.lemmas.List.{append-nil}
-use Rattle.zst_bytes.specs.Bytes.{number_bytes}
 use Rattle.zst_bytes.specs.Words.{word}
+use Rattle.zst_bytes.proofs.WordLists.{length-words}
 use Rattle.zst_fletcher.specs.WeightSum.{IsWhole}
 use Rattle.zst_model.specs.declared.sends.header.Header.{Header}
 use Rattle.zst_model.specs.declared.states.item.Change.TheVariants as changes
@@ -41,18 +41,10 @@ is_lone_piece text to item head bytes states is follows = sym (append-nil bytes)
 
 -- ---- BEGIN
 
-words_long : (numbers : List ℕ) → length (flat_map word numbers) ≡ 8 * length numbers
-unfolding number_bytes
-words_long [] = refl
-words_long (number ∷ numbers) =
-    let here : length (word number) ≡ 8 = refl in
-    let rest = words_long numbers in
-    omega (arith, length-append (word number) (flat_map word numbers), here, rest)
-
 payload_whole : (header : Header) (has : Bool) → IsWhole (if has then payload_bytes header else [])
 unfolding payload_bytes
 payload_whole header true =
-    let long = words_long (payload_fields header) in
+    let long = length-words (payload_fields header) in
     omega (arith, length-append payload_magic (flat_map word (payload_fields header)), long)
 payload_whole header false = refl
 

@@ -1,12 +1,9 @@
 -- What a plan's rows tell of the send that it is of, where they stand for what a pool lists.
 use Rattle.std.proofs.Common.{◌≡◌, ℕ, Bool, true, false, not, List, [], ◌∷◌, length, is_some, Option, Some, None, Result, Ok, Err, cond, option_map, suc, zero, ◌<◌, refl, sym, ap, ◌∙◌, subst, get_or, arith}
-use Rattle.std.proofs.lemmas.List.{get_or_default}
 use Rattle.std.proofs.lemmas.List.Quantifiers.{position-Some}
 use Rattle.std.specs.List.{find, position}
-use Rattle.std.specs.Prelude.{IsErrAnd}
-use Rattle.std.proofs.lemmas.Bool.{and_parts, lt-ltb, true≢false}
+use Rattle.std.proofs.lemmas.Bool.{and_parts, true≢false, not-true}
 use Rattle.zst_dir.proofs.Matches.{Match-alike}
-use Rattle.zst_dir.specs.RowNames.{Match}
 use Rattle.zst_dir.specs.Rows.{Rows}
 use Rattle.zst_dir.specs.declared.rows.Snapshot.{Snapshot}
 use Rattle.zst_image.specs.Reads.{BookmarkIs, RunsBy, SetIs, SnapshotIs}
@@ -21,9 +18,11 @@ use Rattle.zst_model.specs.sends.Headers.{Sent, choice_of, redaction_list, sourc
 use Rattle.zst_model.specs.sends.Inclusion.{Choice, Pairs, no_pairs}
 use Rattle.zst_model.specs.sends.SendPlan.{has_guids, send_plan}
 use Rattle.zst_model.specs.states.AppliedItems.{unless, ◌>>=◌}
-use Rattle.zst_plan.specs.Places.{AnswerAlike, FindAlike, StandsAt}
+use Rattle.zst_model.proofs.GuidLists.{no_guids}
+use Rattle.zst_plan.specs.Places.{FindAlike, StandsAt}
 use Rattle.zst_plan.specs.Plans.{IsPlanOf, bookmark_source}
 use Rattle.zst_plan.specs.declared.plan.SendPlan.{SendPlan}
+use Rattle.zst_plan.proofs.AlikeAnswers.{at_names}
 use Rattle.zst_block.specs.declared.fault.BlockFault.{BlockFault}
 use Rattle.zst_block.specs.declared.fault.BlockFault.TheVariants as blocks
 use Rattle.zst_pool.specs.Faults.{of_block}
@@ -33,13 +32,6 @@ use Rattle.zst_traverse.specs.Cells.{choice_after}
 use Rattle.zst_tree.specs.Indices.{Blocks}
 use Rattle.zst_send.specs.Openings.{IsPlanned, Opens, built, is_plain, opening, set_where}
 use Rattle.zst_send.specs.declared.send.Send.{Send}
-
--- what a place has stands for what stands there in the other list
-at_names : {A B : Type 0} (Is : A → B → Type 0) (rows : List A) (others : List B) (place : ℕ) (row : A) (other : B)
-    → Match Is rows others → StandsAt rows others place other → row ≡ get_or rows place row → Is row other
-at_names {A = A} Is rows others place row other m at is =
-    let same : at.row ≡ row = sym at.is_there ∙ get_or_default rows place at.row row at.below ∙ sym is in
-    subst (λ (r : A). Is r other) same (Match-alike Is rows others at.row other m at.alike)
 
 -- what is found is the first that passes
 found_at : {A : Type 0} (p : A → Bool) (d : A) (xs : List A) (i : ℕ) → i < length xs → p (get_or xs i d) ≡ true → ((k : ℕ) → k < i → p (get_or xs k d) ≡ false) → find p xs ≡ Some (get_or xs i d)
@@ -62,27 +54,6 @@ never_planned (blocks.Full need largest) fault is = absurd (cc is)
 never_planned (blocks.Damaged sector stated found) fault is = absurd (cc is)
 never_planned blocks.DiskFault fault is = absurd (cc is)
 
--- what answers alike found and refused
-pub err_is : {T E : Type 0} (result : Result T E) (fault : E) → IsErrAnd result (λ e. e ≡ fault) → result ≡ Err fault
-err_is (Ok x) fault h = absurd h
-err_is (Err e) fault h = ap (λ f. Err f) h
-
-pub ok_alike : {A B E : Type 0} (Is : A → B → Type 0) (x : A) (r : Result B E) → AnswerAlike Is (Ok x) r → (y : B) × (r ≡ Ok y) × Is x y
-ok_alike Is x (Ok y) alike = (y, refl, alike)
-ok_alike Is x (Err fault) alike = absurd alike
-
-pub err_alike : {A B E : Type 0} (Is : A → B → Type 0) (fault : E) (r : Result B E) → AnswerAlike Is (Err fault) r → r ≡ Err fault
-err_alike Is fault (Ok y) alike = absurd alike
-err_alike Is fault (Err other) alike = ap (λ f. Err f) (sym alike)
-
-not_holds : (b : Bool) → not b ≡ true → b ≡ false
-not_holds true e = absurd (true≢false (sym e))
-not_holds false e = refl
-
-none_there : (guids : List ℕ) → has_guids guids ≡ false → guids ≡ []
-none_there [] e = refl
-none_there (guid ∷ guids) e = absurd (true≢false (sym (lt-ltb 0 (length (guid ∷ guids)) (omega arith)) ∙ e))
-
 no_runs : (runs : Runs) → length runs ≡ 0 → has_pair runs ≡ no_pairs
 no_runs [] e = refl
 no_runs (run ∷ runs) e = absurd (omega (arith, e))
@@ -104,7 +75,7 @@ module _ {bound : Option ℕ} (has : Blocks) (rows : Rows) (running : Pool) (run
   no_source None (Some (OfBookmark bookmark)) found none = absurd found
   no_source (Some place) (Some (OfBookmark bookmark)) found none =
       let is = Match-alike (BookmarkIs has) rows.bookmarks running.bookmarks found.row bookmark runs.bookmarks found.alike in
-      no_runs bookmark.runs (is.list.count_is ∙ is.named.no_list (sym is.named.redact ∙ none_there bookmark.redact none))
+      no_runs bookmark.runs (is.list.count_is ∙ is.named.no_list (sym is.named.redact ∙ no_guids bookmark.redact none))
 
   module _ (plan : SendPlan) (sent : Sent) (is : IsPlanOf rows running plan sent) where
     -- the set of the snapshot's row is known as well as the rows
@@ -116,8 +87,8 @@ module _ {bound : Option ℕ} (has : Blocks) (rows : Rows) (running : Pool) (run
     plan_choice plain =
         let both = and_parts (not (is_some sent.redaction)) (not (has_guids (source_guids sent.source))) plain in
         ap (λ (from : Option ℕ). choice from (source_list sent.source) (redaction_list sent.redaction)) (sym is.source.number)
-        ∙ ap (λ (source : Pairs). choice plan.from_number source (redaction_list sent.redaction)) (no_source plan.book_f sent.source is.source.bookmark (not_holds _ both.1))
-        ∙ ap (λ (redact : Pairs). choice plan.from_number no_pairs redact) (no_redaction sent.redaction (not_holds _ both.0))
+        ∙ ap (λ (source : Pairs). choice plan.from_number source (redaction_list sent.redaction)) (no_source plan.book_f sent.source is.source.bookmark (not-true _ both.1))
+        ∙ ap (λ (redact : Pairs). choice plan.from_number no_pairs redact) (no_redaction sent.redaction (not-true _ both.0))
 
 -- ---- what opening refuses
 

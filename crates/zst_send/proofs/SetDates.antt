@@ -19,6 +19,7 @@ use Rattle.zst_model.specs.pools.Soundness.{DatedUpTo}
 use Rattle.zst_model.specs.sends.Inclusion.{any_below}
 use Rattle.zst_model.specs.states.DatedState.{DatedState}
 use Rattle.zst_model.specs.states.State.{index_bound, is_number, number_bound}
+use Rattle.zst_model.proofs.IndexTests.{any_passes, none_pass}
 use Rattle.zst_objset.specs.Dnodes.{SlotIs, tree_of}
 use Rattle.zst_objset.specs.Sets.{IsBounded, LeafIs, SetHolds, date_in, latest}
 use Rattle.zst_objset.specs.TightSets.{IsTightLeaf, SetIsTight}
@@ -66,23 +67,6 @@ latest_bounds slots (suc count) s less = elim (cases_lt s count) [
       rw same (omega arith))
 ]
 
--- a test that fails below a bound
-any_none : (test : ℕ → Bool) (bound : ℕ) → ((i : ℕ) → i < bound → test i ≡ false) → any_below test bound ≡ false
-unfolding any_below
-any_none test zero none = refl
-any_none test (suc bound) none = or_from (test bound) (any_below test bound) (none bound (omega arith)) (any_none test bound (λ i less. none i (omega arith)))
-
--- and one that passes somewhere
-any_some : (test : ℕ → Bool) (bound i : ℕ) → i < bound → test i ≡ true → any_below test bound ≡ true
-unfolding any_below
-any_some test zero i less passes = absurd (omega arith)
-any_some test (suc bound) i less passes = elim (cases_lt i bound) [
-  | inl below ↦ or_right (test bound) (any_below test bound) (any_some test bound i below passes)
-  | inr last ↦ (
-      let same : i ≡ bound = omega arith in
-      or_left (test bound) (any_below test bound) (subst (λ (n : ℕ). test n ≡ true) same passes))
-]
-
 module _ (number : ℕ) (snap : DatedState) where
   -- whether an index of a number is dated after this number
   abbrev any_index : ℕ → Bool
@@ -92,17 +76,17 @@ module _ (number : ℕ) (snap : DatedState) where
   dated_none : DatedUpTo number snap → is_dated_after number snap ≡ false
   unfolding is_dated_after
   dated_none dated =
-      any_none (λ k. is_number k && (nat_lt number (snap.number_date k) || any_index k)) number_bound (λ k less.
+      none_pass (λ k. is_number k && (nat_lt number (snap.number_date k) || any_index k)) number_bound (λ k less.
       and_right (is_number k) (nat_lt number (snap.number_date k) || any_index k)
       (or_from (nat_lt number (snap.number_date k)) (any_index k) (le-ltb _ _ (dated.numbers k))
-      (any_none (λ i. nat_lt number (snap.index_date k i)) index_bound (λ i less. le-ltb _ _ (dated.indices k i)))))
+      (none_pass (λ i. nat_lt number (snap.index_date k i)) index_bound (λ i less. le-ltb _ _ (dated.indices k i)))))
 
   -- a number below the bound that is dated after it, or an index of it
   late_there : (k : ℕ) → is_number k ≡ true → (nat_lt number (snap.number_date k) || any_index k) ≡ true → is_dated_after number snap ≡ true
   unfolding is_dated_after
   late_there k number_is late =
       let less : k < number_bound = ltb-true k number_bound ((and_parts (nat_lt 0 k) (nat_lt k number_bound) number_is).1) in
-      any_some (λ k. is_number k && (nat_lt number (snap.number_date k) || any_index k)) number_bound k less (and_from (is_number k) (nat_lt number (snap.number_date k) || any_index k) number_is late)
+      any_passes (λ k. is_number k && (nat_lt number (snap.number_date k) || any_index k)) number_bound k less (and_from (is_number k) (nat_lt number (snap.number_date k) || any_index k) number_is late)
 
   -- and where none is after it, no date is above it
   none_dated : IsBounded snap → is_dated_after number snap ≡ false → DatedUpTo number snap
@@ -118,7 +102,7 @@ module _ (number : ℕ) (snap : DatedState) where
       of_index k i false e = omega (arith, bounded.no_numbers_index k i e)
       of_index k i true e = ⊎_elim
           (λ late. ⊎_elim
-          (λ inside. absurd (true≢false (sym (late_there k e (or_right (nat_lt number (snap.number_date k)) (any_index k) (any_some (λ i. nat_lt number (snap.index_date k i)) index_bound i inside (lt-ltb _ _ late)))) ∙ none)))
+          (λ inside. absurd (true≢false (sym (late_there k e (or_right (nat_lt number (snap.number_date k)) (any_index k) (any_passes (λ i. nat_lt number (snap.index_date k i)) index_bound i inside (lt-ltb _ _ late)))) ∙ none)))
           (λ behind. omega (arith, bounded.no_index k i behind)) (cases_lt i index_bound))
           (λ early. omega arith) (cases_lt number (snap.index_date k i))
 

@@ -1,45 +1,22 @@
 -- What a walk passes over without an item.
-use Rattle.std.proofs.Common.{inl, inr, ◌≡◌, ℕ, zero, suc, ◌+◌, ◌*◌, ◌<◌, ◌≤◌, Bool, true, false, List, [], ◌++◌, map, flat_map, Option, Some, None, refl, sym, ap, ◌∙◌, arith, subst, nat_lt, nat_le, ◌==◌, ◌||◌, if◌then◌else◌, eq-eqb, ne_eqb}
-use Rattle.std.proofs.lemmas.Bool.{cases_eq, cases_order, cases_lt, cond-true, cond-false, lt-ltb, le-ltb, le-leb, lt-leb, and_from, and_parts, ltb-true, or_left, or_right}
+use Rattle.std.proofs.Common.{inl, inr, ◌≡◌, ℕ, zero, ◌*◌, ◌<◌, ◌≤◌, Bool, true, false, [], map, Option, Some, None, refl, sym, ap, ◌∙◌, arith, subst, nat_lt, nat_le, ◌||◌, if◌then◌else◌}
+use Rattle.std.proofs.lemmas.Bool.{cases_eq, cases_order, cases_lt, cond-true, cond-false, lt-ltb, le-leb, lt-leb, and_from, and_parts, or_left, or_right}
 use Rattle.zst_model.specs.declared.sends.header.Header.{Header}
 use Rattle.zst_model.specs.declared.sends.header.Point.{Point}
 use Rattle.zst_model.specs.declared.states.item.Item.TheVariants.{At}
 use Rattle.zst_model.specs.sends.Inclusion.{any_below, includes_number, includes_pair, is_after, is_late_pair}
-use Rattle.zst_model.specs.sends.Items.{block_change, change_at, number_items, rising}
+use Rattle.zst_model.specs.sends.Items.{block_change, change_at, number_items}
 use Rattle.zst_model.specs.sends.View.{View, Left, Gone, There, object_view, shown_object, view_of}
 use Rattle.zst_model.specs.states.DatedState.{DatedState, size_at}
 use Rattle.zst_model.specs.states.State.{Object, IsState, end_of, index_bound, is_number, number_bound}
+use Rattle.zst_model.proofs.IndexTests.{any_passes}
 use Rattle.zst_laws.specs.Walk.{left_at, number_rest, walk_left, NothingBelow, WalkEnds}
+use Rattle.zst_laws.proofs.sends.Walk.{left_below, left_own, left_above, all_none}
 use Rattle.zst_traverse.specs.Cells.{choice_after, first_number, NoneLeft, NoNumber}
 
 -- ---- what is left of a number below the point's, of the point's own, and of one above
 
-left_below : (view : View) (point : Point) (slot : Bool) (j : ℕ) → j < point.object → left_at view point slot j ≡ []
-left_below view point slot j l = cond-true (nat_lt j point.object) _ _ (lt-ltb _ _ l)
-
-left_own : (view : View) (point : Point) (slot : Bool) → left_at view point slot point.object ≡ (if slot then number_items point.object point.offset (view.shown point.object) else number_rest point.object point.offset (view.shown point.object))
-left_own view point slot =
-    cond-false (nat_lt point.object point.object) _ _ (le-ltb _ _ (omega arith)) ∙ cond-true (point.object == point.object) _ _ (eq-eqb point.object point.object refl)
-
-left_above : (view : View) (point : Point) (slot : Bool) (j : ℕ) → point.object < j → left_at view point slot j ≡ number_items j 0 (view.shown j)
-left_above view point slot j l =
-    cond-false (nat_lt j point.object) _ _ (le-ltb _ _ (omega arith)) ∙ cond-false (j == point.object) _ _ (ne_eqb j point.object (λ e. omega (arith, e)))
-
--- a pass that finds nothing
-all_none : {A : Type 0} (f : ℕ → List A) (n a : ℕ) → ((j : ℕ) → j < a + n → f j ≡ []) → flat_map f (rising a n) ≡ []
-unfolding rising
-all_none f zero a h = refl
-all_none f (suc n) a h = ap (λ l. l ++ flat_map f (rising (suc a) n)) (h a (omega arith)) ∙ all_none f n (suc a) (λ j m. h j (omega arith))
-
 -- ---- which numbers are included
-
-any_passes : (test : ℕ → Bool) (n i : ℕ) → i < n → test i ≡ true → any_below test n ≡ true
-unfolding any_below
-any_passes test zero i l h = absurd (omega arith)
-any_passes test (suc n) i l h = elim (cases_eq i n) [
-  | inl same ↦ or_left (test n) (any_below test n) (ap test (sym same) ∙ h)
-  | inr other ↦ or_right (test n) (any_below test n) (any_passes test n i (omega arith) h)
-]
 
 module _ (snap : DatedState) (source : Option ℕ) where
   -- an included number is one
@@ -56,9 +33,6 @@ module _ (snap : DatedState) (source : Option ℕ) where
       and_from (is_number k) (is_after source (snap.number_date k) || any_below touched index_bound) number
       (or_right (is_after source (snap.number_date k)) (any_below touched index_bound)
       (any_passes touched index_bound i less (or_left (includes_pair snap (choice_after source) k i) (is_late_pair snap (choice_after source) k i) pair)))
-
-pub some_number : (k : ℕ) → is_number k ≡ true → 0 < k
-some_number k e = ltb-true 0 k ((and_parts (nat_lt 0 k) (nat_lt k number_bound) e).0)
 
 -- a number at which an object is in a lawful state is one
 pub number_there : (snap : DatedState) (k : ℕ) (object : Object) → IsState snap.state → snap.state k ≡ Some object → is_number k ≡ true

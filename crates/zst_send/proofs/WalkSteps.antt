@@ -16,6 +16,7 @@ use Rattle.zst_model.specs.sends.View.{View, object_view, view_of}
 use Rattle.zst_model.specs.states.DatedState.{DatedState, size_at}
 use Rattle.zst_model.specs.states.State.{Object, IsObject, IsState, Block, end_of, index_bound, number_bound}
 use Rattle.zst_model.specs.states.State as states
+use Rattle.zst_model.proofs.ObjectNumbers.{number_over_none}
 use Rattle.zst_laws.specs.Walk.{walk_left, BlockRunIsNext, GoneRunIsNext, ObjectIsNext, WalkEnds, run_change}
 use Rattle.zst_objset.proofs.EndLaws.{end_bounded}
 use Rattle.zst_objset.specs.Dnodes.{ObjectIs}
@@ -29,7 +30,7 @@ use Rattle.zst_send.specs.declared.due_items.DueItems.{DueItems}
 use Rattle.zst_send.specs.declared.due_items.DueItems.TheVariants as dues
 use Rattle.zst_send.specs.declared.walk_position.WalkPosition.{WalkPosition}
 use Rattle.zst_send.proofs.Sizes.{data_most, object_lawful, spill_most}
-use Rattle.zst_send.proofs.WalkGaps.{counts_by_pair, is_counted, nothing_behind, nothing_below, number_there, shown_gone, shown_there, some_number}
+use Rattle.zst_send.proofs.WalkGaps.{counts_by_pair, is_counted, nothing_behind, nothing_below, number_there, shown_gone, shown_there}
 
 -- the four laws of walks that a step cites
 pub record WalkLaws : Type 0 where
@@ -102,7 +103,7 @@ module _ (has : Blocks) (header : Header) (snap : DatedState) (source : Option �
       let some : 0 < count = next.some in (
         FreeObjects first count ∷ [],
         record { first = FreeObjects first count; later = []; are = refl; is_first = refl; are_behind = refl },
-        laws.gone view position.point position.slot first count (some_number first (is_counted snap source first (next.included first (omega arith) (omega arith)))) some next.under
+        laws.gone view position.point position.slot first count (number_over_none first (is_counted snap source first (next.included first (omega arith) (omega arith)))) some next.under
             (nothing_below header snap source position.point position.slot first left next.none_before)
             (from_point position.point position.slot first next.from_on) (past_slot position.point position.slot first next.from_on)
             (λ j from below. shown_gone header snap source j (next.included j from below) (next.absent j from below)),

@@ -1,9 +1,6 @@
 -- Sessions that are found by their ids in changed lists.
-use Rattle.std.proofs.Common.{◌≡◌, ℕ, Bool, true, false, List, [], ◌∷◌, ◌++◌, map, filter, find, Option, Some, refl, sym, ap, ◌∙◌, cond, ◌==◌, eqb-true, if◌then◌else◌, arith}
+use Rattle.std.proofs.Common.{◌≡◌, ℕ, Bool, true, false, List, [], ◌∷◌, ◌++◌, map, find, Option, Some, refl, sym, ap, ◌∙◌, cond, ◌==◌, eqb-true, if◌then◌else◌, arith}
 use Rattle.zst_sessions.specs.World.{OpenSend}
-
-pub some_parts : {A : Type 0} (x y : A) → Some x ≡ Some y → x ≡ y
-some_parts x y e = cc
 
 -- one that is found is found in a longer list too
 pub found_front : {A : Type 0} (test : A → Bool) (xs ys : List A) (x : A) → find test xs ≡ Some x → find test (xs ++ ys) ≡ Some x
@@ -13,18 +10,6 @@ found_front test (a ∷ xs) ys x e = go (test a) e (found_front test xs ys x)
     go : (t : Bool) → cond t (Some a) (find test xs) ≡ Some x → (find test xs ≡ Some x → find test (xs ++ ys) ≡ Some x) → cond t (Some a) (find test (xs ++ ys)) ≡ Some x
     go true e on = e
     go false e on = on e
-
--- and among those that another test leaves, where it passes that itself
-pub found_left : {A : Type 0} (test keep : A → Bool) (xs : List A) (x : A) → find test xs ≡ Some x → keep x ≡ true → find test (filter keep xs) ≡ Some x
-found_left test keep [] x e k = absurd cc
-found_left {A} test keep (a ∷ xs) x e k = go (test a) (keep a) refl refl e (λ rest. found_left test keep xs x rest k)
-  where
-    go : (t s : Bool) → test a ≡ t → keep a ≡ s → cond t (Some a) (find test xs) ≡ Some x → (find test xs ≡ Some x → find test (filter keep xs) ≡ Some x)
-        → find test (cond s (a ∷ filter keep xs) (filter keep xs)) ≡ Some x
-    go true true is kept e on = ap (λ (t : Bool). cond t (Some a) (find test (filter keep xs))) is ∙ e
-    go true false is kept e on = absurd (let one = ap keep (some_parts a x e) in cc)
-    go false true is kept e on = ap (λ (t : Bool). cond t (Some a) (find test (filter keep xs))) is ∙ on e
-    go false false is kept e on = on e
 
 module _ (put : OpenSend) where
   abbrev pub placed : OpenSend → OpenSend

@@ -1,6 +1,7 @@
 -- What the engine keeps of a session goes on to stand.
 use Rattle.std.proofs.Common.{◌≡◌, ◌+◌, ℕ, not, List, ◌++◌, length, take, drop, min, find, sym, ap, ◌∙◌, subst, ◌==◌, cond, if◌then◌else◌, Bool}
 use Rattle.std.proofs.lemmas.List.{drop-drop, length-take, take_min}
+use Rattle.std.proofs.lemmas.Bool.{ne_eqb}
 use Rattle.zst_block.specs.Blocks.{Has}
 use Rattle.zst_dir.proofs.Matches.{filter-Match}
 use Rattle.zst_dir.specs.Rows.{Rows, is_for}
@@ -8,7 +9,7 @@ use Rattle.zst_recv.specs.GoingOn.{FittingReceive, IsRow, ReceivesGoOn}
 use Rattle.zst_recv.specs.declared.stage.Stage as coded_stages
 use Rattle.zst_recv.specs.declared.stage.Stage.TheVariants as stages
 use Rattle.zst_send.specs.Sends.{SendsFrom, SendsGoOn, begun_text}
-use Rattle.zst_sessions.proofs.Matching.{change_match, named, snoc_match, unnamed}
+use Rattle.zst_sessions.proofs.Matching.{change_match, named, snoc_match}
 use Rattle.zst_sessions.proofs.OwnSends.{pieces_own}
 use Rattle.zst_sessions.specs.Engines.{ReceiveStands, SendStands}
 use Rattle.zst_sessions.specs.Frames.{ClosedMatch, FedMatch, GivenMatch, OpenedMatch, ReceivesStandOn, SendsStandOn, TakesStand}
@@ -80,7 +81,7 @@ closed_match failed image space id coded sends match =
 pub given_match : GivenMatch
 given_match failed image space coded sends place default after send pairs match lt at stands =
     change_match Is (λ one. one.id) (λ one. one.id) (λ one other is. is.id) send.id put
-    (λ other differs. ap (λ (t : Bool). cond t send other) (unnamed other.id send.id differs))
+    (λ other differs. ap (λ (t : Bool). cond t send other) (ne_eqb other.id send.id differs))
     coded sends place default after pairs match lt at
     (λ other is. subst (λ (s : OpenSend). Is after s) (sym (ap (λ (t : Bool). cond t send other) (named other.id send.id (sym is.id ∙ at)))) stands)
   where
@@ -93,7 +94,7 @@ given_match failed image space coded sends place default after send pairs match 
 pub fed_match : FedMatch
 fed_match tight number failed image space rows coded receives place default after id text stage pairs match lt at stands =
     change_match Is (λ one. one.id) (λ one. one.id) (λ one other is. is.id) id (moved_to id text stage)
-    (λ other differs. ap (λ (t : Bool). cond t (record other { text = text; stage = stage }) other) (unnamed other.id id differs))
+    (λ other differs. ap (λ (t : Bool). cond t (record other { text = text; stage = stage }) other) (ne_eqb other.id id differs))
     coded receives place default after pairs match lt at
     (λ other is. subst (λ (r : OpenReceive). Is after r) (sym (ap (λ (t : Bool). cond t (record other { text = text; stage = stage }) other) (named other.id id (sym is.id ∙ at)))) (stands other is))
   where

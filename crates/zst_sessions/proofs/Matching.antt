@@ -1,5 +1,5 @@
 -- Lists of sessions that match, where one is changed or one comes.
-use Rattle.std.proofs.Common.{◌≡◌, ◌≢◌, ◌<◌, ℕ, zero, suc, Bool, true, false, List, [], ◌∷◌, ◌++◌, length, map, set, get_or, refl, sym, ap, ◌∙◌, subst, ◌==◌, eqb-true, arith}
+use Rattle.std.proofs.Common.{◌≡◌, ◌≢◌, ◌<◌, ℕ, zero, suc, true, List, [], ◌∷◌, ◌++◌, length, map, set, get_or, refl, sym, ap, ◌∙◌, subst, ◌==◌, arith}
 use Rattle.std.specs.List.{All, AllPairs}
 use Rattle.std.proofs.lemmas.List.Elements.{All-head, All-tail}
 use Rattle.zst_dir.specs.RowNames.{Match}
@@ -39,14 +39,6 @@ module _ {A B : Type 0} (Is : A → B → Type 0) where
           let head = AllPairs-head (λ a b. name_of a ≢ name_of b) y ys pairs in
           let differs = apart xs ys place d (name_of y) n m.1 (omega (arith, lt)) at head in
           (subst (Is a) (sym (stays y differs)) m.0, change_match xs ys place d x (AllPairs-tail (λ a b. name_of a ≢ name_of b) y ys pairs) m.1 (omega (arith, lt)) at is)
-
--- a test for another number fails
-pub unnamed : (n m : ℕ) → n ≢ m → (n == m) ≡ false
-unnamed n m differs = go (n == m) refl
-  where
-    go : (t : Bool) → (n == m) ≡ t → t ≡ false
-    go true e = absurd (differs (eqb-true n m e))
-    go false e = refl
 
 -- and for itself passes
 pub named : (n m : ℕ) → n ≡ m → (n == m) ≡ true

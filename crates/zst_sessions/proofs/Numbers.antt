@@ -12,9 +12,9 @@ use Rattle.zst_model.specs.pools.Pool.{Pool, Partial, partial_of}
 use Rattle.zst_model.specs.pools.Sessions.{busy_session}
 use Rattle.zst_model.specs.pools.Step.{Stepped, commits, stepped}
 use Rattle.zst_model.specs.sends.Headers.{Sent}
+use Rattle.zst_model.proofs.Results.{ok_parts}
 use Rattle.zst_plan.specs.declared.receive.RecvAsk.{RecvAsk}
 use Rattle.zst_pool.specs.Partials.{next_commit, with_finished, with_partial}
-use Rattle.zst_recv.proofs.Results.{ok_parts}
 use Rattle.zst_recv.proofs.CommitLemmas.{commit_is}
 use Rattle.zst_recv.specs.Answers.{applied_of}
 use Rattle.zst_reader.specs.InputReads.{stream_limit}

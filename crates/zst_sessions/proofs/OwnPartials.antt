@@ -22,15 +22,16 @@ use Rattle.zst_model.specs.pools.Step.{Stepped, stepped, no_partial, or_else, co
 use Rattle.zst_model.specs.states.AppliedItems.{unless, ◌>>=◌}
 use Rattle.zst_model.specs.states.DatedState.{DatedState}
 use Rattle.zst_model.specs.sends.Points.{point_of}
+use Rattle.zst_model.proofs.FoundElements.{own_target}
+use Rattle.zst_model.proofs.NameTests.{differ}
+use Rattle.zst_model.proofs.Results.{bind_ok, ok_parts, unless_ok}
 use Rattle.zst_apply.specs.AppliedRecords.{received_all}
 use Rattle.zst_plan.specs.RecvPlan.{Base, RecvPlan, Resumes, Begins, base_for, component_for, fresh_plan, goes_on, if_contained, if_new, if_room, is_contained, is_resumed, new_datasets, outside_guid, recv_plan, redacted_for, resumed_plan, snapshot_name, wrong_resume}
 use Rattle.zst_plan.specs.declared.receive.RecvAsk.{RecvAsk}
-use Rattle.zst_pool.proofs.DestroyedRows.{found_passes}
 use Rattle.zst_pool.specs.Partials.{next_commit, partials_of_others, with_finished, with_partial, without_unkept}
 use Rattle.zst_record.specs.declared.head.Head.{Head}
 use Rattle.zst_record.specs.declared.head.Head.TheVariants as heads
 use Rattle.zst_record.specs.Heads.{Covered}
-use Rattle.zst_recv.proofs.Results.{bound, ok_parts, unless_ok}
 use Rattle.zst_recv.proofs.CommitLemmas.{commit_is}
 use Rattle.zst_reader.specs.InputReads.{stream_limit}
 use Rattle.zst_recv.specs.Feeds.{fault_of, fed_piece, new_records}
@@ -81,18 +82,10 @@ none_left test (a ∷ rest) = go (test a) refl (none_left test rest)
     go true is more = more
     go false is more = ap (λ (t : Bool). cond t (Some a) (find test (filter (λ row. not (test row)) rest))) is ∙ more
 
--- another name
-differs : (a b : List ℕ) → a ≢ b → bytes_eq a b ≡ false
-differs a b other = go (bytes_eq a b) refl
-  where
-    go : (t : Bool) → bytes_eq a b ≡ t → t ≡ false
-    go true is = absurd (other (same_bytes a b is))
-    go false is = refl
-
 module _ (other target : List ℕ) (apart : other ≢ target) where
   -- a row of the one target fails the test of the other
   fails_other : (row : Partial) → bytes_eq row.target target ≡ true → bytes_eq row.target other ≡ false
-  fails_other row own = differs row.target other (λ e. apart (sym e ∙ same_bytes row.target target own))
+  fails_other row own = differ row.target other (λ e. apart (sym e ∙ same_bytes row.target target own))
 
   others_stay : (pool : Pool) → find (λ (p : Partial). bytes_eq p.target other) (partials_of_others target pool) ≡ partial_of other pool
   others_stay pool = left_other (λ p. bytes_eq p.target other) (λ p. not (bytes_eq p.target target)) pool.partials (λ row left. fails_other row (go (bytes_eq row.target target) left))
@@ -117,12 +110,9 @@ Own ask Waits = Unit {0}
 Own ask (Lives flags partial) = partial.target ≡ ask.target
 Own ask (Ends partial) = partial.target ≡ ask.target
 
-found_own : (target : List ℕ) (pool : Pool) (partial : Partial) → partial_of target pool ≡ Some partial → partial.target ≡ target
-found_own target pool partial e = same_bytes partial.target target (found_passes (λ (p : Partial). bytes_eq p.target target) pool.partials partial e)
-
 stands_own : (ask : RecvAsk) (stage : Stage) (pool : Pool) → IsStanding ask stage pool → Own ask stage
 stands_own ask Waits pool stands = tt
-stands_own ask (Lives flags partial) pool stands = found_own ask.target pool partial stands
+stands_own ask (Lives flags partial) pool stands = own_target ask.target pool partial stands
 stands_own ask (Ends partial) pool stands = absurd stands
 
 -- a plan that goes on goes on with the target's partial state
@@ -138,7 +128,7 @@ fresh_begins : (ask : RecvAsk) (header : Header) (component : List ℕ) (pool : 
 fresh_begins ask header component pool partial e =
     let after : Base → Result RecvPlan PlanFault = λ base. if_contained base header (if_new (snapshot_name ask.target component) pool (if_room ask.target pool (Ok (Begins component base)))) in
     let a = unless_ok (is_resumed header) (plans.NoPartial ask.target) (base_for ask header pool >>= after) (Resumes partial) e in
-    let b = bound (base_for ask header pool) after (Resumes partial) a.1 in
+    let b = bind_ok (base_for ask header pool) after (Resumes partial) a.1 in
     begins_not component b.0 partial
     (last_of_five (not (is_contained (redacted_for b.0.snapshot) header)) (is_some (snapshot_named (snapshot_name ask.target component) pool)) (nat_lt most_partials (length pool.partials + 1))
     (nat_lt most_datasets (count_datasets pool + new_datasets ask.target pool)) (nat_lt most_snapshots (length pool.snapshots + (length pool.partials + 1)))
@@ -160,7 +150,7 @@ resumed_is header old partial e =
 resumes_own : (ask : RecvAsk) (header : Header) (pool : Pool) (partial : Partial) → recv_plan ask header pool ≡ Ok (Resumes partial) → partial_of ask.target pool ≡ Some partial
 unfolding recv_plan
 resumes_own ask header pool partial e =
-    let found = bound (component_for ask header) (λ component. option_map_or (resumed_plan header) (partial_of ask.target pool) (fresh_plan ask header component pool)) (Resumes partial) e in
+    let found = bind_ok (component_for ask header) (λ component. option_map_or (resumed_plan header) (partial_of ask.target pool) (fresh_plan ask header component pool)) (Resumes partial) e in
     go (partial_of ask.target pool) found.0 found.2
   where
     go : (o : Option Partial) (component : List ℕ) → option_map_or (resumed_plan header) o (fresh_plan ask header component pool) ≡ Ok (Resumes partial) → o ≡ Some partial
@@ -179,7 +169,7 @@ module _ (ask : RecvAsk) (pool : Pool) (before : Stage) where
   is_after batch after e own = subst (OwnBatch ask before) (ok_parts batch after e) own
 
   opened_own : (header : Header) (plan : RecvPlan) → recv_plan ask header pool ≡ Ok plan → OwnBatch ask before (opened ask header plan)
-  opened_own header (Resumes partial) e = record { own = found_own ask.target pool partial (resumes_own ask header pool partial e); idle = λ i. absurd cc }
+  opened_own header (Resumes partial) e = record { own = own_target ask.target pool partial (resumes_own ask header pool partial e); idle = λ i. absurd cc }
   opened_own header (Begins component base) e = record { own = refl; idle = λ i. absurd cc }
 
   plan_ok : (r : Result RecvPlan PlanFault) (plan : RecvPlan) → of_plan r ≡ Ok plan → r ≡ Ok plan
@@ -188,7 +178,7 @@ module _ (ask : RecvAsk) (pool : Pool) (before : Stage) where
 
   began_own : (batch after : Batch) → OwnBatch ask before batch → (head : Head) → began ask pool batch head ≡ Ok after → OwnBatch ask before after
   began_own batch after own (heads.Begin header len) e =
-      let found = bound (of_plan (recv_plan ask header pool)) (λ plan. Ok (opened ask header plan)) after e in
+      let found = bind_ok (of_plan (recv_plan ask header pool)) (λ plan. Ok (opened ask header plan)) after e in
       is_after (opened ask header found.0) after found.2 (opened_own header found.0 (plan_ok (recv_plan ask header pool) found.0 found.1))
   began_own batch after own (heads.Object object kind bonus_kind block_size bonus_len max_block to) e = is_after batch after e own
   began_own batch after own (heads.FreeObjects first many to) e = is_after batch after e own
@@ -202,9 +192,9 @@ module _ (ask : RecvAsk) (pool : Pool) (before : Stage) where
       → (moved_by (pool.number + 1) c flags partial >>= λ moved. Ok (with_applied flags moved batch)) ≡ Ok after → OwnBatch ask before after
   moved_own c flags partial batch after own e =
       let items = items_by flags c.payload c.head in
-      let found = bound (moved_by (pool.number + 1) c flags partial) (λ moved. Ok (with_applied flags moved batch)) after e in
+      let found = bind_ok (moved_by (pool.number + 1) c flags partial) (λ moved. Ok (with_applied flags moved batch)) after e in
       let made : DatedState → Result Partial Refusal = λ objects. Ok (record partial { objects = objects; point = point_of partial.point items }) in
-      let from = bound (received_all (pool.number + 1) c.index items partial.objects) made found.0 found.1 in
+      let from = bind_ok (received_all (pool.number + 1) c.index items partial.objects) made found.0 found.1 in
       let target : found.0.target ≡ partial.target = sym (ap (λ (p : Partial). p.target) (ok_parts (record partial { objects = from.0; point = point_of partial.point items }) found.0 from.2)) in
       is_after (with_applied flags found.0 batch) after found.2 (record { own = target ∙ own; idle = λ i. absurd cc })
 
@@ -250,7 +240,7 @@ module _ (ask : RecvAsk) (other : List ℕ) (apart : other ≢ ask.target) where
   put_others rolls (Lives flags partial) pool next own e =
       let from : other ≢ partial.target = λ is. apart (is ∙ own) in
       ap (find (λ (p : Partial). bytes_eq p.target other)) (next_partials (with_partial rolls partial pool) next e)
-      ∙ inserted_other (λ p. bytes_eq p.target other) (λ a b. is_before a.target b.target) partial (partials_of_others partial.target pool) (differs partial.target other (λ is. from (sym is)))
+      ∙ inserted_other (λ p. bytes_eq p.target other) (λ a b. is_before a.target b.target) partial (partials_of_others partial.target pool) (differ partial.target other (λ is. from (sym is)))
       ∙ others_stay other partial.target from pool
   put_others rolls (Ends partial) pool next own e =
       ap (find (λ (p : Partial). bytes_eq p.target other)) (next_partials (with_finished partial pool) next e)

@@ -10,6 +10,7 @@ use Rattle.zst_model.specs.pools.Limits.{most_partials}
 use Rattle.zst_model.specs.pools.Step.{count_datasets, last_number, most_datasets, most_snapshots}
 use Rattle.zst_model.specs.refusals.Refusal.{refusal_of}
 use Rattle.zst_model.specs.states.AppliedItems.{unless, ◌>>=◌}
+use Rattle.zst_model.proofs.Results.{bind_ok, ok_parts}
 use Rattle.zst_plan.specs.Places.{AnswerAlike}
 use Rattle.zst_plan.specs.RecvPlan.{Base, RecvPlan, Resumes, Begins, recv_plan}
 use Rattle.zst_plan.specs.declared.receive.RecvAsk.{RecvAsk}
@@ -17,7 +18,6 @@ use Rattle.zst_pool.specs.Partials.{next_commit, with_finished, with_partial}
 use Rattle.zst_record.specs.declared.head.Head.{Head}
 use Rattle.zst_record.specs.declared.head.Head.TheVariants as heads
 use Rattle.zst_record.specs.Heads.{Covered}
-use Rattle.zst_recv.proofs.Results.{bound, ok_parts}
 use Rattle.zst_recv.specs.Feeds.{fault_of, fed_piece, new_records}
 use Rattle.zst_recv.specs.ReceiveSteps.{Stage, Waits, Lives, Ends, Batch, EndedBatch, Fed, Goes, Stops, at_stage, batch_of, batch_by, began, begun, committed, fed, first_fault, is_kept, keeps_front, left_by, moved_by, of_plan, opened, put, put_at, settled, taken, taken_at, went_on, with_applied}
 use Rattle.zst_stream.specs.Reading.{reading}
@@ -33,7 +33,7 @@ module _ (ask : RecvAsk) (pool : Pool) (Is : Stage → Type 0) (lives : (flags :
 
   moved_stage : (c : Covered) (flags : ℕ) (partial : Partial) (batch after : Batch) → (moved_by (pool.number + 1) c flags partial >>= λ moved. Ok (with_applied flags moved batch)) ≡ Ok after → Is after.stage
   moved_stage c flags partial batch after e =
-      let found = bound (moved_by (pool.number + 1) c flags partial) (λ moved. Ok (with_applied flags moved batch)) after e in
+      let found = bind_ok (moved_by (pool.number + 1) c flags partial) (λ moved. Ok (with_applied flags moved batch)) after e in
       subst (λ (w : Batch). Is w.stage) (ok_parts (with_applied flags found.0 batch) after found.2) (lives flags found.0)
 
   went_stage : (c : Covered) (flags : ℕ) (partial : Partial) (batch after : Batch) → Is batch.stage → (head : Head) → went_on (pool.number + 1) c flags partial batch head ≡ Ok after → Is after.stage

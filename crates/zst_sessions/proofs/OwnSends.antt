@@ -3,13 +3,14 @@ use Rattle.std.proofs.Common.{◌≡◌, ◌⊎◌, inl, inr, ℕ, ◌+◌, Bool
 use Rattle.std.specs.Option.{option_map_or}
 use Rattle.std.proofs.lemmas.List.{take-append-drop, length-take, length-take-le, length-drop, take_min}
 use Rattle.std.proofs.Math.Seq.{take-append-add}
+use Rattle.std.proofs.lemmas.Option.{same_Some}
 use Rattle.zst_model.specs.declared.refusals.plan_fault.PlanFault.{PlanFault}
 use Rattle.zst_model.specs.declared.refusals.refusal.Refusal.{Refusal}
 use Rattle.zst_model.specs.declared.refusals.refusal.Refusal.TheVariants as refusals
 use Rattle.zst_model.specs.declared.sends.header.Point.{Point}
 use Rattle.zst_model.specs.pools.Step.{Stepped, stepped}
 use Rattle.zst_model.specs.sends.Headers.{Sent}
-use Rattle.zst_pool.proofs.DestroyedRows.{found_passes}
+use Rattle.zst_model.proofs.FoundElements.{found_kept, found_passes}
 use Rattle.zst_recv.specs.ReceiveSteps.{Stage, Waits, Lives, Ends, Fed, Goes, Stops}
 use Rattle.zst_recv.specs.Tokens.{token_told}
 use Rattle.zst_script.specs.declared.event.Event.{Event}
@@ -19,11 +20,12 @@ use Rattle.zst_script.specs.declared.event.Side.TheVariants.{Here, There}
 use Rattle.zst_send.specs.Openings.{opening, to_resume}
 use Rattle.zst_send.specs.Sends.{SameViewsSameRest, begun_text}
 use Rattle.zst_token.specs.declared.token.Token.{Token}
-use Rattle.zst_sessions.specs.World.{OpenPool, OpenSend, OpenReceive, World, at_side, other_side, is_side, put_side, send_with, receive_with, is_used, held_at, put_send, next_piece, gone_on}
+use Rattle.zst_sessions.specs.World.{OpenSend, OpenReceive, World, at_side, other_side, is_side, send_with, receive_with, is_used, held_at, put_send, next_piece, gone_on}
 use Rattle.zst_sessions.specs.Moves.{Moved, ended, fed_on, fed_to, if_new_receive, if_new_send, in_the_way, no_session, on_receive, on_send, most_receives, most_sends, moved, opened_send, pumped, refuses, resumed, stepped_to, told_by}
 use Rattle.zst_sessions.specs.Replay.{DiskFails, Fails, AsDefined, FindsNoRoom, FindsNoMemory, LosesDisk, given_up, given_up_pump}
 use Rattle.zst_sessions.specs.OwnSends.{Closes, PiecesAreAlike, PiecesAreOwn, SendsStay, asked_of}
-use Rattle.zst_sessions.proofs.FoundSessions.{found_front, found_left, found_other, found_put, some_parts}
+use Rattle.zst_sessions.proofs.FoundSessions.{found_front, found_other, found_put}
+use Rattle.zst_sessions.proofs.Worlds.{put_sends}
 
 -- ---- pieces
 
@@ -52,21 +54,17 @@ pieces_alike law one other count views starts given =
 
 -- ---- worlds with the same sends
 
-side_sends : (side : Side) (pool : OpenPool) (world : World) → (put_side side pool world).sends ≡ world.sends
-side_sends Here pool world = refl
-side_sends There pool world = refl
-
 fed_sends : (receive : OpenReceive) (piece : List ℕ) (stage : Stage) (world : World) → (fed_on receive piece stage world).sends ≡ world.sends
 fed_sends receive piece Waits world = refl
 fed_sends receive piece (Lives flags partial) world = refl
 fed_sends receive piece (Ends partial) world = refl
 
 fed_to_sends : (receive : OpenReceive) (piece : List ℕ) (applied : ℕ) (world : World) (fed : Fed) → (fed_to receive piece applied world fed).world.sends ≡ world.sends
-fed_to_sends receive piece applied world (Goes pool stage) = fed_sends receive piece stage _ ∙ side_sends receive.side _ world
-fed_to_sends receive piece applied world (Stops pool refusal) = side_sends receive.side _ world
+fed_to_sends receive piece applied world (Goes pool stage) = fed_sends receive piece stage _ ∙ put_sends receive.side _ world
+fed_to_sends receive piece applied world (Stops pool refusal) = put_sends receive.side _ world
 
 stepped_sends : (side : Side) (world : World) (r : Result Stepped Refusal) → (stepped_to side world r).world.sends ≡ world.sends
-stepped_sends side world (Ok done) = side_sends side _ world
+stepped_sends side world (Ok done) = put_sends side _ world
 stepped_sends side world (Err refusal) = refl
 
 told_sends : (world : World) (r : Result Token PlanFault) → (told_by world r).world.sends ≡ world.sends
@@ -136,7 +134,7 @@ module _ (id : ℕ) (send : OpenSend) where
       go true is asked =
           let at : other ≡ id = eqb-true other id is in
           let own : one.id ≡ id = named ∙ at in
-          let same : one ≡ send = some_parts one send (sym there ∙ ap (λ (n : ℕ). find (λ s. s.id == n) world.sends) at ∙ found) in
+          let same : one ≡ send = same_Some one send (sym there ∙ ap (λ (n : ℕ). find (λ s. s.id == n) world.sends) at ∙ found) in
           let placed : find (λ s. s.id == one.id) (put_send (gone_on count one) world).sends ≡ Some (gone_on count one) =
           found_put (gone_on count one) world.sends one (ap (λ (n : ℕ). find (λ s. s.id == n) world.sends) named ∙ there) in
           inr (inl (ap (λ (n : ℕ). find (λ s. s.id == n) (put_send (gone_on count one) world).sends) (sym own) ∙ placed ∙ ap (λ (s : OpenSend). Some (gone_on count s)) same ∙ ap (λ (n : ℕ). Some (gone_on n send)) (sym asked)))
@@ -163,7 +161,7 @@ module _ (id : ℕ) (send : OpenSend) where
     where
       go : (send.side ≡ side) ⊎ (not (is_side send.side side) ≡ true) → Stays (events.Reopen side) sends
       go (inl own) = inr (inr (sym own))
-      go (inr other) = inl (ap (find (λ one. one.id == id)) is ∙ found_left (λ one. one.id == id) (λ one. not (is_side one.side side)) world.sends send found other)
+      go (inr other) = inl (ap (find (λ one. one.id == id)) is ∙ found_kept (λ one. one.id == id) (λ one. not (is_side one.side side)) world.sends send found other)
 
   closed_stays : (world : World) (other : ℕ) → found_in world.sends → Stays (events.Close other) (filter (λ one. not (one.id == other)) world.sends)
   closed_stays world other found = go (send.id == other) refl
@@ -173,7 +171,7 @@ module _ (id : ℕ) (send : OpenSend) where
 
       go : (t : Bool) → (send.id == other) ≡ t → Stays (events.Close other) (filter (λ one. not (one.id == other)) world.sends)
       go true is = inr (inr (sym (eqb-true send.id other is) ∙ named))
-      go false is = inl (found_left (λ one. one.id == id) (λ one. not (one.id == other)) world.sends send found (ap not is))
+      go false is = inl (found_kept (λ one. one.id == id) (λ one. not (one.id == other)) world.sends send found (ap not is))
 
   -- ---- events
 
@@ -206,8 +204,8 @@ module _ (id : ℕ) (send : OpenSend) where
       either (events.Drop other count) (at_side one.side world).failed world refusals.Failed _ (inl found) (put_stays (events.Drop other count) world other count one refl there found))
   moved_stays now (events.Close other) world found = on_send_stays (events.Close other) other world _ found (λ one there. closed_stays world other found)
   moved_stays now (events.Cut receives) world found =
-      on_receive_stays (events.Cut receives) receives world _ found (λ receive. same (events.Cut receives) world _ (side_sends receive.side _ world) found)
-  moved_stays now (events.Reopen side) world found = ended_stays world side _ (side_sends side _ _ ∙ side_sends side _ _) found
+      on_receive_stays (events.Cut receives) receives world _ found (λ receive. same (events.Cut receives) world _ (put_sends receive.side _ world) found)
+  moved_stays now (events.Reopen side) world found = ended_stays world side _ (put_sends side _ _ ∙ put_sends side _ _) found
 
   -- what is left of an event that is given up
   given_up_stays : (event : Event) (world : World) → found_in world.sends → Stays event (given_up event world).sends
@@ -222,16 +220,16 @@ module _ (id : ℕ) (send : OpenSend) where
       go None is p = inl found
       go (Some one) is None = inl found
       go (Some one) is (Some receive) =
-          subst (Stays (events.Pump sends receives count)) (sym (side_sends receive.side _ (put_send (gone_on count one) world)))
+          subst (Stays (events.Pump sends receives count)) (sym (put_sends receive.side _ (put_send (gone_on count one) world)))
           (put_stays (events.Pump sends receives count) world sends count one refl is found)
   given_up_stays (events.Drop other count) world found = inl found
   given_up_stays (events.Close other) world found = inl found
   given_up_stays (events.Cut receives) world found = inl found
-  given_up_stays (events.Reopen side) world found = ended_stays world side _ (side_sends side _ _) found
+  given_up_stays (events.Reopen side) world found = ended_stays world side _ (put_sends side _ _) found
 
   -- and of one that loses a disk
   fails_stays : (event : Event) (side : Side) (left done next : World) → Fails side left done next → Stays event left.sends → Stays event next.sends
-  fails_stays event side left done next fails stays = subst (Stays event) (sym (ap (λ (w : World). w.sends) fails.world_is ∙ side_sends side _ left)) stays
+  fails_stays event side left done next fails stays = subst (Stays event) (sym (ap (λ (w : World). w.sends) fails.world_is ∙ put_sends side _ left)) stays
 
   lost_stays : (now : ℕ) (event : Event) (world next : World) → DiskFails now event world next → found_in world.sends → Stays event next.sends
   lost_stays now (events.Step side command) world next fails found = fails_stays (events.Step side command) side world _ next fails (inl found)
@@ -246,7 +244,7 @@ module _ (id : ℕ) (send : OpenSend) where
   lost_stays now (events.Close other) world next fails found = absurd fails
   lost_stays now (events.Cut receives) world next fails found = absurd fails
   lost_stays now (events.Reopen side) world next fails found =
-      fails_stays (events.Reopen side) side (ended side world) _ next fails (ended_stays world side _ (side_sends side _ _) found)
+      fails_stays (events.Reopen side) side (ended side world) _ next fails (ended_stays world side _ (put_sends side _ _) found)
 
 pub sends_stay : SendsStay
 sends_stay now world next event answer id send (AsDefined a is) found = subst (λ (w : World). Stays id send event w.sends) (sym is) (moved_stays id send now event world found)

@@ -16,6 +16,8 @@ use Rattle.zst_model.specs.pools.Pool.{Pool, partial_of}
 use Rattle.zst_model.specs.pools.Sessions.{has_claimed, lesser, session_into}
 use Rattle.zst_model.specs.pools.Step.{Stepped, stepped}
 use Rattle.zst_model.specs.sends.Headers.{Sent}
+use Rattle.zst_model.proofs.FilteredLists.{contains-filter, filter_parts}
+use Rattle.zst_model.proofs.FoundElements.{found_passes}
 use Rattle.zst_plan.specs.declared.receive.RecvAsk.{RecvAsk}
 use Rattle.zst_recv.specs.ReceiveSteps.{Stage, Waits, Lives, Ends, Fed, Goes, Stops, left_by, pool_of}
 use Rattle.zst_recv.specs.Tokens.{token_told}
@@ -30,7 +32,7 @@ use Rattle.zst_sessions.specs.Moves.{Moved, cut_off, ended, fed_to, feeding, if_
 use Rattle.zst_sessions.specs.Replay.{DiskFails, Fails, AsDefined, FindsNoRoom, FindsNoMemory, LosesDisk, given_up, given_up_pump}
 use Rattle.zst_sessions.specs.Lawfulness.{ClaimedStays, EndsLeaveOthers, FeedsLeaveOthers, FeedsStand, IsEnded, IsStanding, IsWorld, MovesKeepWorlds}
 use Rattle.zst_sessions.proofs.FoundSessions.{placed}
-use Rattle.zst_sessions.proofs.SessionLists.{AllPairs-snoc, filter_had, filter_has, found_there, id_differs, moved_ask, moved_id, moved_side, none_found, pair_of, placed_id}
+use Rattle.zst_sessions.proofs.SessionLists.{AllPairs-snoc, id_differs, moved_ask, moved_id, moved_side, none_found, pair_of, placed_id}
 
 -- ---- pools on sides
 
@@ -49,7 +51,7 @@ put_receives : (side : Side) (pool : OpenPool) (world : World) → (put_side sid
 put_receives Here pool world = refl
 put_receives There pool world = refl
 
-put_sends : (side : Side) (pool : OpenPool) (world : World) → (put_side side pool world).sends ≡ world.sends
+pub put_sends : (side : Side) (pool : OpenPool) (world : World) → (put_side side pool world).sends ≡ world.sends
 put_sends Here pool world = refl
 put_sends There pool world = refl
 
@@ -132,8 +134,8 @@ module _ (world : World) (is : IsWorld world) where
       → IsWorld (put_side receive.side pool (record world { sends = sends; receives = filter (λ r. not (r.id == receive.id)) world.receives }))
   without receive sends pool ids new =
       fewer world sends (filter keep world.receives) receive.side pool ids (AllPairs-filter ReceiveIds keep world.receives is.receives) (AllPairs-filter Targets keep world.receives is.targets)
-      (λ r there. stood r (filter_had keep world.receives r there).0)
-      (λ r there sides. let had = filter_had keep world.receives r there in new r had.0 (id_differs r.id receive.id (go (r.id == receive.id) had.1)) sides)
+      (λ r there. stood r (filter_parts keep world.receives r there).0)
+      (λ r there sides. let had = filter_parts keep world.receives r there in new r had.0 (id_differs r.id receive.id (go (r.id == receive.id) had.1)) sides)
     where
       keep : OpenReceive → Bool
       keep r = not (r.id == receive.id)
@@ -233,7 +235,7 @@ module _ (claims : ClaimedStays) (leave : FeedsLeaveOthers) (stand : FeedsStand)
     claimed : (side : Side) (r : OpenReceive) → Contains world.receives r → r.side ≡ side → Contains (held_at side world) (claim_of r)
     claimed side r there sides =
         Contains-append_right (map hold_of (sends_on side world)) (map claim_of (receives_on side world)) (claim_of r)
-        (contains-map claim_of (receives_on side world) r (filter_has (λ receive. is_side receive.side side) world.receives r there (same_side r.side side sides)))
+        (contains-map claim_of (receives_on side world) r (contains-filter (λ receive. is_side receive.side side) world.receives r there (same_side r.side side sides)))
 
     on_side : (side : Side) (r : OpenReceive) → Contains world.receives r → r.side ≡ side → IsStanding r.ask r.stage (at_side side world).pool
     on_side side r there sides = subst (λ (s : Side). IsStanding r.ask r.stage (at_side s world).pool) sides (stood world is r there)
@@ -270,8 +272,8 @@ module _ (claims : ClaimedStays) (leave : FeedsLeaveOthers) (stand : FeedsStand)
     ended_keeps side pool =
         fewer world (filter (λ send. not (is_side send.side side)) world.sends) (filter keep world.receives) side pool
         (AllPairs-filter SendIds (λ send. not (is_side send.side side)) world.sends is.sends) (AllPairs-filter ReceiveIds keep world.receives is.receives) (AllPairs-filter Targets keep world.receives is.targets)
-        (λ r there. stood world is r (filter_had keep world.receives r there).0)
-        (λ r there sides. absurd (let had = (filter_had keep world.receives r there).1 in let own = same_side r.side side sides in go (is_side r.side side) had own))
+        (λ r there. stood world is r (filter_parts keep world.receives r there).0)
+        (λ r there sides. absurd (let had = (filter_parts keep world.receives r there).1 in let own = same_side r.side side sides in go (is_side r.side side) had own))
       where
         keep : OpenReceive → Bool
         keep receive = not (is_side receive.side side)
@@ -306,7 +308,7 @@ module _ (claims : ClaimedStays) (leave : FeedsLeaveOthers) (stand : FeedsStand)
       where
         go : (o : Option OpenReceive) → receive_with id world ≡ o → IsWorld (option_map_or next o (refuses (no_session id) world)).world
         go None e = is
-        go (Some one) e = on one (found_there (λ receive. receive.id == id) world.receives one e)
+        go (Some one) e = on one (found_passes (λ receive. receive.id == id) world.receives one e).0
 
     stepped_keeps : (side : Side) (command : _) (r : Result Stepped Refusal) → stepped (held_at side world) now command (at_side side world).pool ≡ r → IsWorld (stepped_to side world r).world
     stepped_keeps side command (Ok done) e = with_pool world is side (record { pool = done.pool; failed = (at_side side world).failed }) (step_stands side command done e)
@@ -417,7 +419,7 @@ module _ (claims : ClaimedStays) (leave : FeedsLeaveOthers) (stand : FeedsStand)
       go : (o : Option OpenSend) (p : Option OpenReceive) → receive_with receives world ≡ p → IsWorld (given_up_pump count o p world)
       go None p e = is
       go (Some one) None e = is
-      go (Some one) (Some receive) e = gave_up now world is count one receive (found_there (λ r. r.id == receives) world.receives receive e)
+      go (Some one) (Some receive) e = gave_up now world is count one receive (found_passes (λ r. r.id == receives) world.receives receive e).0
   given_up_keeps now world is (events.Drop id count) = is
   given_up_keeps now world is (events.Close id) = is
   given_up_keeps now world is (events.Cut id) = is
@@ -467,7 +469,7 @@ module _ (claims : ClaimedStays) (leave : FeedsLeaveOthers) (stand : FeedsStand)
 
   module _ (now : ℕ) (world : World) (is : IsWorld world) (sends receives count : ℕ) (receive : OpenReceive) (found : receive_with receives world ≡ Some receive) where
     there : Contains world.receives receive
-    there = found_there (λ r. r.id == receives) world.receives receive found
+    there = (found_passes (λ r. r.id == receives) world.receives receive found).0
 
     event : Event
     event = events.Pump sends receives count
@@ -543,7 +545,7 @@ module _ (claims : ClaimedStays) (leave : FeedsLeaveOthers) (stand : FeedsStand)
             fails_keeps receive.side left (moved now (events.Pump sends receives count) world).world next (gave_up now world is count one receive there)
             (subst (λ (w : World). Fails receive.side w (moved now (events.Pump sends receives count) world).world next) (left_is one some) fails)
             (λ r also sides.
-            let had = filter_had keep world.receives r (subst (λ (rs : List OpenReceive). Contains rs r) (cut_receives one) also) in
+            let had = filter_parts keep world.receives r (subst (λ (rs : List OpenReceive). Contains rs r) (cut_receives one) also) in
             good_moved r had.0 (other_than r had.1) sides)
 
   lost_keeps : (now : ℕ) (world next : World) → IsWorld world → (event : Event) → DiskFails now event world next → IsWorld next

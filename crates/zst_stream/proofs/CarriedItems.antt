@@ -1,5 +1,5 @@
 -- A stream can carry the items of a lawful snapshot.
-use Rattle.std.proofs.Common.{◌≡◌, ℕ, zero, suc, pred, ◌+◌, ◌*◌, ◌%◌, ◌-◌, ◌^◌, ◌<◌, ◌≤◌, Bool, true, false, cond, List, [], ◌∷◌, ◌++◌, length, Option, Some, None, IfSome, option_map, refl, sym, ap, subst, arith, ◌==◌, nat_lt, nat_le, ◌&&◌, if◌then◌else◌, eqb-true, ne_eqb, mul-le-mul_right}
+use Rattle.std.proofs.Common.{◌≡◌, ℕ, zero, suc, pred, ◌+◌, ◌*◌, ◌%◌, ◌-◌, ◌^◌, ◌<◌, ◌≤◌, Bool, true, false, List, [], ◌∷◌, ◌++◌, length, Option, Some, None, IfSome, option_map, refl, sym, ap, subst, arith, ◌==◌, nat_lt, nat_le, ◌&&◌, if◌then◌else◌, eqb-true, ne_eqb, mul-le-mul_right}
 use Rattle.std.specs.List.{All, flat_map}
 use Rattle.std.proofs.lemmas.Bool.{and_parts, or_left, or_right, leb-true, ltb-true, lt-ltb}
 use Rattle.std.proofs.lemmas.List.Elements.{All-nil, All-cons, All-head, All-tail, All-append, All-map, All-same, All-weaker}
@@ -11,11 +11,12 @@ use Rattle.zst_model.specs.declared.states.item.Change.{Change}
 use Rattle.zst_model.specs.declared.states.item.Change.TheVariants.{Put, Spill, FreeFrom, Free, Redact, Write}
 use Rattle.zst_model.specs.declared.states.item.Item.{Item}
 use Rattle.zst_model.specs.declared.states.item.Item.TheVariants.{FreeObjects, At}
-use Rattle.zst_model.specs.states.State.{Block, Hole, Redacted, Data, Object, BlockFits, IsHead, IsBonus, IsSpill, IsAttr, IsObject, IsObjectOrNone, IsState, is_hole, past_last, end_of, end_at, is_number, number_bound, index_bound, is_block_size, largest_block}
+use Rattle.zst_model.specs.states.State.{Block, Hole, Redacted, Data, Object, BlockFits, IsHead, IsBonus, IsSpill, IsAttr, IsObject, IsObjectOrNone, IsState, end_of, end_at, is_number, number_bound, index_bound, is_block_size, largest_block}
 use Rattle.zst_model.specs.states.DatedState.{DatedState}
 use Rattle.zst_model.specs.sends.Inclusion.{Choice, includes_pair, includes_number}
 use Rattle.zst_model.specs.sends.View.{View, ObjectView, Shown, Left, Gone, There, object_view, shown_object, view_of}
 use Rattle.zst_model.specs.sends.Items.{rising, block_change, change_at, block_changes, spill_change, opening, number_items, items_at, single_items, join_changes, join, before_item, before, joined, items}
+use Rattle.zst_model.proofs.BlockEnds.{past_bounded}
 use Rattle.zst_record.specs.Decoding.{is_object, is_range}
 use Rattle.zst_record.specs.RecordValues.{Fits}
 use Rattle.zst_stream.specs.Records.{item_head, Allows, ItemsFit}
@@ -117,16 +118,6 @@ joined_all P joins (x ∷ xs) all = before_all P joins x (joined xs) (All-head P
 pub flat_map_all : {X A : Type 0} (P : A → Type 0) (f : X → List A) (xs : List X) → ((x : X) → All P (f x)) → All P (flat_map f xs)
 flat_map_all P f [] each = All-nil P
 flat_map_all P f (x ∷ xs) each = All-same P _ _ (flat_map-cons f x xs) (All-append P (f x) (flat_map f xs) (each x) (flat_map_all P f xs each))
-
--- an end is at most the bound of indices
-past_step : (t : Bool) (n rest : ℕ) → rest ≤ n → cond t rest (suc n) ≤ suc n
-past_step true n rest h = omega arith
-past_step false n rest h = omega arith
-
-past_bounded : (blocks : ℕ → Block) (n : ℕ) → past_last blocks n ≤ n
-unfolding past_last
-past_bounded blocks zero = omega arith
-past_bounded blocks (suc n) = past_step (is_hole (blocks n)) n (past_last blocks n) (past_bounded blocks n)
 
 pred_below : (n : ℕ) → pred n ≤ n
 pred_below zero = omega arith

@@ -1,10 +1,10 @@
 -- A stream of items is read as these items.
-use Rattle.std.proofs.Common.{◌≡◌, ◌≢◌, ℕ, ◌+◌, ◌-◌, ◌*◌, ◌/◌, ◌^◌, ◌==◌, Bool, true, false, not, List, [], ◌∷◌, ◌++◌, length, take, replicate, inl, inr, refl, sym, ap, ◌∙◌, arith, append_assoc}
+use Rattle.std.proofs.Common.{◌≡◌, ℕ, ◌+◌, ◌-◌, ◌*◌, ◌/◌, ◌^◌, ◌==◌, Bool, true, false, not, List, [], ◌∷◌, ◌++◌, length, take, replicate, inl, inr, refl, sym, ap, ◌∙◌, arith, append_assoc}
 use Rattle.std.specs.List.{All}
 use Rattle.std.specs.Prelude.{bit_and}
 use Rattle.std.specs.Int.Bits.{and_zero_l}
 use Rattle.std.proofs.lemmas.Nat.{and_assoc}
-use Rattle.std.proofs.lemmas.Bool.{and_parts, cond-true, cond-false, or_cases}
+use Rattle.std.proofs.lemmas.Bool.{and_parts, cond-true, cond-false, or_cases, ne_eqb}
 use Rattle.std.proofs.lemmas.Bool.Decides.{nat_tests}
 use Rattle.std.proofs.lemmas.List.{take_at}
 use Rattle.std.proofs.lemmas.List.Elements.{All-head, All-tail, All-weaker}
@@ -38,9 +38,6 @@ padded_front : (bonus : List ℕ) → take (length bonus) (padded_bonus bonus) �
 unfolding padded
 padded_front bonus = take_at bonus (replicate ((length bonus + 7) / 8 * 8 - length bonus) 0) (length bonus) refl
 
-different : (a b : ℕ) → a ≢ b → (a == b) ≡ false
-different a b n = grind (arith, nat_tests, n)
-
 same : (a : ℕ) → (a == a) ≡ true
 same a = grind (arith, nat_tests)
 
@@ -50,7 +47,7 @@ says flags to (At k (Put head bonus keep max)) s =
     ap (λ (b : List ℕ). At k (Put head b (keeps_spill flags) max) ∷ []) (padded_front bonus) ∙ ap (λ (b : Bool). At k (Put head bonus b max) ∷ []) s
 says flags to (At k (Spill bytes)) s = refl
 says flags to (At k (FreeFrom offset)) s = ap (λ (c : Change). At k c ∷ []) (cond-true (to_end == to_end) (FreeFrom offset) (Free offset to_end) (same to_end))
-says flags to (At k (Free offset count)) s = ap (λ (c : Change). At k c ∷ []) (cond-false (count == to_end) (FreeFrom offset) (Free offset count) (different count to_end s))
+says flags to (At k (Free offset count)) s = ap (λ (c : Change). At k c ∷ []) (cond-false (count == to_end) (FreeFrom offset) (Free offset count) (ne_eqb count to_end s))
 says flags to (At k (Redact offset count)) s = refl
 says flags to (At k (Write offset type bytes)) s = refl
 
@@ -163,7 +160,7 @@ view_read header snap choice point can =
     let stream = view_stream header snap choice point can in
     (ap (λ (r : Reading). r.outcome) (whole header (pieces_for header.to sent) stream.0), items_read header sent stream.0 stream.1)
 
-say_append : (flags : ℕ) (xs ys : List Covered) → items_of flags (xs ++ ys) ≡ items_of flags xs ++ items_of flags ys
+pub say_append : (flags : ℕ) (xs ys : List Covered) → items_of flags (xs ++ ys) ≡ items_of flags xs ++ items_of flags ys
 say_append flags [] ys = refl
 say_append flags (c ∷ xs) ys =
     ap (λ (l : List Item). items_by flags c.payload c.head ++ l) (say_append flags xs ys) ∙ sym (append_assoc (items_by flags c.payload c.head) (items_of flags xs) (items_of flags ys))

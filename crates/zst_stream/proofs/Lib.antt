@@ -3,6 +3,6 @@ pub mod ExampleLaws
 pub mod FindingLaws
 pub mod Growth
 pub mod ImageReadings
-mod ItemStreams
+pub mod ItemStreams
 mod PlainStreams
 pub mod PassedRecords

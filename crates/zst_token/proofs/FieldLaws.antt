@@ -4,16 +4,12 @@ use Rattle.std.proofs.lemmas.Bool.{and_parts, and_from, cases_Bool, leb-true, lt
 use Rattle.std.proofs.lemmas.List.{take-append-drop, take_at, drop_at}
 use Rattle.std.proofs.lemmas.List.Elements.{All-drop, All-get_or, All-take}
 use Rattle.std.specs.List.{All}
-use Rattle.zst_model.specs.fields.Guids.{is_rising, IsGuidSet}
+use Rattle.zst_model.specs.fields.Guids.{IsGuidSet}
 use Rattle.zst_model.specs.states.State.{number_bound}
+use Rattle.zst_model.proofs.GuidLists.{IsSet, set_from_test, test_from_set}
 use Rattle.zst_token.specs.Parser.{token_of_numbers, is_lawful, is_set, token_with_counts}
 use Rattle.zst_token.specs.Spelling.{IsToken, flags_of, numbers_of}
 use Rattle.zst_token.specs.declared.token.Token.{Token}
-
--- a set, by its test
-pub record IsSet (guids : List ℕ) : Type 0 where
-  pub few : length guids ≤ 16
-  pub rising : is_rising guids ≡ true
 
 -- fields that go with these counts
 pub record AreRight (flag_bits count_one count_two : ℕ) (token : Token) : Type 0 where
@@ -28,14 +24,6 @@ pub record AreRight (flag_bits count_one count_two : ℕ) (token : Token) : Type
 -- the test of them
 abbrev test : ℕ → ℕ → ℕ → Token → Bool
 test flags count from_count token = nat_le flags 1 && ((length token.redact == count) && ((length token.from_redact == from_count) && is_lawful token))
-
-set_from_test : (guids : List ℕ) → is_set guids ≡ true → IsSet guids
-set_from_test guids passed =
-    let parts = and_parts (nat_le (length guids) 16) (is_rising guids) passed in
-    record { few = leb-true (length guids) 16 parts.0; rising = parts.1 }
-
-test_from_set : (guids : List ℕ) → IsSet guids → is_set guids ≡ true
-test_from_set guids set = and_from (nat_le (length guids) 16) (is_rising guids) (le-leb (length guids) 16 set.few) set.rising
 
 right_from_test : (flags count from_count : ℕ) (token : Token) → test flags count from_count token ≡ true → AreRight flags count from_count token
 unfolding is_lawful

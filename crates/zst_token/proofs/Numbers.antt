@@ -1,20 +1,14 @@
 -- Numbers as words, and as sixteen digits each.
-use Rattle.std.proofs.Common.{◌≡◌, ℕ, zero, suc, ◌+◌, ◌*◌, ◌<◌, List, [], ◌∷◌, ◌++◌, length, get_or, take, drop, flat_map, refl, ap, ◌∙◌, arith, length-append}
-use Rattle.std.proofs.lemmas.List.{append-nil, drop-drop, take_more}
-use Rattle.std.proofs.lemmas.List.Concat.{flat_map-append}
+use Rattle.std.proofs.Common.{◌≡◌, ℕ, zero, suc, ◌+◌, ◌*◌, ◌<◌, List, [], ◌∷◌, ◌++◌, length, get_or, take, drop, flat_map, refl, ap, ◌∙◌, arith}
+use Rattle.std.proofs.lemmas.List.{drop-drop}
 use Rattle.std.specs.Int.{w64, to_le_bytes}
 use Rattle.hex.proofs.HexLemmas.{length-encode_with}
 use Rattle.hex.specs.Hex.{encode_lower, encode_with, lower_digits}
-use Rattle.zst_bytes.proofs.BytesLaws.{length-number_bytes}
 use Rattle.zst_bytes.specs.Bytes.{number_bytes}
 use Rattle.zst_bytes.specs.Words.{word}
+use Rattle.zst_bytes.proofs.WordLists.{length-words, words-more}
 use Rattle.zst_fletcher.specs.WeightSum.{IsWhole}
 use Rattle.zst_token.specs.Parser.{number_of, numbers_in}
-
--- numbers are eight bytes each
-pub length-words : (numbers : List ℕ) → length (flat_map word numbers) ≡ 8 * length numbers
-length-words [] = refl
-length-words (x ∷ numbers) = omega (arith, length-append (word x) (flat_map word numbers), length-number_bytes 8 x, length-words numbers)
 
 -- and so whole words of four
 pub IsWhole-words : (numbers : List ℕ) → IsWhole (flat_map word numbers)
@@ -41,12 +35,6 @@ numbers_in-more (suc count) digits =
     let places : 16 + 16 * count ≡ 16 * suc count = omega arith in
     ap (λ (l : List ℕ). number_of (take 16 digits) ∷ l) (numbers_in-more count (drop 16 digits))
     ∙ ap (λ (l : List ℕ). (number_of (take 16 digits) ∷ numbers_in count (drop 16 digits)) ++ number_of (take 16 l) ∷ []) (drop-drop (16 * count) 16 digits ∙ ap (λ (n : ℕ). drop n digits) places)
-
--- one word more
-pub words-more : (numbers : List ℕ) (i : ℕ) → i < length numbers → flat_map word (take (i + 1) numbers) ≡ flat_map word (take i numbers) ++ word (get_or numbers i 0)
-words-more numbers i inside =
-    ap (flat_map word) (take_more numbers i 0 inside) ∙ flat_map-append word (take i numbers) (get_or numbers i 0 ∷ [])
-    ∙ ap (λ (l : List ℕ). flat_map word (take i numbers) ++ l) (append-nil (word (get_or numbers i 0)))
 
 -- and its digits
 pub digits-more : (numbers : List ℕ) (i : ℕ) → i < length numbers

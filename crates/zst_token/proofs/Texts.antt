@@ -2,7 +2,7 @@
 use Rattle.std.proofs.Common.{◌≡◌, ℕ, ◌+◌, ◌<◌, ◌==◌, ◌&&◌, Bool, true, false, cond, nat_eq, nat_lt, bytes_eq, codes, List, [], ◌∷◌, ◌++◌, length, take, drop, slice_index, Option, Some, None, Result, Ok, Err, IfOk, inl, inr, refl, sym, ap, ◌∙◌, arith, append_assoc, length-append}
 use Rattle.std.proofs.Math.Seq.{get_or-append_seam}
 use Rattle.std.proofs.lemmas.Bool.{and_from, and_parts, cases_lt, cond-false, cond-true, eq-eqb, eqb-true, le-ltb, lt-ltb, ltb-false}
-use Rattle.std.proofs.lemmas.List.{append-nil, drop_all, drop_at, drop_more, get_or_past, take-append-drop, take_all, take_at}
+use Rattle.std.proofs.lemmas.List.{append-nil, drop_all, drop_at, drop_more, get_or_past, take-append-drop, take_all, take_at, nil_from_length}
 use Rattle.std.proofs.lemmas.Slice.Eq.{bytes_eq-Decides}
 use Rattle.std.specs.List.{AllPass, common_prefix_len}
 use Rattle.zst_token.specs.Parser.{token_behind_dash, digits_in_front, is_digit, verdict_on, token_of_digits, token_behind_front, stops, token_of}
@@ -30,10 +30,6 @@ went_on : (b : Bool) (r : Result Token TokenFault) (place : ℕ) (token : Token)
 went_on true r place token is = cc is
 went_on false r place token is = (refl, is)
 
-no_length : (xs : List ℕ) → length xs ≡ 0 → xs ≡ []
-no_length [] none = refl
-no_length (x ∷ xs) none = absurd (omega arith)
-
 -- the verdict is a token only where it has this payload and this check, and nothing stands behind
 verdict_found : (payload check behind : List ℕ) (o : Option Token) (token : Token) → verdict_on payload check behind o ≡ Ok token → (o ≡ Some token) × (check ≡ check_text token) × (behind ≡ [])
 verdict_found payload check behind None token is = cc is
@@ -41,7 +37,7 @@ verdict_found payload check behind (Some read) token is =
     let checked = passed (bytes_eq check (check_text read)) _ (length payload + 6) token is in
     let ended = passed (length behind == 0) (Ok read) (length payload + 22) token checked.1 in
     let same : read ≡ token = cc ended.1 in
-    (ap Some same, (bytes_eq-Decides check (check_text read)).0 checked.0 ∙ ap check_text same, no_length behind (eqb-true (length behind) 0 ended.0))
+    (ap Some same, (bytes_eq-Decides check (check_text read)).0 checked.0 ∙ ap check_text same, nil_from_length behind (eqb-true (length behind) 0 ended.0))
 
 check_found : (payload rest : List ℕ) (token : Token) → token_behind_dash payload rest ≡ Ok token → (token_of_digits payload ≡ Some token) × (rest ≡ check_text token)
 unfolding token_behind_dash

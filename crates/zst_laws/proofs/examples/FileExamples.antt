@@ -10,12 +10,13 @@ use Rattle.zst_model.specs.states.DatedState.{DatedState}
 use Rattle.zst_model.specs.sends.Inclusion.{Pairs, Choice, no_pairs, is_late_pair, includes_pair, includes_number}
 use Rattle.zst_model.specs.sends.View.{View, ObjectView, Left, Gone, There, object_view, shown_object, view_of}
 use Rattle.zst_model.specs.sends.Items.{before, joined, opening}
+use Rattle.zst_model.proofs.IndexTests.{any_passes}
+use Rattle.zst_model.proofs.ObjectNumbers.{number_from}
 use Rattle.zst_laws.specs.ExactSends.{full}
 use Rattle.zst_laws.specs.Walk.{walk_left}
 use Rattle.zst_laws.specs.FileExample.{file_of, file_put, one_file, padded, rest_gone, since, first_block, second_block, distant_blocks, small, rewritten, shortened, reallocated, distant, SmallItems, SmallPoints, RewrittenItems, ShortenedItems, ReallocatedItems, DistantItems}
-use Rattle.zst_laws.proofs.sends.Ends.{any_passes}
 use Rattle.zst_laws.proofs.sends.ExactSends.{full_number, outside_left, pair_number, below_bound}
-use Rattle.zst_laws.proofs.sends.Walk.{number_is, block_run_next}
+use Rattle.zst_laws.proofs.sends.Walk.{block_run_next}
 use Rattle.zst_laws.proofs.examples.OneObject.{one_is, end_is, none_passes, from_start, from_inside, ends_gone, ends_left}
 
 index_far : 1073741825 < index_bound
@@ -51,7 +52,7 @@ module _ (header : Header) (blocks : ℕ → Block) (number_date : ℕ → ℕ) 
 
     pub full_gone : (k : ℕ) → 2 ≤ k → k < number_bound → (view (full redact)).shown k ≡ Gone
     full_gone k low high =
-        ap (λ t. if t then shown_object snap (full redact) k (snap.state k) else Left) (full_number snap redact k true (number_is k (omega arith) high))
+        ap (λ t. if t then shown_object snap (full redact) k (snap.state k) else Left) (full_number snap redact k true (number_from k (omega arith) high))
         ∙ ap (shown_object snap (full redact) k) (absent k low)
 
     pub full_block : (i : ℕ) → i < past_last blocks index_bound → (object (full redact)).blocks i ≡ Some (if redact 1 i then Redacted else blocks i)

@@ -66,7 +66,7 @@ user_data_types attr = (
 )
 
 -- dates
-kept_date : (t : Bool) (number date : ℕ) → (if t && false then number else date) ≡ date
+pub kept_date : (t : Bool) (number date : ℕ) → (if t && false then number else date) ≡ date
 kept_date true number date = refl
 kept_date false number date = refl
 

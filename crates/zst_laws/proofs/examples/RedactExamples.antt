@@ -1,5 +1,5 @@
 -- Which pairs two clones list, and how their list is sent.
-use Rattle.std.proofs.Common.{inl, inr, ◌⊎◌, ◌≡◌, ℕ, zero, suc, ◌+◌, ◌<◌, ◌≤◌, false, List, [], ◌∷◌, Some, refl, sym, ap, ◌∙◌, arith, subst, ◌==◌, if◌then◌else◌, ne_eqb}
+use Rattle.std.proofs.Common.{inl, inr, ◌⊎◌, ◌≡◌, ℕ, zero, suc, ◌<◌, ◌≤◌, false, List, [], ◌∷◌, Some, refl, sym, ap, ◌∙◌, arith, subst, ◌==◌, if◌then◌else◌, ne_eqb}
 use Rattle.std.proofs.Math.Path.{fun_ext}
 use Rattle.std.proofs.lemmas.Bool.{cases_eq, cond-false, and_left}
 use Rattle.zst_model.specs.declared.sends.header.Header.{Header}
@@ -17,6 +17,7 @@ use Rattle.zst_laws.specs.RedactExample.{of_three, three, middle, listed, TwoClo
 use Rattle.zst_laws.proofs.examples.FileExamples.{none_outside, opening_is, full_own, full_gone, full_block}
 use Rattle.zst_laws.proofs.examples.OneObject.{one_is, end_is, from_start, ends_gone}
 use Rattle.zst_laws.proofs.sends.Walk.{block_run_next}
+use Rattle.zst_laws.proofs.examples.SentObjects.{only}
 
 -- nothing is listed of what is no data
 unlisted : (k i : ℕ) → is_user_block (three.state k) i ≡ false → listed k i ≡ false
@@ -57,9 +58,6 @@ index_far = omega arith
 
 three_end : past_last three_blocks index_bound ≡ 3
 three_end = end_is three_blocks 2 index_bound index_far refl (λ i l. other_three _ _ _ Hole i (omega arith))
-
-only : (i j : ℕ) → i ≤ j → j < i + 1 → i ≡ j
-only i j a l = omega arith
 
 module _ (header : Header) where
   abbrev v : View

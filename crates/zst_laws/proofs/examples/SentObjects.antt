@@ -10,6 +10,7 @@ use Rattle.zst_model.specs.states.DatedState.{DatedState}
 use Rattle.zst_model.specs.sends.Inclusion.{Choice, no_pairs, is_after, includes_pair, includes_number}
 use Rattle.zst_model.specs.sends.View.{View, ObjectView, Left, Gone, There, object_view, shown_object, view_of}
 use Rattle.zst_model.specs.sends.Items.{before, change_at, joined, number_items, opening}
+use Rattle.zst_model.proofs.ObjectNumbers.{number_from}
 use Rattle.zst_laws.specs.ExactSends.{full}
 use Rattle.zst_laws.specs.Walk.{run_change, number_rest, left_at, walk_left}
 use Rattle.zst_laws.specs.FileExample.{file_of, first_block, padded, since, rest_gone}
@@ -19,7 +20,7 @@ use Rattle.zst_laws.proofs.sends.ExactSends.{full_number, outside_left, pair_num
 use Rattle.zst_laws.proofs.examples.LineExamples.{whole_end}
 use Rattle.zst_laws.proofs.examples.Meanings.{dated_number_is_included, equal_dates_are_left}
 use Rattle.zst_laws.proofs.examples.OneObject.{one_is, end_is, from_start, ends_gone, done_below}
-use Rattle.zst_laws.proofs.sends.Walk.{all_none, number_is, left_below, left_own, left_above, walk_stops, object_next, gone_next, block_run_next}
+use Rattle.zst_laws.proofs.sends.Walk.{all_none, left_below, left_own, left_above, walk_stops, object_next, gone_next, block_run_next}
 
 index_far : 2 < index_bound
 unfolding index_bound
@@ -35,7 +36,7 @@ first_end = end_is first_block 0 index_bound (omega (arith, index_far)) refl (λ
 third_end : past_last third_block index_bound ≡ 3
 third_end = end_is third_block 2 index_bound index_far refl (λ i l. cond-false (i == 2) _ _ (ne_eqb i 2 (λ e. omega (arith, e))))
 
-only : (i j : ℕ) → i ≤ j → j < i + 1 → i ≡ j
+pub only : (i j : ℕ) → i ≤ j → j < i + 1 → i ≡ j
 only i j a l = omega arith
 
 -- a stream without lists
@@ -80,7 +81,7 @@ one_block : (view : View) (k offset : ℕ) (object : ObjectView) (i : ℕ) (bloc
     → joined (walk_left view (record { object = k; offset = offset }) false)
     ≡ joined (At k (run_change object.attr i 1 block) ∷ walk_left view (record { object = k; offset = (i + 1) * object.attr.block_size }) false)
 one_block view k offset object i block low high own size l place none is =
-    block_run_next view (record { object = k; offset = offset }) object i 1 block (number_is k low high) own size (omega arith) (omega arith) place none
+    block_run_next view (record { object = k; offset = offset }) object i 1 block (number_from k low high) own size (omega arith) (omega arith) place none
     (λ j a m. subst (λ n. object.blocks n ≡ Some block) (only i j a m) is) (λ b e. refl)
 
 module _ (header : Header) where
@@ -95,7 +96,7 @@ module _ (header : Header) where
 
   rest_is_gone : (k : ℕ) → 2 ≤ k → k < number_bound → all.shown k ≡ Gone
   rest_is_gone k low high =
-      shown_is header whole None k (full_number whole no_pairs k true (number_is k (omega arith) high))
+      shown_is header whole None k (full_number whole no_pairs k true (number_from k (omega arith) high))
       ∙ ap (shown_object whole (full no_pairs) k) (cond-false (k == 1) _ _ (ne_eqb k 1 (λ e. omega (arith, e))))
 
   abbrev all_left : ℕ → List Item
@@ -135,10 +136,10 @@ module _ (header : Header) where
       (included header later (Some 5) 1 (file_of third_block) refl 0 (omega (arith, third_end)) refl))
 
   freed_shown : since_five.shown 2 ≡ Gone
-  freed_shown = shown_is header later (Some 5) 2 (dated_number_is_included later (since 5) 5 2 refl (number_is 2 (omega arith) (omega (arith, number_far))) (omega arith))
+  freed_shown = shown_is header later (Some 5) 2 (dated_number_is_included later (since 5) 5 2 refl (number_from 2 (omega arith) (omega (arith, number_far))) (omega arith))
 
   third_shown : since_five.shown 3 ≡ There third_file
-  third_shown = shown_is header later (Some 5) 3 (dated_number_is_included later (since 5) 5 3 refl (number_is 3 (omega arith) (omega (arith, number_far))) (omega arith))
+  third_shown = shown_is header later (Some 5) 3 (dated_number_is_included later (since 5) 5 3 refl (number_from 3 (omega arith) (omega (arith, number_far))) (omega arith))
 
   -- nothing is dated of the numbers from 4 on
   undated : {A : Type 0} (a b c none : A) (k : ℕ) → 4 ≤ k → (if k == 1 then a else (if k == 2 then b else (if k == 3 then c else none))) ≡ none
@@ -170,11 +171,11 @@ module _ (header : Header) where
       unsent (block_there header later (Some 5) 1 (file_of third_block) refl 2 (omega (arith, third_end)) refl)
 
   freed : left_from 1 1536 ≡ FreeObjects 2 1 ∷ walk_left since_five (record { object = 3; offset = 0 }) true
-  freed = gone_next since_five (record { object = 1; offset = 1536 }) false 2 (number_is 2 (omega arith) (omega (arith, number_far)))
+  freed = gone_next since_five (record { object = 1; offset = 1536 }) false 2 (number_from 2 (omega arith) (omega (arith, number_far)))
       (done_below since_five first_file (outside header later (Some 5)) first_shown 1536 (λ j l h. absurd (omega (arith, third_end)))) (omega arith) (λ e. omega arith) freed_shown
 
   made : walk_left since_five (record { object = 3; offset = 0 }) true ≡ map (At 3) (opening third_file) ++ left_from 3 0
-  made = object_next since_five (record { object = 3; offset = 0 }) true 3 third_file (number_is 3 (omega arith) (omega (arith, number_far)))
+  made = object_next since_five (record { object = 3; offset = 0 }) true 3 third_file (number_from 3 (omega arith) (omega (arith, number_far)))
       (left_below since_five (record { object = 3; offset = 0 }) true) (omega arith) (λ e. absurd (cc)) third_shown
 
   filled : joined (left_from 3 0) ≡ joined (At 3 (Write 0 19 (padded 170)) ∷ left_from 3 512)

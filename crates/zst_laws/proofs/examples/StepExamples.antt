@@ -25,6 +25,7 @@ use Rattle.zst_laws.specs.StepExample.{new_pool, with_tank, gives, allocated, sm
 use Rattle.zst_laws.proofs.sends.Blocks.{same_place, within_block}
 use Rattle.zst_laws.proofs.examples.OneObject.{end_is}
 use Rattle.zst_laws.proofs.sends.AppliedItemLemmas.{unless_from, aligned_from}
+use Rattle.zst_laws.proofs.examples.Meanings.{kept_date}
 
 -- dated states with equal parts are equal
 same_dated : (a b : DatedState) → a.state ≡ b.state → a.number_date ≡ b.number_date → a.index_date ≡ b.index_date → a ≡ b
@@ -50,11 +51,6 @@ touched true true false number date = refl
 touched true false true number date = refl
 touched true false false number date = refl
 touched false below this number date = refl
-
--- a change that dates no number
-undated : (one : Bool) (number date : ℕ) → (if one && false then number else date) ≡ date
-undated true number date = refl
-undated false number date = refl
 
 made : (held : List Held) (now : ℕ) → stepped held now (commands.Fs (codes "tank/a")) (new_pool 1) ≡ gives (codes "ok 2") (with_tank 2 untouched)
 unfolding stepped inserted last_number most_datasets digits
@@ -109,7 +105,7 @@ module _ (number : ℕ) (change : Change) (blocks others : ℕ → Block) (this 
     change_applied =
         ap (λ r. ((r >>= λ object. Ok (put_at (one_file blocks) 1 object)) >>= λ state. Ok (dated_change state)) >>= apply_all_dated number []) gives_others
         ∙ ap (λ d. Ok d) (same_dated (dated_change (put_at (one_file blocks) 1 (Some (file_of others)))) after_change (fun_ext (file_again others blocks))
-        (fun_ext (λ k. ap (λ t. if k == 1 && t then number else number_date k) no_number ∙ undated (k == 1) number (number_date k)))
+        (fun_ext (λ k. ap (λ t. if k == 1 && t then number else number_date k) no_number ∙ kept_date (k == 1) number (number_date k)))
         (fun_ext (λ k. fun_ext (λ i.
         ap (λ t. if (k == 1 && t) && nat_lt i index_bound then number else file_dates dates k i) (touches i)
         ∙ touched (k == 1) (nat_lt i index_bound) (this i) number (dates i)))))

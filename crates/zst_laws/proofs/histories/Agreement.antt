@@ -6,9 +6,9 @@ use Rattle.zst_model.specs.states.DatedState.{DatedState, touches_number, touche
 use Rattle.zst_model.specs.pools.Pool.{Snapshot}
 use Rattle.zst_model.specs.pools.Soundness.{Agrees, DatedUpTo}
 use Rattle.zst_model.specs.sends.Target.{Remembers}
+use Rattle.zst_model.proofs.Results.{ok_parts, bind_ok}
 use Rattle.zst_laws.specs.Dates.{AreLawfulItems}
 use Rattle.zst_laws.proofs.histories.Dates.{changes_dated, dates_exact, kept_date, remembered_on, dated_parts, applied_state}
-use Rattle.zst_laws.proofs.sends.AppliedItemLemmas.{bind_ok, ok_inj}
 
 -- a snapshot that agrees with a state agrees with it after an item of a later commit
 pub agrees_on : (earlier : Snapshot) (next : ℕ) (item : Item) (snap after : DatedState) → earlier.number < next → IsState snap.state
@@ -30,15 +30,8 @@ agrees_on earlier next item snap after less s applied h =
           h.index_dates k i n b kept.1 ∙ sym kept.2;
     }
 
--- dates up to a number are up to each greater one
-pub dated_higher : (number more : ℕ) → number ≤ more → (state : DatedState) → DatedUpTo number state → DatedUpTo more state
-dated_higher number more l state h = record {
-  numbers = λ k. let d = h.numbers k in omega arith;
-  indices = λ k i. let d = h.indices k i in omega arith;
-}
-
 -- an item gives no date past its commit's number
-dated_on : (next : ℕ) (item : Item) (snap after : DatedState) → apply_dated next item snap ≡ Ok after → DatedUpTo next snap → DatedUpTo next after
+pub dated_on : (next : ℕ) (item : Item) (snap after : DatedState) → apply_dated next item snap ≡ Ok after → DatedUpTo next snap → DatedUpTo next after
 dated_on next item snap after applied h =
     let dates = dates_exact next item snap after applied in record {
       numbers = λ k. most (touches_number item k) (snap.number_date k) (after.number_date k) (h.numbers k) (dates.0 k);
@@ -68,7 +61,7 @@ keeps_one next item head after s applied =
 -- lawful items keep them
 pub keeps_all : (next : ℕ) (items : List Item) (head after : DatedState) → IsState head.state → AreLawfulItems items head.state → apply_all_dated next items head ≡ Ok after
     → Keeps next head after
-keeps_all next [] head after s lawful applied = subst (Keeps next head) (ok_inj _ _ applied) (record { remembers = λ number state less h. h; agrees = λ earlier less h. h; dated = λ h. h })
+keeps_all next [] head after s lawful applied = subst (Keeps next head) (ok_parts _ _ applied) (record { remembers = λ number state less h. h; agrees = λ earlier less h. h; dated = λ h. h })
 keeps_all next (item ∷ rest) head after s lawful applied =
     let found = bind_ok (apply_dated next item head) (apply_all_dated next rest) after applied in
     let state = (dated_parts next item head found.0 found.1).0 in

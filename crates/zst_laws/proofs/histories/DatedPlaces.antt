@@ -10,8 +10,8 @@ use Rattle.zst_model.specs.declared.states.item.Item.TheVariants.{FreeObjects, A
 use Rattle.zst_model.specs.states.State.{State, Object, is_number, number_bound, index_bound}
 use Rattle.zst_model.specs.states.AppliedItems.{apply, apply_change, within}
 use Rattle.zst_model.specs.states.DatedState.{dates_index, touches_number, touches_index}
+use Rattle.zst_model.proofs.Results.{bind_ok}
 use Rattle.zst_laws.specs.Dates.{IsInRange, DatesNumber, DatesPlace, DatesIndex, DateIs, DatesAreExact}
-use Rattle.zst_laws.proofs.sends.AppliedItemLemmas.{bind_ok}
 use Rattle.zst_laws.proofs.histories.Dates.{dates_exact, dated_parts}
 
 Decides-leb : (a b : ℕ) → Decides (nat_le a b) (a ≤ b)

@@ -14,18 +14,10 @@ use Rattle.zst_model.specs.states.State.{State, Block, BlockFits, IsHead, IsBonu
 use Rattle.zst_model.specs.states.AppliedItems.{apply, apply_change, attr_with, is_unaligned, within, put_at}
 use Rattle.zst_model.specs.states.DatedState.{DatedState, dates_number, dates_index, touches_number, touches_index, apply_dated, apply_all_dated}
 use Rattle.zst_model.specs.sends.Target.{Remembers}
+use Rattle.zst_model.proofs.Booleans.{right_fails, left_fails}
+use Rattle.zst_model.proofs.ObjectNumbers.{absent_outside}
+use Rattle.zst_model.proofs.Results.{ok_parts, bind_ok, unless_ok}
 use Rattle.zst_laws.specs.Dates.{ChangesAreDated, RemembersItself, RemembersOn, IsLawfulChange, IsLawfulItem, AppliedIsState, RemembersThrough}
-use Rattle.zst_laws.proofs.sends.AppliedItemLemmas.{bind_ok, unless_ok, ok_inj}
-use Rattle.zst_laws.proofs.sends.ExactSends.{absent_outside}
-
--- of two tests that don't both hold, the one fails where the other holds
-right_fails : (a b : Bool) → (a && b) ≡ false → a ≡ true → b ≡ false
-right_fails true b h e = h
-right_fails false b h e = absurd (true≢false (sym e))
-
-left_fails : (a b : Bool) → (a && b) ≡ false → b ≡ true → a ≡ false
-left_fails true b h e = absurd (true≢false (sym e ∙ h))
-left_fails false b h e = refl
 
 -- what REDACT and WRITE give of an object, and that they meet no block past the one of an odd size
 redact_gives : (offset length : ℕ) (object : Object) (p : Option Object) → apply_change (Redact offset length) (Some object) ≡ Ok p
@@ -37,7 +29,7 @@ redact_gives offset length object p h =
     let user = unless_ok (not (is_user_data object.attr)) NotUserData _ p h in
     let aligned = unless_ok (is_unaligned size offset || is_unaligned size length) Unaligned _ p user.1 in
     let whole = unless_ok (is_odd_size size && (nat_lt 0 length && nat_lt size (offset + length))) OddBlock _ p aligned.1 in
-    (whole.0, ok_inj _ _ whole.1)
+    (whole.0, ok_parts _ _ whole.1)
 
 pub write_gives : (offset : ℕ) (type : ℕ) (bytes : List ℕ) (object : Object) (p : Option Object) → apply_change (Write offset type bytes) (Some object) ≡ Ok p
     → ((not (length bytes == object.attr.block_size)) ≡ false)
@@ -49,40 +41,40 @@ write_gives offset type bytes object p h =
     let sized = unless_ok (not (length bytes == size)) SizeDiffers _ p h in
     let aligned = unless_ok (is_unaligned size offset) Unaligned _ p sized.1 in
     let whole = unless_ok (is_odd_size size && nat_lt 0 offset) OddBlock _ p aligned.1 in
-    (sized.0, whole.0, ok_inj _ _ whole.1)
+    (sized.0, whole.0, ok_parts _ _ whole.1)
 
 -- a change that doesn't date the number keeps the attributes
-attr_kept : (change : Change) (o p : Option Object) → dates_number change ≡ false → apply_change change o ≡ Ok p → attr_at p ≡ attr_at o
+pub attr_kept : (change : Change) (o p : Option Object) → dates_number change ≡ false → apply_change change o ≡ Ok p → attr_at p ≡ attr_at o
 unfolding apply_change
 attr_kept (Put head bonus keep_spill max_block) o p d h = absurd (true≢false d)
 attr_kept (Spill bytes) o p d h = absurd (true≢false d)
 attr_kept (FreeFrom offset) None p d h = absurd (cc)
-attr_kept (FreeFrom offset) (Some object) p d h = sym (ap attr_at (ok_inj _ _ (unless_ok _ _ _ p h).1))
+attr_kept (FreeFrom offset) (Some object) p d h = sym (ap attr_at (ok_parts _ _ (unless_ok _ _ _ p h).1))
 attr_kept (Free offset length) None p d h = absurd (cc)
-attr_kept (Free offset length) (Some object) p d h = sym (ap attr_at (ok_inj _ _ (unless_ok _ _ _ p h).1))
+attr_kept (Free offset length) (Some object) p d h = sym (ap attr_at (ok_parts _ _ (unless_ok _ _ _ p h).1))
 attr_kept (Redact offset length) None p d h = absurd (cc)
 attr_kept (Redact offset length) (Some object) p d h = sym (ap attr_at (redact_gives offset length object p h).1)
 attr_kept (Write offset type bytes) None p d h = absurd (cc)
 attr_kept (Write offset type bytes) (Some object) p d h = sym (ap attr_at (write_gives offset type bytes object p h).2)
 
 -- a change that doesn't date an index keeps its content
-content_kept : (change : Change) (o p : Option Object) (i : ℕ) → dates_index change o i ≡ false → apply_change change o ≡ Ok p → content_at p i ≡ content_at o i
+pub content_kept : (change : Change) (o p : Option Object) (i : ℕ) → dates_index change o i ≡ false → apply_change change o ≡ Ok p → content_at p i ≡ content_at o i
 unfolding apply_change
 content_kept (Put head bonus keep_spill max_block) None p i d h = absurd (true≢false d)
 content_kept (Put head bonus keep_spill max_block) (Some object) p i d h =
     let same : (object.attr.block_size == head.block_size) ≡ true = not-false _ d in
-    sym (ap (λ o. content_at o i) (ok_inj _ _ h))
+    sym (ap (λ o. content_at o i) (ok_parts _ _ h))
     ∙ ap (λ t. block_content head.block_size ((if t then object.blocks else λ j. Hole) i)) same
     ∙ ap (λ size. block_content size (object.blocks i)) (sym (eqb-true object.attr.block_size head.block_size same))
 content_kept (Spill bytes) None p i d h = absurd (cc)
-content_kept (Spill bytes) (Some object) p i d h = sym (ap (λ o. content_at o i) (ok_inj _ _ h))
+content_kept (Spill bytes) (Some object) p i d h = sym (ap (λ o. content_at o i) (ok_parts _ _ h))
 content_kept (FreeFrom offset) None p i d h = absurd (cc)
 content_kept (FreeFrom offset) (Some object) p i d h =
-    sym (ap (λ o. content_at o i) (ok_inj _ _ (unless_ok _ _ _ p h).1))
+    sym (ap (λ o. content_at o i) (ok_parts _ _ (unless_ok _ _ _ p h).1))
     ∙ ap (block_content object.attr.block_size) (cond-false (nat_le offset (i * object.attr.block_size)) Hole (object.blocks i) d)
 content_kept (Free offset length) None p i d h = absurd (cc)
 content_kept (Free offset length) (Some object) p i d h =
-    sym (ap (λ o. content_at o i) (ok_inj _ _ (unless_ok _ _ _ p h).1))
+    sym (ap (λ o. content_at o i) (ok_parts _ _ (unless_ok _ _ _ p h).1))
     ∙ ap (block_content object.attr.block_size) (cond-false (within offset length (i * object.attr.block_size)) Hole (object.blocks i) d)
 content_kept (Redact offset length) None p i d h = absurd (cc)
 content_kept (Redact offset length) (Some object) p i d h =
@@ -94,7 +86,7 @@ content_kept (Write offset type bytes) (Some object) p i d h =
     ∙ ap (block_content object.attr.block_size) (cond-false (i * object.attr.block_size == offset) (Data bytes) (object.blocks i) d)
 
 -- what is seen of each number stays where it stays at the number that is put
-put_kept : {A : Type 0} (seen : Option Object → A) (state : State) (j k : ℕ) (x : Option Object)
+pub put_kept : {A : Type 0} (seen : Option Object → A) (state : State) (j k : ℕ) (x : Option Object)
     → ((k == j) ≡ true → seen x ≡ seen (state j)) → seen (put_at state j x k) ≡ seen (state k)
 put_kept seen state j k x h = go (k == j) refl
   where
@@ -111,22 +103,22 @@ freed_kept seen state s k false n = refl
 item_attr : (item : Item) (state after : State) → IsState state → apply item state ≡ Ok after → (k : ℕ) → touches_number item k ≡ false → attr_at (after k) ≡ attr_at (state k)
 unfolding apply
 item_attr (FreeObjects first count) state after s h k t =
-    ap (λ f. attr_at (f k)) (sym (ok_inj _ _ h)) ∙ freed_kept attr_at state s k (within first count k) t
+    ap (λ f. attr_at (f k)) (sym (ok_parts _ _ h)) ∙ freed_kept attr_at state s k (within first count k) t
 item_attr (At j change) state after s h k t =
     let found = bind_ok (apply_change change (state j)) (λ o. Ok (put_at state j o)) after h in
-    ap (λ f. attr_at (f k)) (sym (ok_inj _ _ found.2))
+    ap (λ f. attr_at (f k)) (sym (ok_parts _ _ found.2))
     ∙ put_kept attr_at state j k found.0 (λ e. attr_kept change (state j) found.0 (right_fails (k == j) (dates_number change) t e) found.1)
 
 item_content : (item : Item) (state after : State) → IsState state → apply item state ≡ Ok after → (k i : ℕ) → i < index_bound
     → touches_index item state k i ≡ false → content_at (after k) i ≡ content_at (state k) i
 unfolding apply
 item_content (FreeObjects first count) state after s h k i l t =
-    ap (λ f. content_at (f k) i) (sym (ok_inj _ _ h))
+    ap (λ f. content_at (f k) i) (sym (ok_parts _ _ h))
     ∙ freed_kept (λ o. content_at o i) state s k (within first count k) (left_fails (within first count k && is_number k) (nat_lt i index_bound) t (lt-ltb _ _ l))
 item_content (At j change) state after s h k i l t =
     let found = bind_ok (apply_change change (state j)) (λ o. Ok (put_at state j o)) after h in
     let apart : (k == j && dates_index change (state j) i) ≡ false = left_fails _ (nat_lt i index_bound) t (lt-ltb _ _ l) in
-    ap (λ f. content_at (f k) i) (sym (ok_inj _ _ found.2))
+    ap (λ f. content_at (f k) i) (sym (ok_parts _ _ found.2))
     ∙ put_kept (λ o. content_at o i) state j k found.0 (λ e. content_kept change (state j) found.0 i (right_fails (k == j) (dates_index change (state j) i) apart e) found.1)
 
 -- the state after an item, with its dates
@@ -142,7 +134,7 @@ pub dated_parts : (number : ℕ) (item : Item) (snap after : DatedState) → app
     → (apply item snap.state ≡ Ok after.state) × (with_dates number item snap after.state ≡ after)
 dated_parts number item snap after h =
     let found = bind_ok (apply item snap.state) (λ state. Ok (with_dates number item snap state)) after h in
-    let whole : with_dates number item snap found.0 ≡ after = ok_inj _ _ found.2 in
+    let whole : with_dates number item snap found.0 ≡ after = ok_parts _ _ found.2 in
     let state : found.0 ≡ after.state = ap (λ d. d.state) whole in
     (found.1 ∙ ap (λ s. Ok s) state, ap (with_dates number item snap) (sym state) ∙ whole)
 
@@ -237,20 +229,20 @@ odd_range size offset length place l w = grind (arith, nat_tests)
 
 change_lawful : (change : Change) (o p : Option Object) → IsObjectOrNone o → IsLawfulChange change o → apply_change change o ≡ Ok p → IsObjectOrNone p
 unfolding apply_change
-change_lawful (Put head bonus keep_spill max_block) None p s l h = subst IsObjectOrNone (ok_inj _ _ h) (new_lawful (attr_with head bonus None) (put_attr_lawful head bonus false None l tt))
+change_lawful (Put head bonus keep_spill max_block) None p s l h = subst IsObjectOrNone (ok_parts _ _ h) (new_lawful (attr_with head bonus None) (put_attr_lawful head bonus false None l tt))
 change_lawful (Put head bonus keep_spill max_block) (Some object) p s l h =
-    subst IsObjectOrNone (ok_inj _ _ h)
+    subst IsObjectOrNone (ok_parts _ _ h)
     (put_lawful (attr_with head bonus (if keep_spill then object.attr.spill else None)) object (object.attr.block_size == head.block_size) refl
     (put_attr_lawful head bonus keep_spill object.attr.spill l s.attr.spill) s)
 change_lawful (Spill bytes) None p s l h = absurd (cc)
-change_lawful (Spill bytes) (Some object) p s l h = subst IsObjectOrNone (ok_inj _ _ h) (spill_lawful object bytes l s)
+change_lawful (Spill bytes) (Some object) p s l h = subst IsObjectOrNone (ok_parts _ _ h) (spill_lawful object bytes l s)
 change_lawful (FreeFrom offset) None p s l h = absurd (cc)
 change_lawful (FreeFrom offset) (Some object) p s l h =
-    subst IsObjectOrNone (ok_inj _ _ (unless_ok _ _ _ p h).1)
+    subst IsObjectOrNone (ok_parts _ _ (unless_ok _ _ _ p h).1)
     (set_lawful object (λ i. nat_le offset (i * object.attr.block_size)) Hole s tt (λ i m t w. refl) (λ i m w. refl))
 change_lawful (Free offset length) None p s l h = absurd (cc)
 change_lawful (Free offset length) (Some object) p s l h =
-    subst IsObjectOrNone (ok_inj _ _ (unless_ok _ _ _ p h).1)
+    subst IsObjectOrNone (ok_parts _ _ (unless_ok _ _ _ p h).1)
     (set_lawful object (λ i. within offset length (i * object.attr.block_size)) Hole s tt (λ i m t w. refl) (λ i m w. refl))
 change_lawful (Redact offset length) None p s l h = absurd (cc)
 change_lawful (Redact offset length) (Some object) p s l h =
@@ -310,10 +302,10 @@ placed_lawful state j x s n o = record {
 
 item_lawful : (item : Item) (state after : State) → IsState state → IsLawfulItem item state → apply item state ≡ Ok after → IsState after
 unfolding apply
-item_lawful (FreeObjects first count) state after s l h = subst IsState (ok_inj _ _ h) (freed_lawful state (within first count) s)
+item_lawful (FreeObjects first count) state after s l h = subst IsState (ok_parts _ _ h) (freed_lawful state (within first count) s)
 item_lawful (At j change) state after s l h =
     let found = bind_ok (apply_change change (state j)) (λ o. Ok (put_at state j o)) after h in
-    subst IsState (ok_inj _ _ found.2)
+    subst IsState (ok_parts _ _ found.2)
     (placed_lawful state j found.0 s l.0 (change_lawful change (state j) found.0 (s.objects j) l.1 found.1))
 
 pub applied_state : AppliedIsState
@@ -321,7 +313,7 @@ applied_state number item snap after s l h = item_lawful item snap.state after.s
 
 pub remembered_through : RemembersThrough
 remembered_through snap after number next [] state s lawful l h applied =
-    subst (λ d. IsState d.state × Remembers d number state) (ok_inj _ _ applied) (s, h)
+    subst (λ d. IsState d.state × Remembers d number state) (ok_parts _ _ applied) (s, h)
 remembered_through snap after number next (item ∷ rest) state s lawful l h applied =
     let found = bind_ok (apply_dated next item snap) (apply_all_dated next rest) after applied in
     let stepped = dated_parts next item snap found.0 found.1 in

@@ -5,18 +5,18 @@ use Rattle.zst_model.specs.states.DatedState.{DatedState}
 use Rattle.zst_model.specs.sends.Inclusion.{Choice}
 use Rattle.zst_model.specs.sends.Target.{Remembers}
 use Rattle.zst_model.specs.states.DatedState.{apply_all_dated}
+use Rattle.zst_model.proofs.Results.{ok_parts, bind_ok}
 use Rattle.zst_laws.specs.Commits.{Commit, apply_commits, AreLater, HistoryRemembers, IncrementIsExact}
 use Rattle.zst_laws.proofs.histories.Dates.{remembered_itself, remembered_through}
 use Rattle.zst_laws.proofs.sends.ExactSends.{send_exact}
 use Rattle.zst_laws.proofs.sends.ViewLaws.{before_base}
-use Rattle.zst_laws.proofs.sends.AppliedItemLemmas.{bind_ok, ok_inj}
 
 -- what is remembered stays so under later commits
 history : (snap after : DatedState) (number : ℕ) (commits : List Commit) (state : State)
     → IsState snap.state → Remembers snap number state → AreLater number commits snap → apply_commits commits snap ≡ Ok after
     → IsState after.state × Remembers after number state
 history snap after number [] state s h later applied =
-    subst (λ d. IsState d.state × Remembers d number state) (ok_inj _ _ applied) (s, h)
+    subst (λ d. IsState d.state × Remembers d number state) (ok_parts _ _ applied) (s, h)
 history snap after number (commit ∷ rest) state s h later applied =
     let found = bind_ok (apply_all_dated commit.number commit.items snap) (apply_commits rest) after applied in
     let stepped = remembered_through snap found.0 number commit.number commit.items state s later.1 later.0 h found.1 in

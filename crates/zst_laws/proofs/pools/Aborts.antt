@@ -14,12 +14,12 @@ use Rattle.zst_model.specs.pools.Step.{Stepped, stepped, no_partial, or_else, co
 use Rattle.zst_model.specs.refusals.PlanFault.{plan_text}
 use Rattle.zst_model.specs.refusals.Refusal.{text_of}
 use Rattle.zst_model.proofs.OrderLaws.{same_bytes}
+use Rattle.zst_model.proofs.NameTests.{differ}
 use Rattle.zst_laws.specs.Aborts.{AbortedGoes, NothingToAbort, OnlyNothingToAbort, AbortHasNoNumber, AbortLeavesOthers}
 use Rattle.zst_laws.proofs.pools.Rows.{none_from_absent, committed_ok}
 use Rattle.zst_laws.proofs.pools.Lookups.{find-filter}
 use Rattle.zst_laws.proofs.pools.AcceptedRemovals.{with_aborted_ok}
 use Rattle.zst_laws.proofs.pools.HoldingSessions.{free_ones}
-use Rattle.zst_laws.proofs.pools.Lineages.{differ}
 use Rattle.zst_laws.proofs.pools.StepRefusals.{no_number}
 
 -- whether a partial state is of another target

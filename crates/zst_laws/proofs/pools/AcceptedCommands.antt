@@ -15,7 +15,7 @@ use Rattle.zst_model.specs.pools.AnswerLines.{object_lines, pool_lines}
 use Rattle.zst_model.specs.pools.Pool.{Pool, Dataset, Snapshot, dataset_named, snapshot_named, bookmark_named, partial_of, dataset_of_snapshot, is_before, snapshot_is_before, inserted}
 use Rattle.zst_model.specs.pools.Step.{Stepped, no_such, exists_already, not_ancestor, cannot_apply, committed, count_datasets, most_datasets, most_snapshots, most_bookmarks, last_guid, with_dataset, on_head, snapshot_of, with_snapshot, clone_of, with_clone, bookmark_of, with_bookmark, state_named, answered, block_read, stepped}
 use Rattle.zst_model.proofs.OrderLaws.{same_bytes}
-use Rattle.zst_laws.proofs.sends.AppliedItemLemmas.{unless_ok, ok_inj}
+use Rattle.zst_model.proofs.Results.{ok_parts, unless_ok}
 use Rattle.zst_laws.proofs.pools.Rows.{or_else_ok, limited_ok, committed_ok, on_dataset_ok, on_head_ok}
 
 -- a new dataset: its name was free
@@ -94,7 +94,7 @@ with_snapshot_ok now name pool after h =
 
 -- what only answers leaves the pool as it was
 pub answered_keeps : (pool : Pool) (lines : List (List ℕ)) (after : Stepped) → answered pool lines ≡ Ok after → after.pool ≡ pool
-answered_keeps pool lines after h = sym (ap (λ s. s.pool) (ok_inj (record { reply = lines; pool = pool }) after h))
+answered_keeps pool lines after h = sym (ap (λ s. s.pool) (ok_parts (record { reply = lines; pool = pool }) after h))
 
 block_read_keeps : (pool : Pool) (k i : ℕ) (block : Block) (after : Stepped) → block_read pool k i block ≡ Ok after → after.pool ≡ pool
 block_read_keeps pool k i Redacted after h = absurd (cc)

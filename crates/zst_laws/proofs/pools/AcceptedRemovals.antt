@@ -6,7 +6,8 @@ use Rattle.zst_model.specs.declared.refusals.refusal.Refusal.{Refusal}
 use Rattle.zst_model.specs.pools.Sessions.{Held, session_with, session_into, unless_busy}
 use Rattle.zst_model.specs.pools.Pool.{Pool, Dataset, Snapshot, Bookmark, Partial, dataset_named, snapshot_named, bookmark_named, partial_of, dataset_of_snapshot}
 use Rattle.zst_model.specs.pools.Step.{Stepped, no_such, no_partial, busy_partial, busy_clone, busy_bookmark, busy_snapshot, committed, unless_there, is_one_of, session_of_one, unless_used, is_newer_bookmark, newer_snapshots, least_name, destroyed_by, unless_newer, rolled_back, with_rollback, is_of, without_dataset, without_snapshot, without_bookmark, with_destroyed, without_partial, with_aborted}
-use Rattle.zst_laws.proofs.pools.Rows.{none_passes, or_else_ok}
+use Rattle.zst_model.proofs.FoundElements.{none_passes}
+use Rattle.zst_laws.proofs.pools.Rows.{or_else_ok}
 
 -- a chain that ends well passed no holder
 pub unless_busy_ok : {A : Type 0} (session : Option ℕ) (rest : Result A Refusal) (x : A) → unless_busy session rest ≡ Ok x → (session ≡ None) × (rest ≡ Ok x)

@@ -12,9 +12,9 @@ use Rattle.zst_model.specs.sends.Headers.{choice_of, clone_flag, clone_part, fea
 use Rattle.zst_model.specs.sends.Features.{sa_spill}
 use Rattle.zst_model.specs.sends.SendPlan.{absent, find_bookmark, find_redaction, find_snapshot, find_source, kind_of}
 use Rattle.zst_model.specs.sends.View.{view_of}
+use Rattle.zst_model.proofs.Results.{ok_parts, bind_ok}
 use Rattle.zst_laws.specs.AlikePools.{AlikePoolsAreSentAlike, AreAlike, AreRedacting, AreSources}
 use Rattle.zst_laws.proofs.pools.SendPlans.{HasFound, found_ok, plan_has_found}
-use Rattle.zst_laws.proofs.sends.AppliedItemLemmas.{bind_ok, ok_inj}
 use Rattle.zst_laws.proofs.sends.ViewLaws.{views_same}
 
 -- sources that are alike: snapshots of one name, guid and number, or one bookmark
@@ -25,26 +25,26 @@ SameSource (Some (OfBookmark a)) (Some (OfBookmark b)) = a ≡ b
 SameSource x y = ⊥
 
 sources_same : (from : Option FromName) (pool other : Pool) (x y : Option Source) → find_source from pool ≡ Ok x → find_source from other ≡ Ok y → AreSources from pool other → SameSource x y
-sources_same None pool other x y f g h = subst (λ x. SameSource x y) (ok_inj None x f) (subst (SameSource None) (ok_inj None y g) tt)
+sources_same None pool other x y f g h = subst (λ x. SameSource x y) (ok_parts None x f) (subst (SameSource None) (ok_parts None y g) tt)
 sources_same (Some (Snap name)) pool other x y f g h =
     let a = bind_ok (find_snapshot name pool) (λ snapshot. Ok (Some (OfSnapshot snapshot))) x f in
     let b = bind_ok (find_snapshot name other) (λ snapshot. Ok (Some (OfSnapshot snapshot))) y g in
     let same = h a.0 b.0 (found_ok (absent (names.Snapshot name)) (snapshot_named name pool) a.0 a.1) (found_ok (absent (names.Snapshot name)) (snapshot_named name other) b.0 b.1) in
-    subst (λ x. SameSource x y) (ok_inj (Some (OfSnapshot a.0)) x a.2) (subst (SameSource (Some (OfSnapshot a.0))) (ok_inj (Some (OfSnapshot b.0)) y b.2) same)
+    subst (λ x. SameSource x y) (ok_parts (Some (OfSnapshot a.0)) x a.2) (subst (SameSource (Some (OfSnapshot a.0))) (ok_parts (Some (OfSnapshot b.0)) y b.2) same)
 sources_same (Some (Book name)) pool other x y f g h =
     let a = bind_ok (find_bookmark name pool) (λ bookmark. Ok (Some (OfBookmark bookmark))) x f in
     let b = bind_ok (find_bookmark name other) (λ bookmark. Ok (Some (OfBookmark bookmark))) y g in
     let same : a.0 ≡ b.0 = same_Some a.0 b.0 (sym (found_ok (absent (names.Bookmark name)) (bookmark_named name pool) a.0 a.1) ∙ h ∙ found_ok (absent (names.Bookmark name)) (bookmark_named name other) b.0 b.1) in
-    subst (λ x. SameSource x y) (ok_inj (Some (OfBookmark a.0)) x a.2) (subst (SameSource (Some (OfBookmark a.0))) (ok_inj (Some (OfBookmark b.0)) y b.2) same)
+    subst (λ x. SameSource x y) (ok_parts (Some (OfBookmark a.0)) x a.2) (subst (SameSource (Some (OfBookmark a.0))) (ok_parts (Some (OfBookmark b.0)) y b.2) same)
 
 redactions_same : (redact : Option (List ℕ)) (pool other : Pool) (x y : Option Bookmark) → find_redaction redact pool ≡ Ok x → find_redaction redact other ≡ Ok y → AreRedacting redact pool other → x ≡ y
-redactions_same None pool other x y f g h = sym (ok_inj None x f) ∙ ok_inj None y g
+redactions_same None pool other x y f g h = sym (ok_parts None x f) ∙ ok_parts None y g
 redactions_same (Some name) pool other x y f g h =
     let a = bind_ok (find_bookmark name pool) (λ bookmark. Ok (Some bookmark)) x f in
     let b = bind_ok (find_bookmark name other) (λ bookmark. Ok (Some bookmark)) y g in
-    sym (ok_inj (Some a.0) x a.2)
+    sym (ok_parts (Some a.0) x a.2)
     ∙ sym (found_ok (absent (names.Bookmark name)) (bookmark_named name pool) a.0 a.1) ∙ h ∙ found_ok (absent (names.Bookmark name)) (bookmark_named name other) b.0 b.1
-    ∙ ok_inj (Some b.0) y b.2
+    ∙ ok_parts (Some b.0) y b.2
 
 -- what is seen of alike sources is the same
 module _ (a b : Snapshot) (named : a.name ≡ b.name) where

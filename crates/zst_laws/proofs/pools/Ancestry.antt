@@ -62,12 +62,6 @@ before_partial_on pool other source partial alike (inl h) =
 before_partial_on pool other source partial alike (inr h) =
     inr (base_counts_on pool other source partial alike h.0, before_clone_on pool other source partial alike h.1)
 
--- what stands before a snapshot of a dataset stands before the dataset's head
-pub stands_before_head : (pool : Pool) (source : Source) (name : List ℕ) (bound : Option ℕ) → StandsBefore pool source name bound → StandsBefore pool source name None
-stands_before_head pool source name bound (Earlier _ _ same below) = Earlier name None same tt
-stands_before_head pool source name bound (AtOrigin _ _ origin is marks) = AtOrigin name None origin is marks
-stands_before_head pool source name bound (BeforeOrigin _ _ origin is before) = BeforeOrigin name None origin is before
-
 -- before the head of a dataset that isn't there stand the sources with its name alone
 pub stands_before_none : (pool : Pool) (source : Source) (name : List ℕ) (bound : Option ℕ)
     → (HasDataset pool name → ⊥) → StandsBefore pool source name bound → dataset_of_source source ≡ name

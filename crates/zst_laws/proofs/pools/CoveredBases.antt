@@ -18,6 +18,7 @@ use Rattle.zst_model.specs.sends.Inclusion.{Choice, Pairs, is_after, includes_pa
 use Rattle.zst_model.specs.sends.Target.{BaseOk, CanRedact, Remembers}
 use Rattle.zst_model.specs.states.DatedState.{DatedState}
 use Rattle.zst_model.specs.states.State.{Block, Hole, Redacted, Data, Object, State, IsState, IsObjectOrNone, BytesOf, attr_at, content_at, block_content, end_at, index_bound, is_number, is_user_data}
+use Rattle.zst_model.proofs.IndexTests.{any_passes}
 use Rattle.zst_laws.specs.Bases.{IsRewritten}
 use Rattle.zst_laws.specs.RedactionLists.{AreListed, AreRedactions, CoveredIsBase, ListedMayBeRedacted, HaveOwnGuids, IsCovered, ToOne, ByRedaction, BySource, IsOverRedacted, each_guid, lost, objects_of}
 use Rattle.zst_laws.specs.RememberedStates.{IsOwn}
@@ -26,7 +27,6 @@ use Rattle.zst_laws.proofs.examples.Meanings.{data_of, lists_can_be_redacted}
 use Rattle.zst_laws.proofs.pools.Descent.{snapshot_has_row}
 use Rattle.zst_laws.proofs.pools.Filters.{all_pass, each_passes}
 use Rattle.zst_laws.proofs.pools.SourceBases.{own_before, remembered_base}
-use Rattle.zst_laws.proofs.sends.Ends.{any_passes}
 use Rattle.zst_laws.proofs.sends.ExactSends.{after_end, below_bound, number_there}
 use Rattle.zst_laws.proofs.sends.ViewLaws.{redacted_base}
 

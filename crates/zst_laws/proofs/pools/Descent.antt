@@ -9,9 +9,9 @@ use Rattle.zst_model.specs.pools.Soundness.{Agrees, DatedUpTo, IsBookmarkOf, Sou
 use Rattle.zst_model.specs.states.DatedState.{DatedState}
 use Rattle.zst_model.proofs.InsertedLaws.{All-from_contains, contains-map, map_contains}
 use Rattle.zst_model.specs.sends.Target.{Remembers}
+use Rattle.zst_model.proofs.DatedStates.{dated_higher}
+use Rattle.zst_model.proofs.UniqueElements.{same_element}
 use Rattle.zst_laws.specs.RememberedStates.{IsOwn, SourceRemembers}
-use Rattle.zst_laws.proofs.histories.Agreement.{dated_higher}
-use Rattle.zst_laws.proofs.pools.UniqueElements.{same_element}
 use Rattle.zst_laws.proofs.pools.Ancestry.{HasOldOrigins, stood_before, before_partial_on}
 
 -- a row is of a snapshot, a head or a partial state
@@ -108,7 +108,7 @@ same_snapshot snapshots rise a b here there of same =
     same_element Rises snapshots rise a b here there (λ h. let l = h of in omega arith) (λ h. let l = h (sym of) in omega arith)
 
 -- a snapshot agrees with its own state
-agrees_itself : (snapshot : Snapshot) → Agrees snapshot snapshot.objects
+pub agrees_itself : (snapshot : Snapshot) → Agrees snapshot snapshot.objects
 agrees_itself snapshot = record { numbers = λ k n d. refl; number_dates = λ k n d. refl; indices = λ k i n l d. refl; index_dates = λ k i n l d. refl }
 
 -- a source of a sound pool has its dataset there

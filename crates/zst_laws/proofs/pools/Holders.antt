@@ -1,5 +1,5 @@
 -- Which rollbacks and destroys are refused, and for whom.
-use Rattle.std.proofs.Common.{◌≡◌, inl, inr, ℕ, Bool, true, false, ◌||◌, List, [], ◌∷◌, map, filter, find, Option, Some, None, is_some, Result, Err, Contains, bytes_eq, if◌then◌else◌, refl, sym, ap, subst, ◌∙◌}
+use Rattle.std.proofs.Common.{◌≡◌, inl, inr, ℕ, Bool, true, false, ◌||◌, List, [], ◌∷◌, map, filter, find, Option, Some, None, Result, Err, Contains, bytes_eq, if◌then◌else◌, refl, sym, ap, subst, ◌∙◌}
 use Rattle.std.proofs.lemmas.Bool.{true≢false, false_from_ne_true, or_left, or_right, or_cases}
 use Rattle.std.proofs.lemmas.List.Elements.{All-contains, filter_passes}
 use Rattle.std.proofs.lemmas.Option.{same_Some}
@@ -15,11 +15,15 @@ use Rattle.zst_model.specs.pools.Pool.{Pool, Dataset, Snapshot, Bookmark, Partia
 use Rattle.zst_model.specs.pools.Step.{Stepped, stepped, no_such, busy_partial, busy_clone, busy_bookmark, busy_snapshot, or_else, unless_there, committed, is_one_of, session_of_one, unless_used, is_newer, is_newer_bookmark, newer_snapshots, lesser_name, least_name, destroyed_by, unless_newer, rolled_back, is_of, without_dataset, without_snapshot, without_bookmark}
 use Rattle.zst_model.proofs.InsertedLaws.{contains_first, contains_later, contains_cases, contains_nothing, contains-map, map_contains}
 use Rattle.zst_model.proofs.OrderLaws.{same_bytes, bytes_same, before_cases, before_trans, not_before_itself}
+use Rattle.zst_model.proofs.Options.{there_is}
+use Rattle.zst_model.proofs.FoundElements.{none_passes}
+use Rattle.zst_model.proofs.FilteredLists.{filter_contains, contains-filter}
+use Rattle.zst_model.proofs.ListTests.{passed_by_some}
 use Rattle.zst_laws.specs.Lineage.{IsNewer, IsNewerMark}
 use Rattle.zst_laws.specs.StepRefusals.{dataset_before}
 use Rattle.zst_laws.specs.LineageRefusals.{NothingToDestroy, IsFound, Destroys, Touches, IsDestroyed, HoldsAsPartial, HoldsAsClone, IsLeastHolder, NoneHolds, PartialIsNamed, CloneIsNamed, IsRollback, NewerMarkIsNamed, NewerSnapshotIsNamed, IsNewestOf, DestroyHasNoNumber, BookmarkStays}
-use Rattle.zst_laws.proofs.pools.Rows.{named_found, none_passes, none_from_absent}
-use Rattle.zst_laws.proofs.pools.Filters.{filter_contains, contains-filter, passed_by_some, some_passes}
+use Rattle.zst_laws.proofs.pools.Rows.{named_found, none_from_absent}
+use Rattle.zst_laws.proofs.pools.Filters.{some_passes}
 use Rattle.zst_laws.proofs.pools.Lookups.{find_least}
 use Rattle.zst_laws.proofs.pools.Lineages.{newer_had, newer_passes, mark_had, mark_passes}
 use Rattle.zst_laws.proofs.pools.StepRefusals.{no_number}
@@ -88,7 +92,7 @@ module _ (pool : Pool) (command : Command) (is_such : Partial → Bool) (gone : 
       (none_from_absent is_clone pool.datasets (λ d there. false_from_ne_true (is_clone d) (λ e. unused d there (destroyed d.origin e))))
 
 -- a snapshot that is one of a list has the name of one of it
-named_in : (gone : List Snapshot) (s : Snapshot) → Contains gone s → is_one_of gone (Some s.name) ≡ true
+pub named_in : (gone : List Snapshot) (s : Snapshot) → Contains gone s → is_one_of gone (Some s.name) ≡ true
 named_in gone s there = passed_by_some (λ other. bytes_eq other.name s.name) gone s there (bytes_same s.name s.name refl)
 
 -- without sessions
@@ -101,10 +105,6 @@ record IsForm (pool : Pool) (command : Command) (now : ℕ) : Type 0 where
   last : IsNewestOf pool command → pool.number ≡ 9223372036854775808 → rest ≡ Err (refusals.Limit quantities.Number 9223372036854775808)
 
 -- what is found by a name
-there_from : {A : Type 0} (o : Option A) → is_some o ≡ true → (x : A) × (o ≡ Some x)
-there_from None h = absurd (true≢false (sym h))
-there_from (Some x) h = (x, refl)
-
 -- rollback with -r
 abbrev rollback_rest : Pool → Bool → Snapshot → Result Stepped Refusal
 rollback_rest pool destroys own = unless_newer destroys own pool (committed (rolled_back own pool))
@@ -318,9 +318,9 @@ snapshot_is pool name now own found =
     }
 
 formed : (pool : Pool) (command : Command) (now : ℕ) → IsFound pool command → IsForm pool command now
-formed pool (commands.Rollback destroys name) now h = let (own, found) = there_from (snapshot_named name pool) h in rollback_is pool destroys name now own found
-formed pool (commands.Destroy (names.Dataset name)) now h = let (own, found) = there_from (dataset_named name pool) h in dataset_is pool name now own found
-formed pool (commands.Destroy (names.Snapshot name)) now h = let (own, found) = there_from (snapshot_named name pool) h in snapshot_is pool name now own found
+formed pool (commands.Rollback destroys name) now h = let (own, found) = there_is (snapshot_named name pool) h in rollback_is pool destroys name now own found
+formed pool (commands.Destroy (names.Dataset name)) now h = let (own, found) = there_is (dataset_named name pool) h in dataset_is pool name now own found
+formed pool (commands.Destroy (names.Snapshot name)) now h = let (own, found) = there_is (snapshot_named name pool) h in snapshot_is pool name now own found
 formed pool (commands.Destroy (names.Bookmark name)) now h = absurd h
 formed pool (commands.Abort target) now h = absurd h
 formed pool (commands.Fs name) now h = absurd h

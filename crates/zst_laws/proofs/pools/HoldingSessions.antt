@@ -16,9 +16,11 @@ use Rattle.zst_model.specs.refusals.PlanFault.{plan_text}
 use Rattle.zst_model.specs.refusals.Refusal.{text_of}
 use Rattle.zst_model.proofs.InsertedLaws.{contains_cases, contains_first, contains_later, contains_nothing}
 use Rattle.zst_model.proofs.OrderLaws.{same_bytes, bytes_same}
+use Rattle.zst_model.proofs.FilteredLists.{filter_contains, contains-filter}
+use Rattle.zst_model.proofs.ListTests.{passed_by_some}
 use Rattle.zst_laws.specs.HoldingSessions.{SessionsHave, ClaimsCountAlone, LeastIsNamed, BusySessions, StepsAskNoSession, HasOf, HasThis, HasClaim, HasNewer, IsLeastWith, HeldDatasetStays, HeldSnapshotStays, HeldNewerStays, HeldTargetStays, FreeOnesGo}
 use Rattle.zst_laws.proofs.pools.Lineages.{newer_had, newer_passes}
-use Rattle.zst_laws.proofs.pools.Filters.{filter_contains, contains-filter, passed_by_some, some_passes}
+use Rattle.zst_laws.proofs.pools.Filters.{some_passes}
 
 pub sessions_have : SessionsHave
 sessions_have = (refl, refl, refl, refl, refl, refl, refl, refl)

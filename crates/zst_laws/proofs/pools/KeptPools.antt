@@ -1,15 +1,16 @@
 -- What an image keeps of a pool that runs.
-use Rattle.std.proofs.Common.{◌≡◌, Bool, true, Some, None, Contains, refl, ap}
+use Rattle.std.proofs.Common.{Bool, Some, None, Contains, refl}
 use Rattle.std.proofs.lemmas.List.Elements.{All-contains, filter_passes}
 use Rattle.zst_model.specs.pools.Pool.{Pool, Bookmark, Partial, dataset_of_snapshot, dataset_of_bookmark}
 use Rattle.zst_model.specs.pools.Ancestry.{Source, OfSnapshot, Place, InDataset, InPartial, IsBefore}
-use Rattle.zst_model.specs.pools.KeptPool.{KeepsAll, kept_of}
+use Rattle.zst_model.specs.pools.KeptPool.{kept_of}
 use Rattle.zst_model.specs.pools.Rows.{Row, rows}
 use Rattle.zst_model.specs.pools.Soundness.{DatedUpTo, IsBookmarkOf, Sound}
 use Rattle.zst_model.proofs.InsertedLaws.{All-from_contains}
+use Rattle.zst_model.proofs.FilteredLists.{filter_contains, contains-filter}
+use Rattle.zst_model.proofs.KeptPools.{all_stay}
 use Rattle.zst_laws.specs.KeptPools.{TwoAreKept, KeptAreKept, KeepingIsDone, KeptIsLawful, KeptIsSound}
 use Rattle.zst_laws.proofs.pools.LawfulRest.{fewer_partials_are_lawful}
-use Rattle.zst_laws.proofs.pools.Filters.{filter_contains, contains-filter, filter_all}
 use Rattle.zst_laws.proofs.pools.Descent.{IsRow, SnapshotRow, HeadRow, PartialRow, snapshot_has_row, head_has_row, partial_has_row, row_cases}
 use Rattle.zst_laws.proofs.pools.Ancestry.{HasOrigins, stands_on, before_partial_on}
 
@@ -27,11 +28,6 @@ kept_are_kept pool = (
   λ partial there keep. contains-filter is_kept pool.partials partial there keep,
   refl,
 )
-
-all_stay : (pool : Pool) → KeepsAll pool → kept_of pool ≡ pool
-all_stay pool all =
-    ap (λ partials. record pool { partials = partials })
-    (filter_all is_kept pool.partials (λ partial there. All-contains (λ p. p.keep ≡ true) pool.partials partial all there))
 
 pub keeping_done : KeepingIsDone
 keeping_done = (all_stay, λ pool. all_stay (kept_of pool) (filter_passes is_kept pool.partials))

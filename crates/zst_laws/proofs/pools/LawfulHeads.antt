@@ -1,6 +1,5 @@
 -- The items of a command that is accepted leave a lawful head.
-use Rattle.std.proofs.Common.{subst, ◌≡◌, ℕ, ◌+◌, ◌*◌, ◌<◌, ◌≤◌, true, false, List, [], ◌∷◌, length, map, Option, Some, None, IfSome, Ok, refl, sym, arith, ◌==◌, nat_lt, mul-le-mul_right, ne_eqb}
-use Rattle.std.proofs.lemmas.Bool.{and_from, lt-ltb}
+use Rattle.std.proofs.Common.{subst, ◌≡◌, ℕ, ◌+◌, ◌*◌, ◌<◌, ◌≤◌, true, false, List, [], ◌∷◌, map, Option, Some, None, IfSome, Ok, refl, sym, arith, ◌==◌, mul-le-mul_right, ne_eqb}
 use Rattle.zst_model.specs.declared.states.attr.ObjectHead.{ObjectHead}
 use Rattle.zst_model.specs.declared.refusals.faults.Quantity.TheVariants as quantities
 use Rattle.zst_model.specs.declared.states.item.Change.{Change}
@@ -14,11 +13,13 @@ use Rattle.zst_model.specs.sends.Items.{spill_change}
 use Rattle.zst_model.specs.pools.Pool.{Pool}
 use Rattle.zst_model.specs.pools.Step.{in_numbers, applied, filled, written, punched}
 use Rattle.zst_model.proofs.Sizes.{size_of_lawful}
+use Rattle.zst_model.proofs.ObjectNumbers.{number_from}
+use Rattle.zst_model.proofs.Results.{ok_parts, bind_ok}
 use Rattle.zst_laws.specs.Dates.{AreLawfulItems}
-use Rattle.zst_laws.proofs.sends.AppliedItemLemmas.{bind_ok, ok_inj}
 use Rattle.zst_laws.proofs.histories.Dates.{remembered_itself, remembered_through}
 use Rattle.zst_laws.proofs.pools.Rows.{limited_ok, of_applying_ok}
 use Rattle.zst_laws.proofs.sends.ExactSends.{number_there}
+use Rattle.zst_laws.proofs.sends.Joins.{absent_free}
 
 -- lawful items that are applied in the next commit leave a lawful state
 pub applied_is_lawful : (pool : Pool) (items : List Item) (head after : DatedState)
@@ -26,10 +27,6 @@ pub applied_is_lawful : (pool : Pool) (items : List Item) (head after : DatedSta
 applied_is_lawful pool items head after s lawful h =
     (remembered_through head after 0 (pool.number + 1) items head.state s lawful (omega arith) (remembered_itself head 0)
     (of_applying_ok (apply_all_dated (pool.number + 1) items head) after h)).0
-
--- a number that is less than the bound and not 0 is one that an object may have
-pub number_from : (k : ℕ) → 0 < k → k < number_bound → is_number k ≡ true
-number_from k some below = and_from (nat_lt 0 k) (nat_lt k number_bound) (lt-ltb 0 k some) (lt-ltb k number_bound below)
 
 -- a change that needs an object found one where it was applied
 object_there : (number k : ℕ) (change : Change) (head after : DatedState) → ((p : Option Object) → apply_change change None ≡ Ok p → ⊥)
@@ -48,10 +45,6 @@ object_there number k change head after needs h =
 write_needs : (offset type : ℕ) (bytes : List ℕ) (p : Option Object) → apply_change (Write offset type bytes) None ≡ Ok p → ⊥
 unfolding apply_change
 write_needs offset type bytes p h = absurd (cc)
-
-free_needs : (offset length : ℕ) (p : Option Object) → apply_change (Free offset length) None ≡ Ok p → ⊥
-unfolding apply_change
-free_needs offset length p h = absurd (cc)
 
 -- an index past another one stands at another place
 place_differs : (size i j : ℕ) → 0 < size → i < j → (j * size == i * size) ≡ false
@@ -89,7 +82,7 @@ write_is_lawful pool k i bytes head after s some h =
     let object : IsObject there.0 = subst IsObjectOrNone there.1 (s.objects k) in
     let sized : 0 < size = subst (λ o. 0 < size_at o) (sym there.1) (size_of_lawful there.0 object) in
     let lawful : AreLawfulItems items head.state = ((number_there head.state s k there.0 there.1, λ j past. place_differs size i j sized (omega (arith, below.0))), λ later e. tt) in
-    subst (λ d. IsState d.state) (ok_inj made.0 after below.1) (applied_is_lawful pool items head made.0 s lawful made.1)
+    subst (λ d. IsState d.state) (ok_parts made.0 after below.1) (applied_is_lawful pool items head made.0 s lawful made.1)
 
 -- punch
 pub punch_is_lawful : (pool : Pool) (k first count : ℕ) (head after : DatedState)
@@ -99,9 +92,9 @@ punch_is_lawful pool k first count head after s some h =
     let items = At k (Free (first * size) (count * size)) ∷ [] in
     let made = bind_ok (applied pool items head) _ after h in
     let below = limited_ok quantities.Block index_bound (first + count) _ after made.2 in
-    let there = object_there (pool.number + 1) k _ head made.0 (free_needs _ _) (of_applying_ok _ made.0 made.1) in
+    let there = object_there (pool.number + 1) k _ head made.0 (absent_free _ _) (of_applying_ok _ made.0 made.1) in
     let lawful : AreLawfulItems items head.state = ((number_there head.state s k there.0 there.1, tt), λ later e. tt) in
-    subst (λ d. IsState d.state) (ok_inj made.0 after below.1) (applied_is_lawful pool items head made.0 s lawful made.1)
+    subst (λ d. IsState d.state) (ok_parts made.0 after below.1) (applied_is_lawful pool items head made.0 s lawful made.1)
 
 -- free
 pub free_is_lawful : (pool : Pool) (first count : ℕ) (head after : DatedState)

@@ -1,7 +1,8 @@
 -- What commands make of a lawful pool is lawful.
-use Rattle.std.proofs.Common.{inl, inr, subst, ◌≡◌, ◌≢◌, ℕ, ◌+◌, ◌^◌, ◌<◌, ◌≤◌, true, false, List, [], ◌∷◌, ◌++◌, Option, Some, None, IfSome, is_some, Result, Ok, refl, sym, ap, ◌∙◌, arith}
+use Rattle.std.proofs.Common.{inl, inr, subst, ◌≡◌, ◌≢◌, ℕ, ◌+◌, ◌^◌, ◌<◌, ◌≤◌, true, false, List, [], ◌∷◌, ◌++◌, Some, IfSome, is_some, Result, Ok, refl, sym, ap, ◌∙◌, arith}
 use Rattle.std.specs.List.{All, Contains}
 use Rattle.std.proofs.lemmas.List.Elements.{All-nil, All-weaker, All-contains}
+use Rattle.std.proofs.lemmas.Option.{IfSome_then}
 use Rattle.zst_names.specs.Names.{IsDataset, IsSnapshot, IsBookmark, IsComponent, dataset_of}
 use Rattle.zst_names.specs.Marks.{at_is_mark}
 use Rattle.zst_names.proofs.MarkedNames.{join_is_name}
@@ -155,11 +156,6 @@ head_changed name head pool p lawful =
       partials = p.partials;
     }
 
--- what holds of a value that is there holds more weakly
-IfSome_weaker : {A : Type 0} (o : Option A) (P Q : A → Type 0) → ((x : A) → P x → Q x) → IfSome o P → IfSome o Q
-IfSome_weaker None P Q f h = tt
-IfSome_weaker (Some x) P Q f h = f x h
-
 -- a lawful pool with a new snapshot of a dataset
 snapshot_added : (now : ℕ) (name : List ℕ) (pool : Pool) (dataset : Dataset) → now < 2 ^ 64 → IsPool pool → IsSnapshot name
     → dataset_named (dataset_of 64 name) pool ≡ Some dataset → is_some (partial_of (dataset_of 64 name) pool) ≡ false
@@ -195,9 +191,9 @@ snapshot_added now name pool dataset fits p is_name there free absent guids =
             All-inserted (λ s. HasDataset pool (dataset_of_snapshot s)) snapshot_is_before row rows
             (dataset, found.0, found.1) p.linked.snapshots;
         origins =
-            All-weaker (λ d. IfSome d.origin (HasSnapshot pool)) (λ d. IfSome d.origin (HasSnapshot added)) (λ d. IfSome_weaker d.origin (HasSnapshot pool) (HasSnapshot added) more) pool.datasets p.linked.origins;
+            All-weaker (λ d. IfSome d.origin (HasSnapshot pool)) (λ d. IfSome d.origin (HasSnapshot added)) (λ d h. IfSome_then d.origin h more) pool.datasets p.linked.origins;
         bases =
-            All-weaker (λ q. IfSome q.base (HasSnapshot pool)) (λ q. IfSome q.base (HasSnapshot added)) (λ q. IfSome_weaker q.base (HasSnapshot pool) (HasSnapshot added) more) pool.partials p.linked.bases;
+            All-weaker (λ q. IfSome q.base (HasSnapshot pool)) (λ q. IfSome q.base (HasSnapshot added)) (λ q h. IfSome_then q.base h more) pool.partials p.linked.bases;
         components = All-from_contains (λ q. HasSnapshot added (q.target ++ 64 ∷ q.component) → ⊥) pool.partials (λ q k has. elim (contains-inserted snapshot_is_before row rows has.0 has.1) [
           | inl e ↦
               let target = (All-contains (λ r. IsDataset r.target × IsComponent r.component) pool.partials q p.named.targets k).0 in

@@ -12,9 +12,11 @@ use Rattle.zst_model.specs.pools.Pool.{Pool, Dataset, Snapshot, Bookmark, Partia
 use Rattle.zst_model.specs.pools.Step.{is_one_of, is_newer, newer_snapshots, rolled_to, rolled_back, is_of, without_dataset, without_snapshot, without_bookmark, without_partial}
 use Rattle.zst_model.proofs.InsertedLaws.{All-from_contains, contains_first, contains-map, map_contains, AllPairs-map}
 use Rattle.zst_model.proofs.OrderLaws.{same_bytes, bytes_same}
+use Rattle.zst_model.proofs.FilteredLists.{filter_contains, contains-filter}
+use Rattle.zst_model.proofs.ListTests.{passed_by_some}
 use Rattle.zst_laws.proofs.pools.Rows.{named_found}
 use Rattle.zst_laws.proofs.pools.AcceptedRemovals.{AreUnused, is_for}
-use Rattle.zst_laws.proofs.pools.Filters.{filter_contains, contains-filter, passed_by_some}
+use Rattle.zst_laws.proofs.pools.Holders.{named_in}
 
 -- a pool with these datasets, and with the snapshots that pass a test
 abbrev pub with_fewer : Pool → List Dataset → (Snapshot → Bool) → Pool
@@ -167,10 +169,6 @@ lawful_without_snapshot name pool snapshot p found unused =
         let own = (named_found (λ s. s.name) name pool.snapshots snapshot found).1 in
         passed_by_some (λ other. bytes_eq other.name s.name) (snapshot ∷ []) snapshot (contains_first snapshot []) (bytes_same snapshot.name s.name (own ∙ sym same))
 
--- a snapshot that is in a list of those that go has the name of one of them
-in_gone : (gone : List Snapshot) (s : Snapshot) → Contains gone s → is_one_of gone (Some s.name) ≡ true
-in_gone gone s there = passed_by_some (λ other. bytes_eq other.name s.name) gone s there (bytes_same s.name s.name refl)
-
 -- without a dataset
 pub lawful_without_dataset : (name : List ℕ) (pool : Pool) → IsPool pool → AreUnused (is_for name) (filter (is_of name) pool.snapshots) pool
     → IsPool (without_dataset name pool)
@@ -182,7 +180,7 @@ lawful_without_dataset name pool p unused =
       lawful = All-filter stays (λ d. IsKind d.kind × IsGuidSet d.redact × IsState d.head.state) pool.datasets p.datasets;
       owners = owner;
       olds = λ d there. (d, filter_contains stays pool.datasets d there, refl);
-    }) (λ s there dropped. in_gone (filter (is_of name) pool.snapshots) s (contains-filter (is_of name) pool.snapshots s there (not-false (is_of name s) dropped))) unused)
+    }) (λ s there dropped. named_in (filter (is_of name) pool.snapshots) s (contains-filter (is_of name) pool.snapshots s there (not-false (is_of name s) dropped))) unused)
   where
     stays : Dataset → Bool
     stays d = not (bytes_eq d.name name)
@@ -212,7 +210,7 @@ rolled_is_lawful name pool snapshot p found unused =
           (roll d, contains-map roll pool.datasets d is, roll_name d ∙ named);
       olds = λ d there.
           let (old, was, e) = map_contains roll pool.datasets d there in (old, was, sym (roll_origin old) ∙ ap (λ d. d.origin) e);
-    }) (λ s there dropped. in_gone (newer_snapshots snapshot pool) s (contains-filter (is_newer snapshot) pool.snapshots s there (not-false (is_newer snapshot s) dropped))) unused)
+    }) (λ s there dropped. named_in (newer_snapshots snapshot pool) s (contains-filter (is_newer snapshot) pool.snapshots s there (not-false (is_newer snapshot s) dropped))) unused)
   where
     keep : Snapshot → Bool
     keep other = not (is_newer snapshot other)

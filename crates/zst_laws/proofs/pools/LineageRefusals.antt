@@ -12,9 +12,10 @@ use Rattle.zst_model.specs.pools.Sessions.{Held}
 use Rattle.zst_model.specs.pools.Pool.{Pool, Dataset, Snapshot, dataset_named, snapshot_named, bookmark_named, dataset_of_snapshot, is_before, inserted}
 use Rattle.zst_model.specs.pools.Step.{Stepped, stepped, no_such, exists_already, not_ancestor, or_else, limited, committed, most_bookmarks, with_dataset, clone_of, bookmark_of}
 use Rattle.zst_model.proofs.OrderLaws.{same_bytes, bytes_same}
+use Rattle.zst_model.proofs.PassedLimits.{over, within_limit}
 use Rattle.zst_laws.specs.LineageRefusals.{CloneWantsSnapshot, IsCloneable, CloneIsThere, CloneIsBegun, ClonesAreFull, CloneHasNoNumber, BookmarkWantsSnapshot, BookmarkIsElsewhere, IsMarkable, BookmarkIsThere, BookmarksAreFull, BookmarkHasNoNumber}
 use Rattle.zst_laws.proofs.pools.Rows.{named_found}
-use Rattle.zst_laws.proofs.pools.StepRefusals.{refused, passed, over, within_limit, no_number, name_taken, name_begun, rows_full, row_last}
+use Rattle.zst_laws.proofs.pools.StepRefusals.{refused, passed, no_number, name_taken, name_begun, rows_full, row_last}
 
 -- a clone whose snapshot is there is a new dataset
 abbrev of_found : Pool → List ℕ → Snapshot → Option Dataset → Result Stepped Refusal

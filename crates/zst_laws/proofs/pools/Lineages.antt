@@ -8,17 +8,16 @@ use Rattle.zst_model.specs.pools.Pool.{Pool, Dataset, Snapshot, Bookmark, datase
 use Rattle.zst_model.specs.pools.Step.{Stepped, stepped, clone_of, bookmark_of, is_newer, is_newer_bookmark, rolled_to, is_of, is_bookmark_of}
 use Rattle.zst_model.proofs.InsertedLaws.{contains_nothing}
 use Rattle.zst_model.proofs.OrderLaws.{same_bytes, bytes_same}
+use Rattle.zst_model.proofs.Options.{none_there}
+use Rattle.zst_model.proofs.FoundElements.{none_passes}
+use Rattle.zst_model.proofs.FilteredLists.{filter_contains, contains-filter}
+use Rattle.zst_model.proofs.NameTests.{differ}
 use Rattle.zst_laws.specs.StepRefusals.{dataset_before}
 use Rattle.zst_laws.specs.Lineage.{dataset_before_mark, IsNewer, IsNewerMark, HasAllBut, OtherDatasetsStay, CloneMakes, BookmarkMakes, RollbackMakes, RollbackWantsNewest, DatasetGoes, SnapshotGoes, BookmarkGoes}
-use Rattle.zst_laws.proofs.pools.Rows.{none_there, none_passes, none_from_absent, named_found, committed_ok}
-use Rattle.zst_laws.proofs.pools.Filters.{filter_contains, contains-filter}
+use Rattle.zst_laws.proofs.pools.Rows.{none_from_absent, named_found, committed_ok}
 use Rattle.zst_laws.proofs.pools.Lookups.{find-inserted_row, find-inserted_other, find-filter, find-map}
 use Rattle.zst_laws.proofs.pools.AcceptedCommands.{with_clone_ok, with_bookmark_ok}
 use Rattle.zst_laws.proofs.pools.AcceptedRemovals.{IsNewest, with_rollback_ok, dataset_destroyed_ok, snapshot_destroyed_ok, bookmark_destroyed_ok}
-
--- names that differ test as different
-pub differ : (a b : List ℕ) → a ≢ b → bytes_eq a b ≡ false
-differ a b h = false_from_ne_true (bytes_eq a b) (λ e. h (same_bytes a b e))
 
 -- what a filter leaves is what was there but for what goes
 left_but : {A : Type 0} (test : A → Bool) (xs : List A) (goes : A → Type 0) → ((x : A) → test x ≡ true → goes x) → ((x : A) → goes x → test x ≡ true)

@@ -13,13 +13,13 @@ use Rattle.zst_model.specs.states.DatedState.{DatedState}
 use Rattle.zst_model.specs.pools.Ancestry.{OfSnapshot, OfBookmark}
 use Rattle.zst_model.specs.pools.Pool.{Pool, Snapshot, Bookmark, HasDataset, IsLinked, dataset_of_snapshot, is_before}
 use Rattle.zst_model.specs.pools.Soundness.{IsBookmarkOf, Sound}
+use Rattle.zst_model.proofs.FilteredLists.{filter_contains}
 use Rattle.zst_laws.specs.RedactionLists.{AreListed, AreRedactions, HaveNewGuids, HaveOwnGuids, Lists}
 use Rattle.zst_laws.specs.RedactionSteps.{HasNoNewLists, ListsAreKept, OnlyAddsTo, StepsKeepLists}
 use Rattle.zst_laws.specs.RememberedStates.{IsOwn}
 use Rattle.zst_laws.proofs.pools.AcceptedCommands.{with_dataset_ok, with_snapshot_ok, with_clone_ok, with_bookmark_ok, read_keeps, list_keeps, list_objects_keeps}
 use Rattle.zst_laws.proofs.pools.AcceptedRemovals.{with_rollback_ok, dataset_destroyed_ok, snapshot_destroyed_ok, bookmark_destroyed_ok, with_aborted_ok}
 use Rattle.zst_laws.proofs.pools.Ancestry.{stood_before}
-use Rattle.zst_laws.proofs.pools.Filters.{filter_contains}
 use Rattle.zst_laws.proofs.pools.Rows.{committed_ok, on_head_ok}
 use Rattle.zst_laws.proofs.pools.Descent.{IsNext}
 use Rattle.zst_laws.proofs.pools.SoundSteps.{steps_follow}

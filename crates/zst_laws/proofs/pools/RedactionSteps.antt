@@ -24,6 +24,8 @@ use Rattle.zst_model.specs.sends.SendPlan.{comes_before, has_guids}
 use Rattle.zst_model.specs.sends.Inclusion.{Pairs}
 use Rattle.zst_model.specs.states.DatedState.{DatedState}
 use Rattle.zst_model.specs.states.State.{IsState, State, index_bound, is_number}
+use Rattle.zst_model.proofs.FoundElements.{none_passes}
+use Rattle.zst_model.proofs.Results.{ok_parts, bind_ok, unless_ok}
 use Rattle.zst_laws.specs.RedactionLists.{AreListed, AreRedactions, HaveOwnGuids, Lists, objects_of}
 use Rattle.zst_laws.specs.RedactionSteps.{RedactionsKeepSound, RedactionsList, RedactionsRemember, find_each, guids_of, most_runs, not_descendant, redaction_of, relayed, with_guid, with_redaction}
 use Rattle.zst_laws.specs.RememberedStates.{IsOwn, SourceRemembers}
@@ -34,32 +36,31 @@ use Rattle.zst_laws.proofs.pools.Filters.{all_pass, each_passes}
 use Rattle.zst_laws.proofs.pools.ListedSteps.{adds_to, old_listed}
 use Rattle.zst_laws.proofs.pools.Descent.{next_remembers, same_snapshot}
 use Rattle.zst_laws.proofs.pools.LawfulPools.{bookmark_added, committed_pool}
-use Rattle.zst_laws.proofs.pools.Rows.{committed_ok, limited_ok, named_found, none_passes, or_else_ok}
+use Rattle.zst_laws.proofs.pools.Rows.{committed_ok, limited_ok, named_found, or_else_ok}
 use Rattle.zst_laws.proofs.pools.SendPlans.{before_tested}
 use Rattle.zst_laws.proofs.pools.SoundBookmarks.{bookmark_next, bookmark_sound}
-use Rattle.zst_laws.proofs.sends.AppliedItemLemmas.{bind_ok, ok_inj, unless_ok}
 
 -- ---- what is found
 
 -- the snapshots that are found are the pool's
 each_there : (kept : List (List ℕ)) (pool : Pool) (found : List Snapshot) → find_each kept pool ≡ Ok found → (snapshot : Snapshot) → Contains found snapshot → Contains pool.snapshots snapshot
-each_there [] pool found h snapshot there = absurd (contains_nothing snapshot (subst (λ xs. Contains xs snapshot) (sym (ok_inj [] found h)) there))
+each_there [] pool found h snapshot there = absurd (contains_nothing snapshot (subst (λ xs. Contains xs snapshot) (sym (ok_parts [] found h)) there))
 each_there (name ∷ rest) pool found h snapshot there =
     let first = or_else_ok (no_such (names.Snapshot name)) (snapshot_named name pool) _ found h in
     let others = bind_ok (find_each rest pool) _ found first.2 in
-    elim (contains_cases first.0 others.0 snapshot (subst (λ xs. Contains xs snapshot) (sym (ok_inj (first.0 ∷ others.0) found others.2)) there)) [
+    elim (contains_cases first.0 others.0 snapshot (subst (λ xs. Contains xs snapshot) (sym (ok_parts (first.0 ∷ others.0) found others.2)) there)) [
       | inl e ↦ subst (Contains pool.snapshots) e (named_found (λ (s : Snapshot). s.name) name pool.snapshots first.0 first.1).0
       | inr later ↦ each_there rest pool others.0 others.1 snapshot later
     ]
 
 -- and as many as were named
 each_length : (kept : List (List ℕ)) (pool : Pool) (found : List Snapshot) → find_each kept pool ≡ Ok found → length found ≡ length kept
-each_length [] pool found h = ap length (sym (ok_inj [] found h))
+each_length [] pool found h = ap length (sym (ok_parts [] found h))
 each_length (name ∷ rest) pool found h =
     let first = or_else_ok (no_such (names.Snapshot name)) (snapshot_named name pool) _ found h in
     let others = bind_ok (find_each rest pool) _ found first.2 in
     let same = each_length rest pool others.0 others.1 in
-    let long : length found ≡ length (first.0 ∷ others.0) = ap length (sym (ok_inj (first.0 ∷ others.0) found others.2)) in omega arith
+    let long : length found ≡ length (first.0 ∷ others.0) = ap length (sym (ok_parts (first.0 ∷ others.0) found others.2)) in omega arith
 
 -- ---- their guids
 

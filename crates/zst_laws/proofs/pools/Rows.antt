@@ -1,10 +1,9 @@
 -- Rows of a pool: what a look-up gives, and what a chain says that ends well.
-use Rattle.std.proofs.Common.{inl, inr, ◌⊎◌, subst, ◌≡◌, ◌≢◌, ℕ, ◌+◌, ◌≤◌, Bool, true, false, cond, List, [], ◌∷◌, Option, Some, None, is_some, Result, Ok, Err, if◌then◌else◌, nat_lt, refl, sym, ap, ◌∙◌}
+use Rattle.std.proofs.Common.{subst, ◌≡◌, ◌≢◌, ℕ, ◌+◌, ◌≤◌, Bool, true, false, List, [], ◌∷◌, Option, Some, None, is_some, Result, Ok, Err, if◌then◌else◌, nat_lt, refl, sym, ap, ◌∙◌}
 use Rattle.std.specs.List.{All, Contains, find}
 use Rattle.std.specs.Str.{bytes_eq}
 use Rattle.std.proofs.lemmas.Bool.{true≢false, ltb-false}
 use Rattle.std.proofs.lemmas.List.Elements.{All-contains}
-use Rattle.std.proofs.lemmas.Option.{same_Some}
 use Rattle.zst_model.specs.declared.refusals.apply_fault.ApplyFault.{ApplyFault}
 use Rattle.zst_model.specs.declared.refusals.faults.Quantity.{Quantity}
 use Rattle.zst_model.specs.declared.refusals.refusal.Refusal.{Refusal}
@@ -15,28 +14,13 @@ use Rattle.zst_model.specs.states.DatedState.{DatedState}
 use Rattle.zst_model.specs.pools.AnswerLines.{ok_line}
 use Rattle.zst_model.specs.pools.Pool.{Pool, Dataset, dataset_named, partial_of}
 use Rattle.zst_model.specs.pools.Step.{Stepped, no_such, busy_partial, or_else, of_applying, last_number, limited, committed, with_head_at, with_head, on_dataset, on_head}
-use Rattle.zst_model.proofs.InsertedLaws.{contains_first, contains_later, contains_cases, contains_nothing, All-from_contains, map_contains}
+use Rattle.zst_model.proofs.InsertedLaws.{contains_first, contains_later, All-from_contains, map_contains}
 use Rattle.zst_model.proofs.OrderLaws.{same_bytes, bytes_same}
-use Rattle.zst_laws.proofs.sends.AppliedItemLemmas.{bind_ok, unless_ok, ok_inj}
+use Rattle.zst_model.proofs.Options.{none_there}
+use Rattle.zst_model.proofs.FoundElements.{found_passes, none_passes}
+use Rattle.zst_model.proofs.Results.{ok_parts, bind_ok, unless_ok}
 
--- what a look-up gives passes and is in the list, and where it gives none, none passes
-pub found_passes : {A : Type 0} (p : A → Bool) (xs : List A) (x : A) → find p xs ≡ Some x → Contains xs x × (p x ≡ true)
-found_passes p [] x h = absurd (cc)
-found_passes {A = A} p (y ∷ ys) x h = go (p y) refl (found_passes p ys x) h
-  where
-    go : (t : Bool) → p y ≡ t → (find p ys ≡ Some x → Contains ys x × (p x ≡ true)) → cond t (Some y) (find p ys) ≡ Some x → Contains (y ∷ ys) x × (p x ≡ true)
-    go true e rest k = subst (λ z. Contains (y ∷ ys) z × (p z ≡ true)) (same_Some y x k) (contains_first y ys, e)
-    go false e rest k = let found = rest k in (contains_later y ys x found.0, found.1)
-
-pub none_passes : {A : Type 0} (p : A → Bool) (xs : List A) → find p xs ≡ None → (x : A) → Contains xs x → p x ≡ false
-none_passes p [] h x k = absurd (contains_nothing x k)
-none_passes {A = A} p (y ∷ ys) h x k = go (p y) refl (λ n. none_passes p ys n x) h (contains_cases y ys x k)
-  where
-    go : (t : Bool) → p y ≡ t → (find p ys ≡ None → Contains ys x → p x ≡ false) → cond t (Some y) (find p ys) ≡ None → (y ≡ x) ⊎ Contains ys x → p x ≡ false
-    go true e rest n c = absurd (cc)
-    go false e rest n (inl s) = ap p (sym s) ∙ e
-    go false e rest n (inr k) = rest n k
-
+-- where no element passes, none is found
 pub none_from_absent : {A : Type 0} (p : A → Bool) (xs : List A) → ((x : A) → Contains xs x → p x ≡ false) → find p xs ≡ None
 none_from_absent p [] h = refl
 none_from_absent p (y ∷ ys) h =
@@ -45,11 +29,6 @@ none_from_absent p (y ∷ ys) h =
 -- names that test as different differ
 pub bytes_differ : (a b : List ℕ) → bytes_eq a b ≡ false → a ≢ b
 bytes_differ a b h e = true≢false (sym (bytes_same a b e) ∙ h)
-
--- an option that is none
-pub none_there : {A : Type 0} (o : Option A) → is_some o ≡ false → o ≡ None
-none_there None h = refl
-none_there (Some x) h = absurd (true≢false h)
 
 -- what is found by a name has the name, and where none is found, none has it
 pub named_found : {A : Type 0} (name_of : A → List ℕ) (name : List ℕ) (xs : List A) (x : A)
@@ -70,7 +49,7 @@ or_else_ok refusal None next y h = absurd (cc)
 or_else_ok refusal (Some x) next y h = (x, refl, h)
 
 pub of_applying_ok : {A : Type 0} (r : Result A ApplyFault) (x : A) → of_applying r ≡ Ok x → r ≡ Ok x
-of_applying_ok (Ok made) x h = ap (λ y. Ok y) (ok_inj made x h)
+of_applying_ok (Ok made) x h = ap (λ y. Ok y) (ok_parts made x h)
 of_applying_ok (Err fault) x h = absurd (cc)
 
 pub limited_ok : {A : Type 0} (which : Quantity) (most quantity : ℕ) (rest : Result A Refusal) (x : A)
@@ -82,7 +61,7 @@ limited_ok which most quantity rest x h =
 -- the answer of a commit, and the pool after it
 pub committed_ok : (pool : Pool) (after : Stepped) → committed pool ≡ Ok after
     → (pool.number + 1 ≤ last_number) × (record { reply = ok_line (pool.number + 1) ∷ []; pool = record pool { number = pool.number + 1 } } ≡ after)
-committed_ok pool after h = let made = limited_ok _ last_number (pool.number + 1) _ after h in (made.0, ok_inj _ after made.1)
+committed_ok pool after h = let made = limited_ok _ last_number (pool.number + 1) _ after h in (made.0, ok_parts _ after made.1)
 
 -- a command on a dataset: the dataset is there, and has no partial state
 pub on_dataset_ok : (name : List ℕ) (pool : Pool) (next : Dataset → Result Stepped Refusal) (after : Stepped) → on_dataset name pool next ≡ Ok after

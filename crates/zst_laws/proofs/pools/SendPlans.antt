@@ -1,5 +1,5 @@
 -- What stands before a snapshot is tested by its plan, and what is planned is of the pool.
-use Rattle.std.proofs.Common.{◌≡◌, ℕ, zero, suc, ◌<◌, ◌≤◌, Bool, true, false, ◌||◌, not, List, [], ◌∷◌, length, Option, Some, option_map, None, Result, Ok, Err, Contains, nat_lt, if◌then◌else◌, refl, sym, ap, ◌∙◌, subst, arith}
+use Rattle.std.proofs.Common.{◌≡◌, ℕ, zero, suc, ◌<◌, ◌≤◌, Bool, true, false, ◌||◌, not, List, [], Option, Some, option_map, None, Result, Ok, Err, Contains, nat_lt, if◌then◌else◌, refl, sym, ap, ◌∙◌, subst, arith}
 use Rattle.std.specs.List.{find}
 use Rattle.std.specs.Option.{IfSome, ok_or, option_and_then, option_map_or}
 use Rattle.std.specs.Str.{bytes_eq}
@@ -21,10 +21,12 @@ use Rattle.zst_model.specs.sends.SendPlan.{absent, comes_before, earlier_origin,
 use Rattle.zst_model.specs.sends.Headers.{Sent, IsRedactionOf}
 use Rattle.zst_model.specs.states.AppliedItems.{unless, ◌>>=◌}
 use Rattle.zst_model.proofs.OrderLaws.{same_bytes, bytes_same, not_before_itself}
+use Rattle.zst_model.proofs.FoundElements.{found_passes, none_passes}
+use Rattle.zst_model.proofs.UniqueElements.{same_element}
+use Rattle.zst_model.proofs.GuidLists.{no_guids}
+use Rattle.zst_model.proofs.Results.{ok_parts, bind_ok, unless_ok}
 use Rattle.zst_laws.specs.SendPlans.{AncestorIsWanted, BeforeIsTested, IsPlanned, IsWhole, PlansAreOfPool, StandsBeforeSnapshot, name_of_from}
-use Rattle.zst_laws.proofs.pools.Rows.{found_passes, named_found, none_passes}
-use Rattle.zst_laws.proofs.pools.UniqueElements.{same_element}
-use Rattle.zst_laws.proofs.sends.AppliedItemLemmas.{bind_ok, ok_inj, unless_ok}
+use Rattle.zst_laws.proofs.pools.Rows.{named_found}
 
 -- one that passes alone is found
 found_alone : {A : Type 0} (p : A → Bool) (xs : List A) (one : A) → Contains xs one → p one ≡ true → ((x : A) → Contains xs x → p x ≡ true → x ≡ one) → find p xs ≡ Some one
@@ -185,7 +187,7 @@ before_tested pool source snapshot lawful sound here there = (
 -- an answer of what was found
 pub found_ok : {A : Type 0} (fault : PlanFault) (o : Option A) (x : A) → ok_or o fault ≡ Ok x → o ≡ Some x
 found_ok fault None x h = absurd (cc)
-found_ok fault (Some y) x h = ap (λ z. Some z) (ok_inj y x h)
+found_ok fault (Some y) x h = ap (λ z. Some z) (ok_parts y x h)
 
 -- what is there where a snapshot, a bookmark or a source is found by its name
 snapshot_is_named : (name : List ℕ) (pool : Pool) (s : Snapshot) → find_snapshot name pool ≡ Ok s → Contains pool.snapshots s × (s.name ≡ name)
@@ -196,25 +198,25 @@ bookmark_is_named name pool b h = named_found (λ (x : Bookmark). x.name) name p
 
 source_is_named : (from : Option FromName) (pool : Pool) (source : Option Source) → find_source from pool ≡ Ok source
     → IfSome source (IsIn pool) × (option_map name_of_source source ≡ option_map name_of_from from)
-source_is_named None pool source h = let same = ok_inj None source h in subst (λ o. IfSome o (IsIn pool) × (option_map name_of_source o ≡ None)) same (tt, refl)
+source_is_named None pool source h = let same = ok_parts None source h in subst (λ o. IfSome o (IsIn pool) × (option_map name_of_source o ≡ None)) same (tt, refl)
 source_is_named (Some (Snap name)) pool source h =
     let found = bind_ok (find_snapshot name pool) (λ s. Ok (Some (OfSnapshot s))) source h in
     let is = snapshot_is_named name pool found.0 found.1 in
-    subst (λ o. IfSome o (IsIn pool) × (option_map name_of_source o ≡ Some (names.Snapshot name))) (ok_inj (Some (OfSnapshot found.0)) source found.2)
+    subst (λ o. IfSome o (IsIn pool) × (option_map name_of_source o ≡ Some (names.Snapshot name))) (ok_parts (Some (OfSnapshot found.0)) source found.2)
     (is.0, ap (λ n. Some (names.Snapshot n)) is.1)
 source_is_named (Some (Book name)) pool source h =
     let found = bind_ok (find_bookmark name pool) (λ b. Ok (Some (OfBookmark b))) source h in
     let is = bookmark_is_named name pool found.0 found.1 in
-    subst (λ o. IfSome o (IsIn pool) × (option_map name_of_source o ≡ Some (names.Bookmark name))) (ok_inj (Some (OfBookmark found.0)) source found.2)
+    subst (λ o. IfSome o (IsIn pool) × (option_map name_of_source o ≡ Some (names.Bookmark name))) (ok_parts (Some (OfBookmark found.0)) source found.2)
     (is.0, ap (λ n. Some (names.Bookmark n)) is.1)
 
 redaction_is_named : (redact : Option (List ℕ)) (pool : Pool) (list : Option Bookmark) → find_redaction redact pool ≡ Ok list
     → IfSome list (Contains pool.bookmarks) × (option_map (λ bookmark. bookmark.name) list ≡ redact)
-redaction_is_named None pool list h = let same = ok_inj None list h in subst (λ (o : Option Bookmark). IfSome o (Contains pool.bookmarks) × (option_map (λ bookmark. bookmark.name) o ≡ None)) same (tt, refl)
+redaction_is_named None pool list h = let same = ok_parts None list h in subst (λ (o : Option Bookmark). IfSome o (Contains pool.bookmarks) × (option_map (λ bookmark. bookmark.name) o ≡ None)) same (tt, refl)
 redaction_is_named (Some name) pool list h =
     let found = bind_ok (find_bookmark name pool) (λ b. Ok (Some b)) list h in
     let is = bookmark_is_named name pool found.0 found.1 in
-    subst (λ (o : Option Bookmark). IfSome o (Contains pool.bookmarks) × (option_map (λ bookmark. bookmark.name) o ≡ Some name)) (ok_inj (Some found.0) list found.2)
+    subst (λ (o : Option Bookmark). IfSome o (Contains pool.bookmarks) × (option_map (λ bookmark. bookmark.name) o ≡ Some name)) (ok_parts (Some found.0) list found.2)
     (is.0, ap (λ n. Some n) is.1)
 
 -- what passed each check
@@ -232,10 +234,6 @@ redaction_passed pool s (Some bookmark) rest sent there h =
     let ok = unless_ok (not (redacts_snapshot bookmark s)) (plans.NotRedactionOf bookmark.name s.name) rest sent h in
     let yes_it = not-false (redacts_snapshot bookmark s) ok.0 in
     (record { there = there; guid = grind (yes_it, nat_tests, arith); guids = grind (yes_it, nat_tests, arith) }, ok.1)
-
-no_guids : (guids : List ℕ) → has_guids guids ≡ false → guids ≡ []
-no_guids [] h = refl
-no_guids (x ∷ xs) h = let more : nat_lt 0 (suc (length xs)) ≡ true = grind (nat_tests, arith) in absurd (true≢false (sym more ∙ h))
 
 relay_passed : (s : Snapshot) (source : Option Source) (rest : Result Sent PlanFault) (sent : Sent) → if_no_relay s source rest ≡ Ok sent
     → (s.redact ≡ []) × IfSome source IsWhole × (rest ≡ Ok sent)
@@ -273,7 +271,7 @@ planned_of_pool ask pool sent lawful h =
     let past_redaction = redaction_passed pool s.0 l.0 (if_no_relay s.0 f.0 (Ok made)) sent list.0 past_before.1 in
     let past_relay = relay_passed s.0 f.0 (Ok made) sent past_redaction.1 in
     let owner = All-contains (λ x. HasDataset pool (dataset_of_snapshot x)) pool.snapshots s.0 lawful.linked.snapshots own.0 in
-    subst (IsPlanned ask pool) (ok_inj made sent past_relay.2) (record {
+    subst (IsPlanned ask pool) (ok_parts made sent past_relay.2) (record {
       is_of = record {
         snapshot = own.0;
         dataset = owner.0;
@@ -355,4 +353,4 @@ plan_has_found ask pool sent h =
     let past_before = before_passed pool s.0 f.0 (if_redaction s.0 l.0 (if_no_relay s.0 f.0 (Ok made))) sent l.2 in
     let past_redaction = redaction_passed pool s.0 l.0 (if_no_relay s.0 f.0 (Ok made)) sent list.0 past_before.1 in
     let past_relay = relay_passed s.0 f.0 (Ok made) sent past_redaction.1 in
-    subst (HasFound ask pool) (ok_inj made sent past_relay.2) (record { snapshot = s.1; source = f.1; redaction = l.1; kind = refl })
+    subst (HasFound ask pool) (ok_parts made sent past_relay.2) (record { snapshot = s.1; source = f.1; redaction = l.1; kind = refl })

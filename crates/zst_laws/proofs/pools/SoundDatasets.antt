@@ -1,5 +1,5 @@
 -- A command that makes a new dataset, a clone or none, keeps a pool sound.
-use Rattle.std.proofs.Common.{◌≡◌, ◌≢◌, ◌⊎◌, inl, inr, ℕ, ◌+◌, ◌≤◌, List, Some, None, AllPairs, Contains, refl, subst, sym, ◌∙◌, ap, arith}
+use Rattle.std.proofs.Common.{◌≡◌, ◌⊎◌, inl, inr, ℕ, ◌+◌, ◌≤◌, List, Some, None, Contains, refl, subst, sym, ◌∙◌, ap, arith}
 use Rattle.std.proofs.lemmas.List.Elements.{All-contains}
 use Rattle.std.proofs.lemmas.Option.{same_Some}
 use Rattle.zst_model.specs.pools.Pool.{Pool, Dataset, Snapshot, Partial, HasDataset, IsLinked, IsNamed, dataset_of_snapshot, is_before, inserted}
@@ -8,9 +8,9 @@ use Rattle.zst_model.specs.pools.Rows.{snapshot_row, head_row}
 use Rattle.zst_model.specs.pools.Soundness.{Sound}
 use Rattle.zst_model.specs.pools.Step.{new_dataset, clone_of}
 use Rattle.zst_model.proofs.InsertedLaws.{contains-inserted, inserted_has_rest}
-use Rattle.zst_laws.proofs.pools.UniqueElements.{same_element}
+use Rattle.zst_model.proofs.DatedStates.{dated_higher}
+use Rattle.zst_model.proofs.UniqueElements.{same_named}
 use Rattle.zst_laws.proofs.pools.Ancestry.{HasOldOrigins, stood_before, marks_dataset, marks_number}
-use Rattle.zst_laws.proofs.histories.Agreement.{dated_higher}
 use Rattle.zst_laws.proofs.pools.Descent.{snapshot_has_row, StandsBy, Descends, source_dataset, head_stays}
 use Rattle.zst_laws.proofs.pools.OtherDatasets.{with_datasets, KeepsDatasets}
 
@@ -79,12 +79,6 @@ new_is_first pool kind name linked absent free = inr (record { none = none; date
     none source has (Earlier _ _ same below) = absent (subst (HasDataset pool) same has)
     none source has (AtOrigin _ _ origin is marks) = no_origin origin is
     none source has (BeforeOrigin _ _ origin is before) = no_origin origin is
-
--- snapshots whose names differ and that have one name are one
-same_named : (snapshots : List Snapshot) → AllPairs (λ a b. a.name ≢ b.name) snapshots → (a b : Snapshot)
-    → Contains snapshots a → Contains snapshots b → a.name ≡ b.name → a ≡ b
-same_named snapshots differ a b here there same =
-    same_element (λ c d. c.name ≢ d.name) snapshots differ a b here there (λ h. h same) (λ h. h (sym same))
 
 -- a clone: its head comes from its snapshot, which is its own origin
 module _ (pool : Pool) (name : List ℕ) (from : Dataset) (snapshot : Snapshot) (named : IsNamed pool) (linked : IsLinked pool) (sound : Sound pool)

@@ -8,8 +8,9 @@ use Rattle.zst_model.specs.pools.Rows.{head_row}
 use Rattle.zst_model.specs.pools.Step.{with_head_at, with_head}
 use Rattle.zst_model.proofs.InsertedLaws.{contains-map, map_contains}
 use Rattle.zst_model.proofs.OrderLaws.{same_bytes}
+use Rattle.zst_model.proofs.DatedStates.{dated_higher}
 use Rattle.zst_laws.proofs.pools.Rows.{name_under_head, origin_under_head}
-use Rattle.zst_laws.proofs.histories.Agreement.{Keeps, dated_higher}
+use Rattle.zst_laws.proofs.histories.Agreement.{Keeps}
 use Rattle.zst_laws.proofs.pools.Ancestry.{HasOrigins, stands_on}
 use Rattle.zst_laws.proofs.pools.Descent.{head_has_row, ComesFrom}
 use Rattle.zst_laws.proofs.pools.OtherDatasets.{with_datasets, KeepsDatasets}

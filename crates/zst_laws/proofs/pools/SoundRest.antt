@@ -10,8 +10,8 @@ use Rattle.zst_model.specs.pools.Soundness.{Sound}
 use Rattle.zst_model.specs.pools.Step.{is_newer, is_newer_bookmark, rolled_to, is_of, is_bookmark_of}
 use Rattle.zst_model.proofs.InsertedLaws.{contains-map, map_contains}
 use Rattle.zst_model.proofs.OrderLaws.{same_bytes, bytes_same}
-use Rattle.zst_laws.proofs.histories.Agreement.{dated_higher}
-use Rattle.zst_laws.proofs.pools.Filters.{filter_contains, contains-filter}
+use Rattle.zst_model.proofs.DatedStates.{dated_higher}
+use Rattle.zst_model.proofs.FilteredLists.{filter_contains, contains-filter}
 use Rattle.zst_laws.proofs.pools.Ancestry.{HasOrigins, HasOldOrigins, stands_on}
 use Rattle.zst_laws.proofs.pools.Descent.{IsRow, SnapshotRow, HeadRow, PartialRow, snapshot_has_row, row_cases, Rises, StandsBy, ComesFrom, Descends, IsNext, next_sound, snapshot_stays, head_stays, partial_stays}
 

@@ -12,9 +12,10 @@ use Rattle.zst_model.specs.pools.Soundness.{Agrees, DatedUpTo, Sound}
 use Rattle.zst_model.specs.sends.Target.{Remembers}
 use Rattle.zst_model.proofs.InsertedLaws.{contains-inserted, All-inserted, AllPairs-head, AllPairs-tail}
 use Rattle.zst_model.proofs.OrderLaws.{not_before_itself, RowIsBefore, row_before_parts}
-use Rattle.zst_laws.proofs.pools.UniqueElements.{same_element}
-use Rattle.zst_laws.proofs.pools.Ancestry.{HasOrigins, HasOldOrigins, IsAbove, stands_on, before_partial_on, stands_before_head, above_marks, above_before, above_before_head}
-use Rattle.zst_laws.proofs.histories.Agreement.{dated_higher}
+use Rattle.zst_model.proofs.DatedStates.{dated_higher}
+use Rattle.zst_model.proofs.UniqueElements.{same_element}
+use Rattle.zst_model.proofs.Ancestry.{stands_before_head}
+use Rattle.zst_laws.proofs.pools.Ancestry.{HasOrigins, HasOldOrigins, IsAbove, stands_on, before_partial_on, above_marks, above_before, above_before_head}
 use Rattle.zst_laws.proofs.pools.Descent.{Rises, IsRow, SnapshotRow, HeadRow, PartialRow, head_has_row, row_cases, ComesFrom, IsNext, next_sound, snapshot_stays, head_stays, partial_stays}
 
 -- the names of two datasets are in order

@@ -21,12 +21,14 @@ use Rattle.zst_model.specs.pools.Sessions.{Held}
 use Rattle.zst_model.specs.pools.Pool.{Pool, Dataset, Snapshot, Bookmark, Partial, HasDataset, IsKind, IsPool}
 use Rattle.zst_model.specs.pools.Soundness.{Sound}
 use Rattle.zst_model.specs.pools.Step.{Stepped, stepped, IsCommand, committed, with_head, in_numbers, in_indices, applied, filled, written, punched, on_head, new_dataset, with_dataset, with_snapshot, snapshot_of, clone_of, with_clone, bookmark_of, with_bookmark, with_rollback, with_destroyed, with_aborted}
+use Rattle.zst_model.proofs.FilteredLists.{filter_contains}
+use Rattle.zst_model.proofs.ObjectNumbers.{number_from}
+use Rattle.zst_model.proofs.Results.{ok_parts, bind_ok}
 use Rattle.zst_laws.specs.StepInvariants.{StepsKeepSound}
 use Rattle.zst_laws.specs.RememberedStates.{SourceRemembers, StepsRemember}
-use Rattle.zst_laws.proofs.sends.AppliedItemLemmas.{bind_ok, ok_inj}
 use Rattle.zst_laws.proofs.pools.Rows.{named_found, none_named, of_applying_ok, limited_ok, committed_ok, on_head_ok}
 use Rattle.zst_laws.proofs.pools.AcceptedCommands.{with_dataset_ok, with_snapshot_ok, with_clone_ok, with_bookmark_ok, read_keeps, list_keeps, list_objects_keeps}
-use Rattle.zst_laws.proofs.pools.LawfulHeads.{number_from, object_items, object_items_are_lawful}
+use Rattle.zst_laws.proofs.pools.LawfulHeads.{object_items, object_items_are_lawful}
 use Rattle.zst_laws.proofs.histories.Agreement.{Keeps, keeps_one, keeps_all}
 use Rattle.zst_laws.proofs.pools.Descent.{Rises, IsNext, next_remembers}
 use Rattle.zst_laws.proofs.pools.OtherDatasets.{KeepsDatasets, datasets_next, datasets_sound}
@@ -34,7 +36,6 @@ use Rattle.zst_laws.proofs.pools.SoundHeads.{head_keeps}
 use Rattle.zst_laws.proofs.pools.SoundDatasets.{with_new, dataset_keeps, new_is_first, clone_comes}
 use Rattle.zst_laws.proofs.pools.SoundBookmarks.{bookmark_next, bookmark_sound}
 use Rattle.zst_laws.proofs.pools.SoundRest.{fewer_next, fewer_sound, left_next, left_sound, rolled_next, rolled_sound, aborted_next, aborted_sound}
-use Rattle.zst_laws.proofs.pools.Filters.{filter_contains}
 use Rattle.zst_laws.proofs.pools.AcceptedRemovals.{with_rollback_ok, dataset_destroyed_ok, snapshot_destroyed_ok, bookmark_destroyed_ok, with_aborted_ok}
 use Rattle.zst_laws.proofs.pools.SoundSnapshots.{IsNew, snapshot_next, snapshot_sound}
 
@@ -180,7 +181,7 @@ within_keeps : (pool : Pool) (item : Item) (past : ℕ) (head after : DatedState
 within_keeps pool item past head after s h =
     let made = bind_ok (applied pool (item ∷ []) head) (λ made. in_indices past (Ok made)) after h in
     let below = limited_ok quantities.Block index_bound past (Ok made.0) after made.2 in
-    subst (Keeps (pool.number + 1) head) (ok_inj made.0 after below.1) (one_keeps pool item head made.0 s made.1)
+    subst (Keeps (pool.number + 1) head) (ok_parts made.0 after below.1) (one_keeps pool item head made.0 s made.1)
 
 write_keeps : (pool : Pool) (k i : ℕ) (bytes : List ℕ) (head after : DatedState) → IsState head.state → written pool k i bytes head ≡ Ok after → Keeps (pool.number + 1) head after
 write_keeps pool k i bytes head after s h =

@@ -1,14 +1,13 @@
 -- Which commands are refused, and with what.
 use Rattle.std.proofs.Common.{◌≡◌, ℕ, ◌+◌, ◌*◌, ◌-◌, ◌<◌, ◌≤◌, Bool, true, false, not, List, [], ◌∷◌, length, map, replicate, cond, count_by, Option, Some, None, is_some, Result, Ok, Err, refl, sym, ap, ◌∙◌, arith, subst, ◌==◌, nat_lt, ◌&&◌, ◌||◌, if◌then◌else◌, eq-eqb, ne_eqb, length-append, mul-le-mul_right}
 use Rattle.std.proofs.Math.Nat.{mul-mod_left}
-use Rattle.std.proofs.lemmas.Bool.{lt-ltb, le-ltb, or_from, and_from, and_left, not_from_true}
+use Rattle.std.proofs.lemmas.Bool.{lt-ltb, or_from, and_from, and_left, not_from_true}
 use Rattle.std.proofs.lemmas.List.{length-replicate}
 use Rattle.std.proofs.lemmas.List.Sums.{count_by-le-length}
 use Rattle.zst_model.specs.declared.refusals.apply_fault.ApplyFault.TheVariants.{NoObject, SizeDiffers, Unaligned, OddBlock}
 use Rattle.zst_model.specs.declared.states.attr.ObjectHead.{ObjectHead}
 use Rattle.zst_model.specs.declared.pools.command.Command.{Command}
 use Rattle.zst_model.specs.declared.pools.command.Command.TheVariants as commands
-use Rattle.zst_model.specs.declared.refusals.faults.Quantity.{Quantity}
 use Rattle.zst_model.specs.declared.refusals.faults.Quantity.TheVariants as quantities
 use Rattle.zst_model.specs.declared.refusals.apply_fault.ApplyFault.{ApplyFault}
 use Rattle.zst_model.specs.declared.states.item.Change.{Change}
@@ -26,6 +25,7 @@ use Rattle.zst_model.specs.pools.Pool.{Pool, Dataset, Partial, dataset_named, sn
 use Rattle.zst_model.specs.pools.Step.{Stepped, stepped, no_such, exists_already, busy_partial, cannot_apply, or_else, of_applying, last_number, last_guid, most_datasets, most_snapshots, limited, in_numbers, in_indices, committed, with_head, count_datasets, new_dataset, with_dataset, on_dataset, on_head, applied, filled, written, punched, snapshot_of, state_named, answered, block_read}
 use Rattle.zst_model.specs.pools.AnswerLines.{object_lines}
 use Rattle.zst_model.specs.sends.Items.{spill_change}
+use Rattle.zst_model.proofs.PassedLimits.{over, within_limit}
 use Rattle.zst_laws.proofs.sends.AppliedItemLemmas.{aligned_from, put_here}
 use Rattle.zst_laws.specs.StepRefusals.{made_by, taken_by, dataset_before, IsUnused, HasFree, IsTakeable, DatasetIsThere, TargetIsThere, DatasetsAreFull, TargetsCount, DatasetHasNoNumber, DatasetIsAbsent, DatasetIsBusy, NumberIsFar, NumbersAreFar, ObjectHasNoNumber, WriteHasNoNumber, PunchHasNoNumber, FreeHasNoNumber, WriteWantsObject, WriteIsLong, WriteIsOdd, WriteIsFar, OddSizes, PunchWantsObject, PunchIsFar, SnapshotIsThere, SnapshotsAreFull, GuidsAreOver, SnapshotHasNoNumber, NameIsAbsent, ReadWantsObject, ReadIsRedacted, ReadIsFar}
 
@@ -35,13 +35,6 @@ refused t e r h = ap (λ u. unless u e r) h
 
 pub passed : {A E : Type 0} (t : Bool) (e : E) (r : Result A E) → t ≡ false → unless t e r ≡ r
 passed t e r h = ap (λ u. unless u e r) h
-
--- limits
-pub over : {A : Type 0} (which : Quantity) (most quantity : ℕ) (r : Result A Refusal) → most < quantity → limited which most quantity r ≡ Err (refusals.Limit which most)
-over which most quantity r l = refused (nat_lt most quantity) _ r (lt-ltb _ _ l)
-
-pub within_limit : {A : Type 0} (which : Quantity) (most quantity : ℕ) (r : Result A Refusal) → quantity ≤ most → limited which most quantity r ≡ r
-within_limit which most quantity r l = passed (nat_lt most quantity) _ r (le-ltb _ _ l)
 
 -- a pool at the last number commits nothing
 pub no_number : (pool : Pool) → pool.number ≡ 9223372036854775808 → committed pool ≡ Err (refusals.Limit quantities.Number 9223372036854775808)

@@ -10,27 +10,12 @@ use Rattle.zst_model.specs.declared.refusals.apply_fault.ApplyFault.{ApplyFault}
 use Rattle.zst_model.specs.states.AppliedItems.{apply, apply_all, ◌>>=◌, within, put_at, unless, is_unaligned}
 
 -- the laws of `>>=` and of `unless`
-pub bind-ok : {A : Type 0} (r : Result A ApplyFault) → (r >>= λ x. Ok x) ≡ r
-bind-ok (Ok x) = refl
-bind-ok (Err e) = refl
-
 pub bind-bind : {A B C : Type 0} (r : Result A ApplyFault) (f : A → Result B ApplyFault) (g : B → Result C ApplyFault) → ((r >>= f) >>= g) ≡ (r >>= λ x. f x >>= g)
 bind-bind (Ok x) f g = refl
 bind-bind (Err e) f g = refl
 
-pub bind_ok : {A B E : Type 0} (r : Result A E) (f : A → Result B E) (y : B) → (r >>= f) ≡ Ok y → (x : A) × (r ≡ Ok x) × (f x ≡ Ok y)
-bind_ok (Ok x) f y e = (x, refl, e)
-bind_ok (Err e) f y h = absurd (cc)
-
-pub unless_ok : {A E : Type 0} (b : Bool) (e : E) (r : Result A E) (x : A) → unless b e r ≡ Ok x → (b ≡ false) × (r ≡ Ok x)
-unless_ok true e r x h = absurd (cc)
-unless_ok false e r x h = (refl, h)
-
 pub unless_from : {A : Type 0} (b : Bool) (e : ApplyFault) (r : Result A ApplyFault) → b ≡ false → unless b e r ≡ r
 unless_from b e r h = ap (λ c. unless c e r) h
-
-pub ok_inj : {A E : Type 0} (x y : A) → ◌≡◌ {A = Result A E} (Ok x) (Ok y) → x ≡ y
-ok_inj x y h = cc
 
 pub apply_all-append : (xs ys : List Item) (s : State) → apply_all (xs ++ ys) s ≡ (apply_all xs s >>= apply_all ys)
 apply_all-append [] ys s = refl

@@ -12,7 +12,8 @@ use Rattle.zst_model.specs.sends.View.{ObjectView, There, IsShown, MayShow}
 use Rattle.zst_model.specs.sends.Items.{rising, change_at, block_change}
 use Rattle.zst_model.specs.sends.Points.{point_after, point_of}
 use Rattle.zst_model.specs.sends.CutReceives.{block_at, StandsAt}
-use Rattle.zst_laws.proofs.sends.AppliedItemLemmas.{ok_inj, put_here, put_other, put_same}
+use Rattle.zst_model.proofs.Results.{ok_parts}
+use Rattle.zst_laws.proofs.sends.AppliedItemLemmas.{put_here, put_other, put_same}
 use Rattle.zst_laws.proofs.sends.Blocks.{apply_changes-append, opened, opening_applies, settled, block_from, one_change}
 use Rattle.zst_laws.proofs.sends.ExactSends.{inside_range, place_below}
 
@@ -112,8 +113,8 @@ module _ (view : ObjectView) (shown : IsShown (There view)) (offset : ℕ) (base
 
   pub going_stands : (a : ℕ) (f : ℕ → Block) (o : ℕ) → Going a f o → StandsAt (There view) o base whole (Some (record { attr = view.attr; blocks = f }))
   going_stands a f o g from from_base e e' i l =
-      let opened_from : from ≡ Some (record { attr = view.attr; blocks = opened view (Some (record { attr = view.attr; blocks = f })) }) = ok_inj _ _ (sym e ∙ opening_applies view (Some (record { attr = view.attr; blocks = f }))) in
-      let opened_base : from_base ≡ Some (record { attr = view.attr; blocks = opened view base }) = ok_inj _ _ (sym e' ∙ opening_applies view base) in
+      let opened_from : from ≡ Some (record { attr = view.attr; blocks = opened view (Some (record { attr = view.attr; blocks = f })) }) = ok_parts _ _ (sym e ∙ opening_applies view (Some (record { attr = view.attr; blocks = f }))) in
+      let opened_base : from_base ≡ Some (record { attr = view.attr; blocks = opened view base }) = ok_parts _ _ (sym e' ∙ opening_applies view base) in
       let here : block_at from i ≡ f i = ap (λ b. block_at b i) opened_from ∙ opened_again f i l in
       ((λ low. here ∙ g.below i l low), (λ high. here ∙ g.rest i l high ∙ sym (ap (λ b. block_at b i) opened_base)))
 
@@ -209,7 +210,7 @@ module _ (view : ObjectView) (shown : IsShown (There view)) (offset : ℕ) (base
   pub blocks_front : (n a : ℕ) (f : ℕ → Block) (o : ℕ) (cs rest : List Change) → a + n ≡ view.end → Going a f o
       → cs ++ rest ≡ flat_map (change_at view offset) (rising a n) → (z : Option Object) → apply_changes cs (Some (record { attr = view.attr; blocks = f })) ≡ Ok z → Stopped cs o z
   unfolding rising
-  blocks_front zero a f o [] rest n g e z r = record { after = o; comes = refl; stands = subst (StandsAt (There view) o base whole) (ok_inj _ _ r) (going_stands a f o g) }
+  blocks_front zero a f o [] rest n g e z r = record { after = o; comes = refl; stands = subst (StandsAt (There view) o base whole) (ok_parts _ _ r) (going_stands a f o g) }
   blocks_front zero a f o (c ∷ cs) rest n g e z r = absurd (cc)
   blocks_front (suc m) a f o cs rest n g e z r = go (part cs rest (change_at view offset a) (flat_map (change_at view offset) (rising (suc a) m)) e) (λ more later. blocks_front m (suc a) f' stepped.after more rest (omega arith) stepped.going later z)
     where
@@ -229,7 +230,7 @@ module _ (view : ObjectView) (shown : IsShown (There view)) (offset : ℕ) (base
       none s = subst (λ l. Stopped l o z) (sym s) (record {
         after = o;
         comes = refl;
-        stands = subst (StandsAt (There view) o base whole) (ok_inj _ _ (subst (λ l. apply_changes l (Some (record { attr = view.attr; blocks = f })) ≡ Ok z) s r)) (going_stands a f o g);
+        stands = subst (StandsAt (There view) o base whole) (ok_parts _ _ (subst (λ l. apply_changes l (Some (record { attr = view.attr; blocks = f })) ≡ Ok z) s r)) (going_stands a f o g);
       })
 
       one : cs ≡ change_at view offset a → Stopped cs o z
@@ -237,7 +238,7 @@ module _ (view : ObjectView) (shown : IsShown (There view)) (offset : ℕ) (base
         after = stepped.after;
         comes = stepped.comes;
         stands = subst (StandsAt (There view) stepped.after base whole)
-            (ok_inj _ _ (sym applied ∙ subst (λ l. apply_changes l (Some (record { attr = view.attr; blocks = f })) ≡ Ok z) s r)) (going_stands (suc a) f' stepped.after stepped.going);
+            (ok_parts _ _ (sym applied ∙ subst (λ l. apply_changes l (Some (record { attr = view.attr; blocks = f })) ≡ Ok z) s r)) (going_stands (suc a) f' stepped.after stepped.going);
       })
 
       go : parted_in cs (change_at view offset a) ⊎ parted_past cs rest (change_at view offset a) (flat_map (change_at view offset) (rising (suc a) m))

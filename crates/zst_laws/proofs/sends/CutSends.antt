@@ -14,6 +14,8 @@ use Rattle.zst_model.specs.sends.View.{View, ObjectView, Shown, Left, Gone, Ther
 use Rattle.zst_model.specs.sends.Items.{put_change, tail_change, origin, items, single_items, joined, before, before_item, join, join_changes, items_at, rising, spill_change, opening, block_changes, number_items}
 use Rattle.zst_model.specs.sends.Points.{point_after, point_of}
 use Rattle.zst_model.specs.sends.CutReceives.{block_at, StandsAt, Between, StandsFor}
+use Rattle.zst_model.proofs.Results.{ok_parts, bind_ok}
+use Rattle.zst_model.proofs.EmptyLists.{nothing_left}
 use Rattle.zst_laws.specs.ResumedSends.{StartStands, CutStands}
 use Rattle.std.proofs.lemmas.Bool.Decides.{nat_tests}
 use Rattle.std.proofs.lemmas.List.{map-append}
@@ -24,7 +26,7 @@ use Rattle.zst_laws.proofs.sends.Ends.{number_range}
 use Rattle.zst_laws.proofs.sends.ExactSends.{from_origin, place_below}
 use Rattle.zst_laws.proofs.sends.ResumedSends.{whole_is, made_same}
 use Rattle.zst_laws.proofs.sends.CutBlocks.{map_part, part, parted_in, parted_past, point_of-append, none_or_all, begins, blocks_front}
-use Rattle.zst_laws.proofs.sends.AppliedItemLemmas.{put_here, put_other, ok_inj, bind_ok, apply_all-append}
+use Rattle.zst_laws.proofs.sends.AppliedItemLemmas.{put_here, put_other, apply_all-append}
 use Rattle.zst_laws.proofs.sends.Joins.{join_applies, joined_if, joined_if', mapped}
 
 -- the end of a run of numbers is not cut
@@ -123,7 +125,7 @@ front_of (u ∷ us) (d ∷ ds) rest h = front_before u us (joined us) ds d rest 
 stands_like : (shown : ObjectView) (offset : ℕ) (base whole x x' : Option Object) → StandsAt (There shown) offset base whole x
     → ((i : ℕ) → i < shown.end → opened shown x' i ≡ opened shown x i) → StandsAt (There shown) offset base whole x'
 stands_like shown offset base whole x x' h same from from_base e e' i l =
-    let opened_from : from ≡ Some (record { attr = shown.attr; blocks = opened shown x' }) = ok_inj _ _ (sym e ∙ opening_applies shown x') in
+    let opened_from : from ≡ Some (record { attr = shown.attr; blocks = opened shown x' }) = ok_parts _ _ (sym e ∙ opening_applies shown x') in
     let here : block_at from i ≡ opened shown x i = ap (λ b. block_at b i) opened_from ∙ same i l in
     let known = h (Some (record { attr = shown.attr; blocks = opened shown x })) from_base (opening_applies shown x) e' i l in
     ((λ low. here ∙ known.0 low), (λ high. here ∙ known.1 high))
@@ -132,7 +134,7 @@ stands_like shown offset base whole x x' h same from from_base e e' i l =
 pub stands_start : (shown : Shown) (base whole : Option Object) → StandsAt shown 0 base whole base
 stands_start Left base whole = refl
 stands_start Gone base whole = refl
-stands_start (There object) base whole = λ from from_base e e' i l. ((λ low. absurd (omega arith)), (λ high. ap (λ o. block_at o i) (ok_inj _ _ (sym e ∙ e'))))
+stands_start (There object) base whole = λ from from_base e e' i l. ((λ low. absurd (omega arith)), (λ high. ap (λ o. block_at o i) (ok_parts _ _ (sym e ∙ e'))))
 
 -- a front of the opening, with something in it, opens to the same, and comes to the object
 pub record Opens (shown : ObjectView) (o : Option Object) (k : ℕ) (cs : List Change) : Type 0 where
@@ -209,10 +211,6 @@ module _ (shown : ObjectView) (lawful : IsShown (There shown)) (o : Option Objec
           (λ e. subst (λ l. Opens shown o k (put_change shown ∷ l)) (sym (s ∙ ap (λ r. spill_change shown.attr.spill ++ r) e ∙ append-nil (spill_change shown.attr.spill))) opens_head)
           (λ e. subst (λ l. Opens shown o k (put_change shown ∷ l)) (sym (s ∙ ap (λ r. spill_change shown.attr.spill ++ r) e)) opens_all)
           (none_or_all rest more (tail_change shown ∷ []) (omega arith) t)
-
-pub nothing_left : {A : Type 0} (is rest : List A) → is ++ rest ≡ [] → is ≡ []
-nothing_left [] rest e = refl
-nothing_left (i ∷ is) rest e = absurd (cc)
 
 past_range : (a j : ℕ) → a < j → within a 1 j ≡ false
 past_range a j m = grind (arith, nat_tests)
@@ -292,13 +290,13 @@ module _ (view : View) (base : State) (point : Point) (x : State) (v : IsView vi
   halted_gone : (a : ℕ) (items rest : List Item) (y z : State) (q : Point) → Passing a y q → point.object ≤ a → is_number a ≡ true → view.shown a ≡ Gone
       → items ++ rest ≡ FreeObjects a 1 ∷ [] → apply_all items y ≡ Ok z → Halted a items y z q
   unfolding apply
-  halted_gone a [] rest y z q p l n s e r = halted_none a y z q p (ok_inj _ _ r)
+  halted_gone a [] rest y z q p l n s e r = halted_none a y z q p (ok_parts _ _ r)
   halted_gone a (i ∷ is) rest y z q p l n s e r =
       let heads : i ≡ FreeObjects a 1 = cc in
       let tails : is ++ rest ≡ [] = cc in
       let empty : is ≡ [] = nothing_left is rest tails in
       let all : i ∷ is ≡ FreeObjects a 1 ∷ [] = λ t. heads t ∷ empty t in
-      let made_z : (λ j. if within a 1 j then None else y j) ≡ z = ok_inj _ _ (subst (λ w. apply_all w y ≡ Ok z) all r) in
+      let made_z : (λ j. if within a 1 j then None else y j) ≡ z = ok_parts _ _ (subst (λ w. apply_all w y ≡ Ok z) all r) in
       subst (λ w. Halted a w y z q) (sym all) (record {
         between = subst (λ o. Between view base h.whole (record { object = o; offset = 0 }) z) (sym uncut) (subst (Between view base h.whole (record { object = a + 1; offset = 0 })) made_z (record {
           below = λ j m. below j m (cases_eq j a);
@@ -344,7 +342,7 @@ module _ (view : View) (base : State) (point : Point) (x : State) (v : IsView vi
       halts cs o w t c u k =
           let run : apply_all items y ≡ Ok (put_at y a w) =
           ap (λ i. apply_all i y) t ∙ changes_at a cs y ∙ ap (λ b. apply_changes cs b >>= λ o. Ok (put_at y a o)) old ∙ ap (λ r. r >>= λ o. Ok (put_at y a o)) u in
-          let same : put_at y a w ≡ z = ok_inj _ _ (sym run ∙ r) in
+          let same : put_at y a w ≡ z = ok_parts _ _ (sym run ∙ r) in
           let to : point_of q items ≡ record { object = a; offset = o } = ap (point_of q) t ∙ c in
           record {
             between = subst (λ g. Between view base h.whole g z) (sym to) (subst (Between view base h.whole (record { object = a; offset = o })) same
@@ -353,7 +351,7 @@ module _ (view : View) (base : State) (point : Point) (x : State) (v : IsView vi
           }
 
       go : (cs more : List Change) → items ≡ map (At a) cs → cs ++ more ≡ opening shown ++ block_changes shown (offset_at point a) → Halted a items y z q
-      go [] more t u = subst (λ i. Halted a i y z q) (sym t) (halted_none a y z q p (ok_inj _ _ (subst (λ i. apply_all i y ≡ Ok z) t r)))
+      go [] more t u = subst (λ i. Halted a i y z q) (sym t) (halted_none a y z q p (ok_parts _ _ (subst (λ i. apply_all i y ≡ Ok z) t r)))
       go (c ∷ cs) more t u = parts_of (part (c ∷ cs) more (opening shown) (block_changes shown (offset_at point a)) u)
         where
           within_opening : (rest : List Change) → (c ∷ cs) ++ rest ≡ opening shown → Halted a items y z q
@@ -387,7 +385,7 @@ module _ (view : View) (base : State) (point : Point) (x : State) (v : IsView vi
       nothing : items ++ rest ≡ [] → Halted a items y z q
       nothing f =
           let empty = nothing_left items rest f in
-          subst (λ i. Halted a i y z q) (sym empty) (halted_none a y z q p (ok_inj _ _ (subst (λ i. apply_all i y ≡ Ok z) empty r)))
+          subst (λ i. Halted a i y z q) (sym empty) (halted_none a y z q p (ok_parts _ _ (subst (λ i. apply_all i y ≡ Ok z) empty r)))
 
       seen : (w : Shown) → view.shown a ≡ w → point.object ≤ a → items ++ rest ≡ number_items a (offset_at point a) w → Halted a items y z q
       seen Left s l f = nothing f
@@ -451,7 +449,7 @@ module _ (view : View) (base : State) (point : Point) (x : State) (v : IsView vi
   numbers_front : (n a : ℕ) (items rest : List Item) (y z : State) (q : Point) → 0 < a → a + n ≡ number_bound → Passing a y q
       → items ++ rest ≡ flat_map (items_at view point) (rising a n) → apply_all items y ≡ Ok z → Between view base h.whole (point_of q items) z
   unfolding rising
-  numbers_front zero a [] rest y z q pos n p e r = subst (Between view base h.whole q) (ok_inj _ _ r) p.between
+  numbers_front zero a [] rest y z q pos n p e r = subst (Between view base h.whole q) (ok_parts _ _ r) p.between
   numbers_front zero a (i ∷ is) rest y z q pos n p e r = absurd (cc)
   numbers_front (suc m) a items rest y z q pos n p e r =
       go (part items rest (items_at view point a) (flat_map (items_at view point) (rising (suc a) m)) e)
@@ -512,7 +510,7 @@ pub cut_stand : CutStands
 cut_stand view base point x done rest y v h e r =
     let front = front_of (single_items view point) done rest e in
     let parts = bind_ok (apply_all front.first x) (apply_all front.later) _ (sym (apply_all-append front.first front.later x) ∙ ap (λ l. apply_all l x) front.splits ∙ singles_apply view point x v) in
-    let same : parts.0 ≡ y = ok_inj _ _ (sym (front.applies x parts.0 parts.1) ∙ r) in
+    let same : parts.0 ≡ y = ok_parts _ _ (sym (front.applies x parts.0 parts.1) ∙ r) in
     record {
       whole = h.whole;
       is_target = h.is_target;

@@ -1,25 +1,15 @@
 -- Ends of objects, and tests over a range.
-use Rattle.std.proofs.Common.{eq-eqb, inl, inr, ◌⊎◌, ◌≡◌, ℕ, zero, suc, pred, ◌<◌, ◌≤◌, Bool, true, false, cond, Option, Some, None, refl, sym, ap, ◌∙◌, arith, ◌==◌, nat_lt, ◌&&◌, ◌||◌, if◌then◌else◌, length}
-use Rattle.std.proofs.lemmas.Bool.{cases_eq, or_left, or_right, true≢false}
+use Rattle.std.proofs.Common.{eq-eqb, inl, inr, ◌⊎◌, ◌≡◌, ℕ, zero, suc, pred, ◌<◌, ◌≤◌, Bool, true, false, cond, Option, Some, None, refl, sym, ap, ◌∙◌, arith, ◌==◌, nat_lt, ◌&&◌, if◌then◌else◌, length}
+use Rattle.std.proofs.lemmas.Bool.{cases_eq, true≢false}
 use Rattle.std.proofs.lemmas.Bool.Decides.{nat_tests}
 use Rattle.zst_model.specs.states.State.{Block, Hole, Redacted, Data, Object, is_hole, past_last, Empty, block_content, content_at, BlockFits, IsObject, IsObjectOrNone}
 use Rattle.zst_model.specs.states.AppliedItems.{within}
-use Rattle.zst_model.specs.sends.Inclusion.{any_below}
 use Rattle.zst_laws.proofs.sends.Blocks.{kept}
 
 hole_of : (b : Block) → is_hole b ≡ true → b ≡ Hole
 hole_of Hole h = refl
 hole_of Redacted h = absurd (cc)
 hole_of (Data bytes) h = absurd (cc)
-
-past_step : (t : Bool) (n rest : ℕ) → rest ≤ n → cond t rest (suc n) ≤ suc n
-past_step true n rest h = omega arith
-past_step false n rest h = omega arith
-
-pub past_bounded : (blocks : ℕ → Block) (n : ℕ) → past_last blocks n ≤ n
-unfolding past_last
-past_bounded blocks zero = omega arith
-past_bounded blocks (suc n) = past_step (is_hole (blocks n)) n (past_last blocks n) (past_bounded blocks n)
 
 hole_step : (blocks : ℕ → Block) (n i : ℕ) (t : Bool) → is_hole (blocks n) ≡ t → cond t (past_last blocks n) (suc n) ≤ i → i < suc n → (past_last blocks n ≤ i → i < n → blocks i ≡ Hole) → blocks i ≡ Hole
 hole_step blocks n i true e h l earlier = go (cases_eq i n)
@@ -34,15 +24,6 @@ pub past_end : (blocks : ℕ → Block) (n i : ℕ) → past_last blocks n ≤ i
 unfolding past_last
 past_end blocks zero i h l = absurd (omega arith)
 past_end blocks (suc n) i h l = hole_step blocks n i (is_hole (blocks n)) refl h l (past_end blocks n i)
-
-pub any_passes : (test : ℕ → Bool) (n i : ℕ) → i < n → test i ≡ true → any_below test n ≡ true
-unfolding any_below
-any_passes test zero i l h = absurd (omega arith)
-any_passes test (suc n) i l h = go (λ m. any_passes test n i m h) (cases_eq i n)
-  where
-    go : (i < n → any_below test n ≡ true) → (i ≡ n) ⊎ (i ≡ n → ⊥) → (test n || any_below test n) ≡ true
-    go earlier (inl s) = or_left (test n) (any_below test n) (ap test (sym s) ∙ h)
-    go earlier (inr s) = or_right (test n) (any_below test n) (earlier (omega arith))
 
 -- the numbers that a pass goes over
 pub number_range : (n k : ℕ) → within 1 (pred n) k ≡ (nat_lt 0 k && nat_lt k n)

@@ -12,12 +12,15 @@ use Rattle.zst_model.specs.sends.View.{View, Left, There, shown_block, object_vi
 use Rattle.zst_model.specs.sends.Items.{origin}
 use Rattle.zst_model.proofs.Sizes.{size_of_lawful}
 use Rattle.zst_model.specs.sends.Target.{redacted, redacted_object, MayRedact, CanRedact, BaseOk}
+use Rattle.zst_model.proofs.BlockEnds.{past_bounded}
+use Rattle.zst_model.proofs.IndexTests.{any_passes}
+use Rattle.zst_model.proofs.ObjectNumbers.{absent_outside}
 use Rattle.zst_laws.specs.Bases.{AnyIsFullBase}
 use Rattle.zst_laws.specs.ExactSends.{RedactedIsState, SnapshotHasView, full, FullIsExact, SendIsExact}
 use Rattle.zst_laws.proofs.sends.Fold.{swept}
 use Rattle.zst_laws.proofs.sends.Blocks.{opened, block_from}
 use Rattle.zst_laws.proofs.sends.Numbers.{made, made_from, items_apply}
-use Rattle.zst_laws.proofs.sends.Ends.{past_bounded, past_end, any_passes, number_range, same_content, kept_content}
+use Rattle.zst_laws.proofs.sends.Ends.{past_end, number_range, same_content, kept_content}
 
 -- a listed pair is below the end
 data_below : (object : Object) (i : ℕ) → IsObject object → (object.blocks i ≡ Hole → ⊥) → i < end_of object
@@ -67,14 +70,6 @@ below_bound (Some object) i l = omega (arith, past_bounded object.blocks index_b
 no_attr : (o : Option Object) → attr_at o ≡ None → o ≡ None
 no_attr None e = refl
 no_attr (Some object) e = absurd (cc)
-
-pub absent_outside : (state : State) → IsState state → (k : ℕ) → is_number k ≡ false → state k ≡ None
-absent_outside state s k e = go (cases_lt 0 k) (cases_lt k number_bound)
-  where
-    go : (0 < k) ⊎ (k ≤ 0) → (k < number_bound) ⊎ (number_bound ≤ k) → state k ≡ None
-    go (inr z) b = let same : k ≡ 0 = omega arith in ap state same ∙ s.zero
-    go (inl p) (inr g) = s.bounded k g
-    go (inl p) (inl l) = absurd (true≢false (sym (and_from (nat_lt 0 k) (nat_lt k number_bound) (lt-ltb _ _ p) (lt-ltb _ _ l)) ∙ e))
 
 -- where an object stands, its number is one that an object may have
 pub number_there : (state : State) → IsState state → (k : ℕ) (object : Object) → state k ≡ Some object → is_number k ≡ true

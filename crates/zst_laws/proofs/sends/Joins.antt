@@ -11,7 +11,8 @@ use Rattle.zst_model.specs.declared.states.item.Item.TheVariants.{FreeObjects, A
 use Rattle.zst_model.specs.declared.refusals.apply_fault.ApplyFault.TheVariants.{Unaligned, NotUserData, OddBlock}
 use Rattle.zst_model.specs.states.AppliedItems.{apply, apply_change, apply_all, is_unaligned, ◌>>=◌, put_at}
 use Rattle.zst_model.specs.sends.Items.{join, join_changes, before, before_item, joined}
-use Rattle.zst_laws.proofs.sends.AppliedItemLemmas.{bind_ok, unless_ok, unless_from, ok_inj, range-range, aligned-add, put_here, put-put}
+use Rattle.zst_model.proofs.Results.{ok_parts, bind_ok, unless_ok}
+use Rattle.zst_laws.proofs.sends.AppliedItemLemmas.{unless_from, range-range, aligned-add, put_here, put-put}
 
 pub joined_if : {A : Type 0} (b : Bool) (x z : A) → (if b then Some x else None) ≡ Some z → (b ≡ true) × (x ≡ z)
 joined_if true x z h = (refl, cc)
@@ -31,7 +32,7 @@ unfolding apply_change
 frees_touch object x m y n p q touch a b =
     let size = object.attr.block_size in
     let first = unless_ok (is_unaligned size x || is_unaligned size m) Unaligned _ p a in
-    let again = subst (λ r. apply_change (Free y n) r ≡ Ok q) (sym (ok_inj _ p first.1)) b in
+    let again = subst (λ r. apply_change (Free y n) r ≡ Ok q) (sym (ok_parts _ p first.1)) b in
     let second = unless_ok (is_unaligned size y || is_unaligned size n) Unaligned _ q again in
     let starts = or_parts (is_unaligned size x) (is_unaligned size m) first.0 in
     let ends = or_parts (is_unaligned size y) (is_unaligned size n) second.0 in
@@ -52,7 +53,7 @@ redacts_touch object x m y n p q touch a b =
     let users = unless_ok (not (is_user_data object.attr)) NotUserData _ p a in
     let first = unless_ok (is_unaligned size x || is_unaligned size m) Unaligned _ p users.1 in
     let odd = unless_ok (is_odd_size size && (nat_lt 0 m && nat_lt size (x + m))) OddBlock _ p first.1 in
-    let again = subst (λ r. apply_change (Redact y n) r ≡ Ok q) (sym (ok_inj _ p odd.1)) b in
+    let again = subst (λ r. apply_change (Redact y n) r ≡ Ok q) (sym (ok_parts _ p odd.1)) b in
     let users' = unless_ok (not (is_user_data object.attr)) NotUserData _ q again in
     let second = unless_ok (is_unaligned size y || is_unaligned size n) Unaligned _ q users'.1 in
     let odd' = unless_ok (is_odd_size size && (nat_lt 0 n && nat_lt size (y + n))) OddBlock _ q second.1 in
@@ -64,7 +65,7 @@ redacts_touch object x m y n p q touch a b =
     ∙ ap (λ f. Ok (Some (record { attr = object.attr; blocks = f }))) (fun_ext (λ i. range-range x m y n (i * size) Redacted (object.blocks i) touch))
     ∙ odd'.1
 
-absent_free : (x m : ℕ) (p : Option Object) → apply_change (Free x m) None ≡ Ok p → ⊥
+pub absent_free : (x m : ℕ) (p : Option Object) → apply_change (Free x m) None ≡ Ok p → ⊥
 unfolding apply_change
 absent_free x m p h = cc
 
@@ -90,14 +91,14 @@ join_applies (FreeObjects f m) (FreeObjects g n) z s t u j a b =
     let parts = joined_if (f + m == g) (FreeObjects f (m + n)) z j in
     subst (λ z. apply z s ≡ Ok u) parts.1
     (ap (λ w. Ok w) (fun_ext (λ k. range-range f m g n k None (s k) (eqb-true (f + m) g parts.0)))
-    ∙ ap (λ w. apply (FreeObjects g n) w) (ok_inj _ t a) ∙ b)
+    ∙ ap (λ w. apply (FreeObjects g n) w) (ok_parts _ t a) ∙ b)
 join_applies (At k c) (At i d) z s t u j a b =
     let same = joined_if' (k == i) (option_map (At k) (join_changes c d)) z j in
     let change = mapped (At k) (join_changes c d) z same.1 in
     let first = bind_ok (apply_change c (s k)) (λ o. Ok (put_at s k o)) t a in
     let b' = subst (λ i. apply (At i d) t ≡ Ok u) (sym (eqb-true k i same.0)) b in
     let second = bind_ok (apply_change d (t k)) (λ o. Ok (put_at t k o)) u b' in
-    let mid : t ≡ put_at s k first.0 = sym (ok_inj _ t first.2) in
+    let mid : t ≡ put_at s k first.0 = sym (ok_parts _ t first.2) in
     let here : t k ≡ first.0 = ap (λ w. w k) mid ∙ put_here s k first.0 in
     let both = changes_touch c d change.0 (s k) first.0 second.0 change.1 first.1 (subst (λ o. apply_change d o ≡ Ok second.0) here second.1) in
     subst (λ z. apply z s ≡ Ok u) change.2

@@ -5,8 +5,8 @@ use Rattle.std.proofs.lemmas.Bool.{cases_lt, lt-ltb}
 use Rattle.zst_model.specs.declared.refusals.apply_fault.ApplyFault.TheVariants.{Unaligned}
 use Rattle.zst_model.specs.states.State.{Hole, Object, IsObject, is_number, index_bound}
 use Rattle.zst_model.specs.states.AppliedItems.{apply, apply_change, is_unaligned, unless, with_blocks, within}
+use Rattle.zst_model.proofs.ObjectNumbers.{absent_outside}
 use Rattle.zst_laws.specs.Ranges.{NumbersAreCut, IndicesAreCut}
-use Rattle.zst_laws.proofs.sends.ExactSends.{absent_outside}
 
 -- what is cut from a test changes nothing where the old value is the new one there
 cut_same : {A : Type 0} (test inside : Bool) (new old : A) → (inside ≡ false → old ≡ new) → (if test then new else old) ≡ (if test && inside then new else old)

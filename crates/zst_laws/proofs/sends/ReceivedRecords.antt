@@ -1,12 +1,10 @@
 -- What received records make of dated states and of partial states.
-use Rattle.std.proofs.Common.{◌≡◌, ℕ, ◌+◌, ◌*◌, ◌<◌, ◌≤◌, false, List, [], ◌∷◌, ◌++◌, length, Option, Some, None, Result, Ok, Err, refl, sym, ap, subst, ◌∙◌, arith, ◌==◌, nat_lt, eqb-true, ne_eqb, mul-le-mul_right}
+use Rattle.std.proofs.Common.{◌≡◌, ℕ, ◌+◌, ◌*◌, ◌<◌, ◌≤◌, false, List, [], ◌∷◌, length, Option, Some, None, Ok, refl, sym, ap, subst, ◌∙◌, arith, ◌==◌, nat_lt, eqb-true, ne_eqb, mul-le-mul_right}
 use Rattle.std.proofs.lemmas.Bool.{not-false, ltb-false}
 use Rattle.std.proofs.lemmas.Bool.Decides.{nat_tests}
-use Rattle.zst_model.specs.declared.refusals.apply_fault.ApplyFault.{ApplyFault}
 use Rattle.zst_model.specs.declared.refusals.faults.Quantity.TheVariants as quantities
 use Rattle.zst_model.specs.declared.refusals.refusal.Refusal.{Refusal}
 use Rattle.zst_model.specs.declared.refusals.refusal.Refusal.TheVariants as refusals
-use Rattle.zst_model.specs.declared.sends.header.Point.{Point}
 use Rattle.zst_model.specs.declared.states.item.Change.{Change}
 use Rattle.zst_model.specs.declared.states.item.Change.TheVariants.{Put, Spill, FreeFrom, Free, Redact, Write}
 use Rattle.zst_model.specs.declared.states.item.Item.{Item}
@@ -15,16 +13,19 @@ use Rattle.zst_model.proofs.Sizes.{size_of_lawful}
 use Rattle.zst_model.specs.states.State.{Object, IsObjectOrNone, IsState, index_bound}
 use Rattle.zst_model.specs.states.AppliedItems.{apply, apply_all, apply_change, put_at, within, unless, ◌>>=◌}
 use Rattle.zst_model.specs.states.DatedState.{DatedState, size_at, apply_dated}
-use Rattle.zst_model.specs.sends.Points.{point_after, point_of}
+use Rattle.zst_model.specs.sends.Points.{point_of}
 use Rattle.zst_model.specs.sends.ReceivedRecords.{is_past, of_record, received}
 use Rattle.zst_model.specs.sends.Items.{items}
+use Rattle.zst_model.proofs.DatedStates.{dated_state}
+use Rattle.zst_model.proofs.Points.{point_of-append}
+use Rattle.zst_model.proofs.Results.{ok_parts, bind_ok, unless_ok, of_record_ok, bind-ok}
 use Rattle.zst_laws.specs.Dates.{IsLawfulItem}
 use Rattle.zst_laws.specs.FileExample.{padded}
 use Rattle.zst_laws.specs.ReceivedRecords.{WritesAreFar, RedactsAreFar, OthersHaveNoLimit, FaultsComeFirst, FarFaults, ReceivedIsApplied, IsRanged, ReceivedIsState, HasTaken, MovedHasTaken, TakenTogether, BegunIsPartWay, CutIsPartWay, PartWayIsCompleted}
 use Rattle.zst_laws.proofs.histories.Dates.{applied_state, write_gives}
 use Rattle.zst_laws.proofs.sends.CutSends.{cut_stand, start_stand}
 use Rattle.zst_laws.proofs.sends.ResumedSends.{resume_exact}
-use Rattle.zst_laws.proofs.sends.AppliedItemLemmas.{apply_all-append, bind_ok, unless_ok, ok_inj}
+use Rattle.zst_laws.proofs.sends.AppliedItemLemmas.{apply_all-append}
 
 -- the limit, on values
 pub writes_far : WritesAreFar
@@ -39,18 +40,13 @@ pub far_faults : FarFaults
 unfolding apply apply_change padded lib.Count.ones
 far_faults = (refl, refl, refl, refl, refl, refl, refl, refl)
 
--- where nothing is past the limit, what applying gave stays
-no_limit : {A : Type 0} (r : Result A Refusal) → (r >>= λ after. Ok after) ≡ r
-no_limit (Ok after) = refl
-no_limit (Err refusal) = refl
-
 pub others_have_none : OthersHaveNoLimit
 others_have_none number index k snap = (
-  λ first count. no_limit (of_record index (apply_dated number (FreeObjects first count) snap)),
-  λ head bonus keep_spill max_block. no_limit (of_record index (apply_dated number (At k (Put head bonus keep_spill max_block)) snap)),
-  λ bytes. no_limit (of_record index (apply_dated number (At k (Spill bytes)) snap)),
-  λ offset. no_limit (of_record index (apply_dated number (At k (FreeFrom offset)) snap)),
-  λ offset length. no_limit (of_record index (apply_dated number (At k (Free offset length)) snap)),
+  λ first count. bind-ok (of_record index (apply_dated number (FreeObjects first count) snap)),
+  λ head bonus keep_spill max_block. bind-ok (of_record index (apply_dated number (At k (Put head bonus keep_spill max_block)) snap)),
+  λ bytes. bind-ok (of_record index (apply_dated number (At k (Spill bytes)) snap)),
+  λ offset. bind-ok (of_record index (apply_dated number (At k (FreeFrom offset)) snap)),
+  λ offset length. bind-ok (of_record index (apply_dated number (At k (Free offset length)) snap)),
 )
 
 -- the refusal past the limit
@@ -61,16 +57,12 @@ pub faults_first : FaultsComeFirst
 faults_first number index item snap why h = ap (λ r. of_record index r >>= λ after. unless (is_past item snap.state) limit (Ok after)) h
 
 -- an accepted record: it can be applied, and isn't past the limit
-of_record_ok : {A : Type 0} (index : ℕ) (r : Result A ApplyFault) (x : A) → of_record index r ≡ Ok x → r ≡ Ok x
-of_record_ok index (Ok made) x h = ap (λ y. Ok y) (ok_inj made x h)
-of_record_ok index (Err fault) x h = absurd (cc)
-
 received_ok : (number index : ℕ) (item : Item) (snap after : DatedState) → received number index item snap ≡ Ok after
     → (apply_dated number item snap ≡ Ok after) × (is_past item snap.state ≡ false)
 received_ok number index item snap after h =
     let made = bind_ok (of_record index (apply_dated number item snap)) (λ d. unless (is_past item snap.state) limit (Ok d)) after h in
     let within = unless_ok (is_past item snap.state) limit (Ok made.0) after made.2 in
-    (of_record_ok index (apply_dated number item snap) made.0 made.1 ∙ ap (λ d. Ok d) (ok_inj made.0 after within.1), within.0)
+    (of_record_ok index (apply_dated number item snap) made.0 made.1 ∙ ap (λ d. Ok d) (ok_parts made.0 after within.1), within.0)
 
 pub received_applied : ReceivedIsApplied
 received_applied number index item snap after h = (received_ok number index item snap after h).0
@@ -123,17 +115,6 @@ received_state number index item snap after s is h =
     let ok = received_ok number index item snap after h in
     applied_state number item snap after s (lawful_item number index item snap after s is ok.0 ok.1) ok.0
 
--- partial states
-point_of-append : (point : Point) (xs ys : List Item) → point_of point (xs ++ ys) ≡ point_of (point_of point xs) ys
-point_of-append point [] ys = refl
-point_of-append point (x ∷ xs) ys = point_of-append (point_after point x) xs ys
-
--- what applying an item in a commit makes of the state is what applying it makes
-dated_state : (number : ℕ) (item : Item) (snap after : DatedState) → apply_dated number item snap ≡ Ok after → apply item snap.state ≡ Ok after.state
-dated_state number item snap after h =
-    let made = bind_ok (apply item snap.state) _ after h in
-    made.1 ∙ ap (λ (d : DatedState). Ok d.state) (ok_inj _ after made.2)
-
 pub taken_together : TakenTogether
 taken_together done more partial between after a b = record {
   header = b.header ∙ a.header;
@@ -145,7 +126,7 @@ pub moved_has_taken : MovedHasTaken
 moved_has_taken number index item partial after h =
     let made = bind_ok (received number index item partial.objects) _ after h in
     let ok = received_ok number index item partial.objects made.0 made.1 in
-    subst (HasTaken (item ∷ []) partial) (ok_inj _ after made.2) (record {
+    subst (HasTaken (item ∷ []) partial) (ok_parts _ after made.2) (record {
       header = refl;
       reached = refl;
       objects = ap (λ r. r >>= apply_all []) (dated_state number item partial.objects made.0 ok.0);

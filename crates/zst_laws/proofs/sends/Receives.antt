@@ -7,13 +7,13 @@ use Rattle.zst_model.specs.sends.View.{View, IsView, view_of}
 use Rattle.zst_model.specs.sends.Items.{origin}
 use Rattle.zst_model.specs.sends.Points.{point_of}
 use Rattle.zst_model.specs.sends.Target.{target, redacted}
+use Rattle.zst_model.proofs.Results.{ok_parts}
 use Rattle.zst_laws.specs.ExactSends.{full}
 use Rattle.zst_laws.specs.Sessions.{Receives, CutsAreExact, CutsComplete, FullCutsAreExact, IncrementCutsAreExact}
 use Rattle.zst_laws.proofs.sends.CutSends.{cut_stand, start_stand}
 use Rattle.zst_laws.proofs.sends.ExactSends.{full_exact, view_is_view}
 use Rattle.zst_laws.proofs.histories.Increments.{history_remembered, increment_exact}
 use Rattle.zst_laws.proofs.sends.ResumedSends.{resume_exact}
-use Rattle.zst_laws.proofs.sends.AppliedItemLemmas.{ok_inj}
 
 pub cuts_exact : CutsAreExact
 cuts_exact view base point x [] whole v stands receives = sym (resume_exact view base point x v stands) ∙ receives
@@ -27,7 +27,7 @@ cuts_completed view base point x v stands = (stands.whole, resume_exact view bas
 -- from the start, a receive has what the send gives
 from_start : (view : View) (base whole given : State) (cuts : List (List Item)) → IsView view → target view base ≡ Ok given → Receives view origin base cuts whole → whole ≡ given
 from_start view base whole given cuts v exact receives =
-    ok_inj _ _ (sym (cuts_exact view base origin base cuts whole v (start_stand view base given v exact) receives) ∙ exact)
+    ok_parts _ _ (sym (cuts_exact view base origin base cuts whole v (start_stand view base given v exact) receives) ∙ exact)
 
 pub full_cuts_exact : FullCutsAreExact
 full_cuts_exact header snap redact cuts whole s can receives =

@@ -8,8 +8,8 @@ use Rattle.zst_model.specs.states.AppliedItems.{within}
 use Rattle.zst_model.specs.sends.View.{View, ObjectView, Shown, Left, Gone, There, IsView}
 use Rattle.zst_model.specs.sends.Items.{origin}
 use Rattle.zst_model.specs.sends.CutReceives.{block_at, StandsAt, StandsFor}
+use Rattle.zst_model.proofs.Results.{ok_parts}
 use Rattle.zst_laws.specs.ResumedSends.{ResumeIsExact}
-use Rattle.zst_laws.proofs.sends.AppliedItemLemmas.{ok_inj}
 use Rattle.zst_laws.proofs.sends.Fold.{swept}
 use Rattle.zst_laws.proofs.sends.Blocks.{opened, opening_applies, settled, block_from}
 use Rattle.zst_laws.proofs.sends.Numbers.{made, made_from, items_apply}
@@ -63,7 +63,7 @@ after_made view point k x l =
 
 module _ (view : View) (base : State) (point : Point) (x : State) (v : IsView view) (h : StandsFor view base point x) where
   pub whole_is : h.whole ≡ swept (made_from view origin) 1 (pred number_bound) base
-  whole_is = ok_inj _ _ (sym h.is_target ∙ items_apply view origin base v)
+  whole_is = ok_parts _ _ (sym h.is_target ∙ items_apply view origin base v)
 
   number_same : (k : ℕ) → swept (made_from view point) 1 (pred number_bound) x k ≡ h.whole k
   number_same k = go (is_number k) refl (cases_order k point.object)

@@ -12,10 +12,11 @@ use Rattle.zst_model.specs.declared.states.item.Item.TheVariants.{FreeObjects, A
 use Rattle.zst_model.specs.sends.View.{View, ObjectView, Shown, Left, Gone, There}
 use Rattle.zst_model.specs.sends.Items.{opening, put_change, spill_change, tail_change, block_change, block_changes, change_at, items_at, number_items, rising, single_items}
 use Rattle.zst_model.specs.sends.Points.{point_after, point_of}
+use Rattle.zst_model.proofs.EmptyLists.{nothing_left}
 use Rattle.zst_laws.specs.ResumedSends.{IsAtOrAfter, PointsRise}
 use Rattle.zst_laws.proofs.sends.Numbers.{offset_at}
 use Rattle.zst_laws.proofs.sends.CutBlocks.{map_part, none_or_all, part, parted_in, parted_past, point_of-append}
-use Rattle.zst_laws.proofs.sends.CutSends.{all_numbers, front_of, next_uncut, nothing_left}
+use Rattle.zst_laws.proofs.sends.CutSends.{all_numbers, front_of, next_uncut}
 
 module _ (point : Point) (a : ℕ) where
   -- from here the changes of a number go on: at or after the point, and at that number where the point is

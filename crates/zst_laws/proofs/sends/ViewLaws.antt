@@ -9,11 +9,11 @@ use Rattle.zst_model.specs.sends.Inclusion.{Choice, is_after, includes_pair, inc
 use Rattle.zst_model.specs.sends.View.{Left, There, shown_block, shown_object}
 use Rattle.zst_model.specs.sends.Items.{join, joined, before, before_item, single_items}
 use Rattle.zst_model.specs.sends.Target.{redacted_object}
+use Rattle.zst_model.proofs.IndexTests.{any_passes}
+use Rattle.zst_model.proofs.ObjectNumbers.{absent_outside}
 use Rattle.zst_laws.specs.JoinedRuns.{NoneJoin, RunsAreMaximal, HeldGoesOn}
 use Rattle.zst_laws.specs.ExactSends.{DifferAt, ViewsAgree}
 use Rattle.zst_laws.specs.Bases.{RedactedIsBase, BeforeIsBase}
-use Rattle.zst_laws.proofs.sends.Ends.{any_passes}
-use Rattle.zst_laws.proofs.sends.ExactSends.{absent_outside}
 use Rattle.zst_laws.proofs.sends.Writer.{join_stop, before-joined, before-apart}
 
 none_before : (x : Item) (ys : List Item) → NoneJoin ys → NoneJoin (before x ys)

@@ -3,7 +3,7 @@ use Rattle.std.proofs.Common.{inl, inr, ◌⊎◌, ◌≡◌, ℕ, zero, suc, pr
 use Rattle.std.proofs.Math.Path.{fun_ext}
 use Rattle.std.proofs.Math.Nat.{add-mul, one-mul}
 use Rattle.std.proofs.lemmas.List.{map-append}
-use Rattle.std.proofs.lemmas.Bool.{cases_order, cases_lt, cond-true, cond-false, lt-ltb, le-ltb, le-leb, lt-leb, and_parts, and_from, ltb-true, true≢false}
+use Rattle.std.proofs.lemmas.Bool.{cases_order, cases_lt, cond-true, cond-false, lt-ltb, le-ltb, le-leb, lt-leb, and_parts, ltb-true, true≢false}
 use Rattle.zst_model.specs.states.State.{Block, Hole, Redacted, Data, number_bound, is_number}
 use Rattle.zst_model.specs.declared.sends.header.Point.{Point}
 use Rattle.zst_model.specs.declared.states.attr.Attr.{Attr}
@@ -12,6 +12,7 @@ use Rattle.zst_model.specs.declared.states.item.Item.{Item}
 use Rattle.zst_model.specs.declared.states.item.Item.TheVariants.{At, FreeObjects}
 use Rattle.zst_model.specs.sends.View.{View, ObjectView, There, Gone}
 use Rattle.zst_model.specs.sends.Items.{single_items, join, before, joined, rising, number_items, block_changes, block_change, change_at, opening}
+use Rattle.zst_model.proofs.ObjectNumbers.{number_from}
 use Rattle.zst_laws.specs.Walk.{number_rest, left_at, walk_left, NothingBelow, WalkBegins, WalkEnds, ObjectIsNext, GoneIsNext, GoneRunIsNext, BlockIsNext, run_change, BlockRunIsNext}
 use Rattle.zst_laws.proofs.sends.CutSends.{all_numbers}
 use Rattle.zst_laws.proofs.sends.ExactSends.{place_below}
@@ -46,9 +47,6 @@ in_numbers : (k : ℕ) → is_number k ≡ true → (1 ≤ k) × (k < 1 + pred n
 in_numbers k e =
     let parts = and_parts (nat_lt 0 k) (nat_lt k number_bound) e in
     (ltb-true 0 k parts.0, subst (λ n. k < n) (sym all_numbers) (ltb-true k number_bound parts.1))
-
-pub number_is : (k : ℕ) → 0 < k → k < number_bound → is_number k ≡ true
-number_is k pos l = and_from (nat_lt 0 k) (nat_lt k number_bound) (lt-ltb _ _ pos) (lt-ltb _ _ l)
 
 pub left_below : (view : View) (point : Point) (slot : Bool) (j : ℕ) → j < point.object → left_at view point slot j ≡ []
 left_below view point slot j l = cond-true (nat_lt j point.object) _ _ (lt-ltb _ _ l)
@@ -181,12 +179,12 @@ gone_run : (view : View) (n : ℕ) (point : Point) (slot : Bool) (k : ℕ)
     → ((j : ℕ) → k ≤ j → j < k + suc n → view.shown j ≡ Gone)
     → joined (walk_left view point slot) ≡ joined (FreeObjects k (suc n) ∷ walk_left view (record { object = k + suc n; offset = 0 }) true)
 gone_run view zero point slot k pos high none l m gone =
-    ap joined (gone_next view point slot k (number_is k pos (omega arith)) none l m (gone k (omega arith) (omega arith)))
+    ap joined (gone_next view point slot k (number_from k pos (omega arith)) none l m (gone k (omega arith) (omega arith)))
 gone_run view (suc n) point slot k pos high none l m gone =
     let next : Point = record { object = k + 1; offset = 0 } in
     let far : Point = record { object = k + 1 + suc n; offset = 0 } in
     let sum : k + 1 + suc n ≡ k + suc (suc n) = omega arith in
-    ap joined (gone_next view point slot k (number_is k pos (omega arith)) none l m (gone k (omega arith) (omega arith)))
+    ap joined (gone_next view point slot k (number_from k pos (omega arith)) none l m (gone k (omega arith) (omega arith)))
     ∙ ap (before (FreeObjects k 1)) (gone_run view n next true (k + 1) (omega arith) (omega arith) (left_below view next true) (omega arith) (λ e. absurd (true≢false e)) (λ j a b. gone j (omega arith) (omega arith)))
     ∙ before-joined (FreeObjects k 1) (FreeObjects (k + 1) (suc n)) (FreeObjects k (1 + suc n)) (joined (walk_left view far true)) (cond-true (k + 1 == k + 1) _ _ (eq-eqb (k + 1) (k + 1) refl))
     ∙ ap (λ c. before (FreeObjects k c) (joined (walk_left view far true))) (omega arith)

@@ -7,10 +7,11 @@ use Rattle.zst_model.specs.declared.states.item.Change.TheVariants.{Put, Redact,
 use Rattle.zst_model.specs.declared.states.item.Item.TheVariants.{At, FreeObjects}
 use Rattle.zst_model.specs.states.AppliedItems.{within}
 use Rattle.zst_model.specs.states.State.{is_number, number_bound}
+use Rattle.zst_model.proofs.ObjectNumbers.{number_over_none}
 use Rattle.zst_record.specs.Decoding.{is_object}
 use Rattle.zst_stream.specs.Items.{free_change}
 use Rattle.zst_objset.specs.Changes.{object_put, objects_freed, spill_put}
-use Rattle.zst_apply.proofs.ReceivedRecords.{freed_received, over_none, put_received, spill_received, under_bound}
+use Rattle.zst_apply.proofs.ReceivedRecords.{freed_received, put_received, spill_received, under_bound}
 use Rattle.zst_apply.proofs.RecordCosts.{works_sized}
 use Rattle.zst_apply.proofs.SetChanges.{changed_by, no_limit, record_changed, set_changed_by}
 use Rattle.zst_apply.proofs.SetFaults.{inside, slots_told}
@@ -28,26 +29,26 @@ below k less = omega (arith, less)
 -- the range that is left of a FREEOBJECTS has the same numbers
 cut_same : (first count other more : ℕ) → ((k : ℕ) → 1 ≤ k → k < 2 ^ 48 → within other more k ≡ within first count k) → (k : ℕ) → is_number k ≡ true → within other more k ≡ within first count k
 unfolding number_bound
-cut_same first count other more same k is = same k (over_none k is) (under_bound k is)
+cut_same first count other more same k is = same k (number_over_none k is) (under_bound k is)
 
 cut_inside : (other more : ℕ) → other + more ≤ 2 ^ 48 → other + more ≤ number_bound
 unfolding number_bound
 cut_inside other more is = is
 
 pub put_object-requires-clause-object : goal.put_object-requires-clause-object
-put_object-requires-clause-object g c = over_none c.in-Object.object (stated c.in-Object.object ((rw c.in-Object.is at c.requires.record).1.object_fits))
+put_object-requires-clause-object g c = number_over_none c.in-Object.object (stated c.in-Object.object ((rw c.in-Object.is at c.requires.record).1.object_fits))
 
 pub write_block-requires : goal.write_block-requires
-write_block-requires g c = record { object = over_none c.in-Write.object (stated c.in-Write.object ((rw c.in-Write.is at c.requires.record).1.object_fits)) }
+write_block-requires g c = record { object = number_over_none c.in-Write.object (stated c.in-Write.object ((rw c.in-Write.is at c.requires.record).1.object_fits)) }
 
 pub fill_range-requires : goal.fill_range-requires
-fill_range-requires g c = record { object = over_none c.in-Free.object (stated c.in-Free.object ((rw c.in-Free.is at c.requires.record).1.object_fits)) }
+fill_range-requires g c = record { object = number_over_none c.in-Free.object (stated c.in-Free.object ((rw c.in-Free.is at c.requires.record).1.object_fits)) }
 
 pub put_spill-requires-clause-object : goal.put_spill-requires-clause-object
-put_spill-requires-clause-object g c = over_none c.in-Spill.object (stated c.in-Spill.object ((rw c.in-Spill.is at c.requires.record).1.object_fits))
+put_spill-requires-clause-object g c = number_over_none c.in-Spill.object (stated c.in-Spill.object ((rw c.in-Spill.is at c.requires.record).1.object_fits))
 
 pub fill_range-requires-in-Redact : goal.fill_range-requires-in-Redact
-fill_range-requires-in-Redact g c = record { object = over_none c.in-Redact.object (stated c.in-Redact.object ((rw c.in-Redact.is at c.requires.record).1.object_fits)) }
+fill_range-requires-in-Redact g c = record { object = number_over_none c.in-Redact.object (stated c.in-Redact.object ((rw c.in-Redact.is at c.requires.record).1.object_fits)) }
 
 pub returns-in-Object : goal.returns-in-Object
 returns-in-Object g c = record {

@@ -6,8 +6,8 @@ use Rattle.zst_line.specs.Grammar.{word_at}
 use Rattle.zst_line.specs.WordFaults.{Takes}
 use Rattle.zst_line.proofs.WordWalk.{word_here, three_words}
 use Rattle.zst_line.proofs.Numbers.{takes_at}
-use Rattle.zst_line.proofs.Texts.{same_bytes}
 use Rattle.zst_line.proofs.streams.resume.Goals as goal
+use Rattle.zst_model.proofs.OrderLaws.{same_bytes}
 
 pub token-requires : goal.token-requires
 token-requires c =

@@ -1,10 +1,10 @@
 use Rattle.std.proofs.Common.{◌≡◌, ◌||◌, true, ◌∙◌, sym, ap}
 use Rattle.zst_model.specs.sends.SendPlan.{earlier_origin, is_earlier, marks}
 use Rattle.zst_plan.specs.Sources.{FoundSnapshot}
-use Rattle.zst_plan.proofs.LookupLemmas.{none_alike, some_alike}
 use Rattle.zst_plan.proofs.Walk.{walk_ends, walk_finds, walks_on}
 use Rattle.zst_plan.proofs.origin_walk.comes_before.Goals.{then-is_earlier-via-then-is_earlier, then-is_earlier-via-else-is_earlier+then-marks}
 use Rattle.zst_plan.proofs.origin_walk.comes_before.Goals as goal
+use Rattle.zst_plan.proofs.AlikeAnswers.{none_alike, some_alike}
 
 pub returns-then-is_earlier : goal.returns-then-is_earlier
 returns-then-is_earlier c = λ pool from to are names is.

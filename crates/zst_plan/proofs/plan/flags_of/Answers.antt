@@ -3,8 +3,8 @@ use Rattle.zst_plan.specs.Places.{FindAlike}
 use Rattle.zst_plan.specs.Sources.{NamesSource}
 use Rattle.zst_plan.specs.declared.source.Source.{Source}
 use Rattle.zst_plan.proofs.BeginHeader.{full_flags, with_clone, without_clone}
-use Rattle.zst_plan.proofs.LookupLemmas.{none_alike, some_alike}
 use Rattle.zst_plan.proofs.plan.flags_of.Goals as goal
+use Rattle.zst_plan.proofs.AlikeAnswers.{none_alike, some_alike}
 
 pub returns-then-is_elsewhere : goal.returns-then-is_elsewhere
 returns-then-is_elsewhere c = λ to from names alike.

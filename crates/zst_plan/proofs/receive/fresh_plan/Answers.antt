@@ -10,9 +10,9 @@ use Rattle.zst_model.specs.states.AppliedItems.{◌>>=◌}
 use Rattle.zst_plan.specs.Receipts.{IsBaseOf, IsRecvPlanOf}
 use Rattle.zst_plan.specs.RecvPlan.{Begins, RecvPlan, base_for, fresh_plan, if_new, if_plain, if_room, snapshot_name}
 use Rattle.zst_plan.specs.declared.receive.RecvPlan.TheVariants as plans
-use Rattle.zst_plan.proofs.SendChecks.{err_alike, ok_alike}
-use Rattle.zst_plan.proofs.ReceiveChecks.{answers, refuses, with_base}
+use Rattle.zst_plan.proofs.ReceiveChecks.{with_base}
 use Rattle.zst_plan.proofs.receive.fresh_plan.Goals as goal
+use Rattle.zst_plan.proofs.AlikeAnswers.{ok_alike, err_alike, refuses, answers}
 
 pub returns-in_err-check_plain-clause-exact : goal.returns-in_err-check_plain-clause-exact
 returns-in_err-check_plain-clause-exact c = λ pool component are tells named.

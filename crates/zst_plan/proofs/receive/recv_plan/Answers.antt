@@ -4,10 +4,9 @@ use Rattle.zst_model.specs.pools.Pool.{partial_of}
 use Rattle.zst_plan.specs.Places.{StandsAt}
 use Rattle.zst_plan.specs.Receipts.{IsRecvPlanOf}
 use Rattle.zst_plan.specs.RecvPlan.{component_for, fresh_plan, recv_plan, resumed_plan, snapshot_name}
-use Rattle.zst_plan.proofs.SendChecks.{err_alike, ok_alike}
-use Rattle.zst_plan.proofs.LookupLemmas.{none_alike, some_alike}
-use Rattle.zst_plan.proofs.ReceiveChecks.{by_component, hands_on, partials_find, refuses}
+use Rattle.zst_plan.proofs.ReceiveChecks.{by_component, partials_find}
 use Rattle.zst_plan.proofs.receive.recv_plan.Goals as goal
+use Rattle.zst_plan.proofs.AlikeAnswers.{ok_alike, err_alike, none_alike, some_alike, refuses, hands_on}
 
 pub returns-in_err-name-clause-exact : goal.returns-in_err-name-clause-exact
 returns-in_err-name-clause-exact c = λ pool are tells.

@@ -4,9 +4,8 @@ use Rattle.zst_dir.specs.declared.rows.Partial.{Partial}
 use Rattle.zst_plan.specs.Receipts.{IsRecvPlanOf}
 use Rattle.zst_plan.specs.RecvPlan.{Resumes, resumed_plan}
 use Rattle.zst_plan.specs.declared.receive.RecvPlan.TheVariants as plans
-use Rattle.zst_plan.proofs.LookupLemmas.{at_names}
-use Rattle.zst_plan.proofs.ReceiveChecks.{answers, refuses}
 use Rattle.zst_plan.proofs.receive.resumed_plan.Goals as goal
+use Rattle.zst_plan.proofs.AlikeAnswers.{at_names, refuses, answers}
 
 pub returns-in_err-check_resumed-clause-exact : goal.returns-in_err-check_resumed-clause-exact
 returns-in_err-check_resumed-clause-exact c = λ pool ask partial are at.

@@ -1,12 +1,14 @@
 use Rattle.std.proofs.Common.{◌∙◌, List, Ok, sym, ap, subst, get_or, refl}
 use Rattle.zst_dir.specs.declared.rows.Snapshot.{Snapshot}
 use Rattle.zst_model.specs.sends.SendPlan.{sent_of}
+use Rattle.zst_model.proofs.Results.{err_is}
 use Rattle.zst_plan.specs.Places.{AnswerAlike}
 use Rattle.zst_plan.specs.Plans.{IsPlanOf}
-use Rattle.zst_plan.proofs.SendChecks.{after_before, after_redaction, both_refuse, err_is, the_sent}
+use Rattle.zst_plan.proofs.SendChecks.{after_before, after_redaction, the_sent}
 use Rattle.zst_plan.proofs.LookupLemmas.{row_names}
 use Rattle.zst_plan.proofs.SendPlans.{names_alike}
 use Rattle.zst_plan.proofs.send.checked_plan.Goals as goal
+use Rattle.zst_plan.proofs.AlikeAnswers.{both_refuse}
 
 pub returns-in_err-check_before-clause-exact : goal.returns-in_err-check_before-clause-exact
 returns-in_err-check_before-clause-exact c = λ pool snapshot source redaction are at from list.

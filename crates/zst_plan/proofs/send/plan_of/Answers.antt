@@ -4,9 +4,9 @@ use Rattle.zst_plan.specs.Plans.{IsFrom}
 use Rattle.zst_plan.specs.Sources.{IsSource}
 use Rattle.zst_plan.specs.declared.source.Source.{Source}
 use Rattle.zst_plan.proofs.BeginHeader.{flags_are}
-use Rattle.zst_plan.proofs.LookupLemmas.{none_alike, some_alike}
 use Rattle.zst_plan.proofs.SendPlans.{from_none, names_alike}
 use Rattle.zst_plan.proofs.send.plan_of.Goals as goal
+use Rattle.zst_plan.proofs.AlikeAnswers.{none_alike, some_alike}
 
 pub returns-in-None-clause-plan : goal.returns-in-None-clause-plan
 returns-in-None-clause-plan c = λ rows pool sent at names from list kind.

@@ -1,9 +1,10 @@
 use Rattle.std.proofs.Common.{◌≡◌, ◌⊎◌, ℕ, true, [], inl, inr, ◌∙◌, sym, subst, Ok}
 use Rattle.zst_model.specs.pools.Step.{committed, with_aborted, without_partial}
 use Rattle.zst_model.specs.declared.refusals.plan_fault.PlanFault.{PlanFault}
+use Rattle.zst_model.proofs.Results.{err_is}
 use Rattle.zst_pool.specs.Plans.{IsLast, is_by_rows}
 use Rattle.zst_pool.specs.Checks.{Judges, next_of}
-use Rattle.zst_pool.proofs.CheckLemmas.{err_has, err_is}
+use Rattle.zst_pool.proofs.CheckLemmas.{err_has}
 use Rattle.zst_pool.proofs.aborts.plan_abort.Goals as goal
 
 -- what the rows or the last number refuse

@@ -12,12 +12,13 @@ use Rattle.zst_objset.specs.Sets.{SetHolds}
 use Rattle.zst_objset.proofs.LeafLaws.{look_on}
 use Rattle.zst_pool.specs.Damage.{IsOf, look_damage, read_damage}
 use Rattle.zst_pool.specs.Queries.{TellsAnswer, stop_of}
-use Rattle.zst_pool.proofs.CheckLemmas.{err_has, err_is}
+use Rattle.zst_pool.proofs.CheckLemmas.{err_has}
 use Rattle.zst_pool.proofs.PlanLemmas.{no_plan-block}
 use Rattle.zst_pool.proofs.QueryLemmas.{block_refused, disk_refused, index_past, long_enough, set_open, set_told, stop_set}
 use Rattle.zst_model.specs.declared.pools.reply.Reply.{Reply}
 use Rattle.zst_model.specs.declared.states.cell.Cell.{Cell}
 use Rattle.zst_model.specs.pools.Step.{answered}
+use Rattle.zst_model.proofs.Results.{err_is}
 use Rattle.zst_objset.specs.Answers.{ReadsCell}
 use Rattle.zst_pool.specs.Faults.{of_set}
 use Rattle.zst_pool.specs.declared.fault.PoolFault.{PoolFault}

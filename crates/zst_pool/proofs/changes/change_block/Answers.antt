@@ -7,6 +7,7 @@ use Rattle.zst_block.specs.Blocks.{Has, SparesTaken}
 use Rattle.zst_model.specs.declared.refusals.refusal.Refusal.{Refusal}
 use Rattle.zst_model.specs.pools.Step.{filled, written}
 use Rattle.zst_model.specs.states.DatedState.{DatedState, size_at}
+use Rattle.zst_model.proofs.Results.{err_is}
 use Rattle.zst_objset.specs.Answers.{Changes}
 use Rattle.zst_objset.specs.Changes.{block_written}
 use Rattle.zst_objset.proofs.LeafLaws.{look_on}
@@ -22,7 +23,6 @@ use Rattle.zst_block.proofs.IoCallLemmas.{Works-after, Works-looks, Works-more}
 use Rattle.zst_tree.specs.Damage.{IsSeen, NamesNode}
 use Rattle.zst_objset.specs.Damage.{IsDamagedObject, IsDamagedSet}
 use Rattle.zst_pool.proofs.HeadChanges.{filled_length}
-use Rattle.zst_pool.proofs.CheckLemmas.{err_is}
 use Rattle.zst_pool.proofs.DamageLemmas.{damaged_call, damaged_err}
 use Rattle.zst_pool.proofs.Room.{block-sectors}
 use Rattle.zst_pool.proofs.SetCalls.{call_changes, call_ok, call_works, stop_same}

@@ -7,6 +7,7 @@ use Rattle.zst_block.proofs.IoCallLemmas.{Works-block, Works-more, Works-then}
 use Rattle.zst_model.specs.declared.refusals.refusal.Refusal.{Refusal}
 use Rattle.zst_model.specs.pools.Pool.{Pool}
 use Rattle.zst_model.specs.states.DatedState.{DatedState}
+use Rattle.zst_model.proofs.Results.{err_is}
 use Rattle.zst_objset.specs.Changes.{object_made, object_put, spill_put}
 use Rattle.zst_objset.specs.Damage.{IsDamagedSet, IsSetWithin}
 use Rattle.zst_tree.specs.Sets.{SetFits}
@@ -17,7 +18,6 @@ use Rattle.zst_pool.specs.Heads.{ChangesHead, Works, of_change, stop_of}
 use Rattle.zst_pool.specs.declared.head_fault.HeadFault.{HeadFault}
 use Rattle.zst_pool.specs.Cost.{object_cells, spill_sectors}
 use Rattle.zst_pool.proofs.HeadChanges.{put_fault, then_spilled}
-use Rattle.zst_pool.proofs.CheckLemmas.{err_is}
 use Rattle.zst_image.specs.Reads.{SetIs, bound_of}
 use Rattle.zst_pool.proofs.ChangeDates.{changes_known, put_dated, spill_dated}
 use Rattle.zst_pool.proofs.SetCalls.{call_changes, call_ok, call_works, went_well}

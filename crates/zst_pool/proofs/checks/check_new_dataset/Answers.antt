@@ -3,8 +3,10 @@ use Rattle.zst_model.specs.refusals.Refusal.{refusal_of}
 use Rattle.zst_model.specs.declared.refusals.subjects.Name.TheVariants as names
 use Rattle.zst_model.specs.pools.Pool.{dataset_named, partial_of}
 use Rattle.zst_model.specs.pools.Step.{exists_already}
-use Rattle.zst_pool.proofs.CheckLemmas.{dataset_is_there, partial_is_there, dataset_is_taken, dataset_is_partial, datasets_are_many, dataset_is_new, no_dataset}
+use Rattle.zst_pool.proofs.CheckLemmas.{partial_is_there, dataset_is_taken, dataset_is_partial, datasets_are_many, dataset_is_new}
 use Rattle.zst_pool.proofs.checks.check_new_dataset.Goals as goal
+use Rattle.zst_dir.proofs.Lookups.{no_dataset}
+use Rattle.zst_dir.proofs.NamedRows.{dataset_is_there}
 
 pub returns-then-is_some-clause-judged : goal.returns-then-is_some-clause-judged
 returns-then-is_some-clause-judged c = λ dataset pool same are.

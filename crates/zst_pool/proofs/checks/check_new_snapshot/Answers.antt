@@ -3,7 +3,9 @@ use Rattle.zst_model.specs.pools.Step.{exists_already}
 use Rattle.zst_model.specs.declared.refusals.subjects.Name.TheVariants as names
 use Rattle.zst_dir.specs.declared.rows.Partial.{Partial}
 use Rattle.zst_dir.specs.declared.rows.Snapshot.{Snapshot}
-use Rattle.zst_pool.proofs.CheckLemmas.{snapshot_is_there, snapshots_are_counted, snapshot_is_taken, snapshots_are_many, snapshot_is_new, no_snapshot}
+use Rattle.zst_dir.proofs.Lookups.{no_snapshot}
+use Rattle.zst_dir.proofs.NamedRows.{snapshot_is_there}
+use Rattle.zst_pool.proofs.CheckLemmas.{snapshots_are_counted, snapshot_is_taken, snapshots_are_many, snapshot_is_new}
 use Rattle.zst_pool.proofs.checks.check_new_snapshot.Goals as goal
 
 pub returns-then-is_some-clause-judged : goal.returns-then-is_some-clause-judged

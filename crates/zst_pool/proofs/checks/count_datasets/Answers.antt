@@ -1,6 +1,6 @@
 use Rattle.std.proofs.Common.{ap, ◌∙◌, ◌+◌, length}
-use Rattle.zst_pool.proofs.CheckLemmas.{datasets_are_counted}
 use Rattle.zst_pool.proofs.checks.count_datasets.Goals as goal
+use Rattle.zst_dir.proofs.NamedRows.{datasets_are_counted}
 
 pub returns : goal.returns
 returns c = λ pool are.

@@ -6,7 +6,8 @@ use Rattle.zst_model.specs.refusals.Refusal.{refusal_of}
 use Rattle.zst_tree.specs.Sets.{no_objects}
 use Rattle.zst_dir.specs.RowNames.{StandAlike}
 use Rattle.zst_dir.specs.declared.rows.Dataset.{Dataset}
-use Rattle.zst_pool.proofs.CheckLemmas.{dataset_is_there, partial_is_there, dataset_at, dataset_is_absent, dataset_is_busy, dataset_is_open}
+use Rattle.zst_dir.proofs.NamedRows.{dataset_is_there}
+use Rattle.zst_pool.proofs.CheckLemmas.{partial_is_there, dataset_at, dataset_is_absent, dataset_is_busy, dataset_is_open}
 use Rattle.zst_pool.proofs.checks.open_dataset.Goals as goal
 
 pub returns-in-None-clause-found : goal.returns-in-None-clause-found

@@ -5,11 +5,11 @@ use Rattle.zst_names.specs.Names.{dataset_of}
 use Rattle.zst_model.specs.declared.refusals.refusal.Refusal.{Refusal}
 use Rattle.zst_model.specs.pools.Pool.{Pool, Dataset}
 use Rattle.zst_model.specs.pools.Step.{Stepped, committed, on_dataset, with_snapshot}
+use Rattle.zst_model.proofs.Results.{err_is}
 use Rattle.zst_pool.specs.Checks.{FindsDataset, if_new_snapshot, if_guid_left, with_taken, JudgesSnapshot}
 use Rattle.zst_dir.specs.RowNames.{AreNamed}
 use Rattle.zst_dir.specs.Rows.{Rows}
 use Rattle.zst_dir.specs.declared.rows.Dataset.{Dataset as Row}
-use Rattle.zst_pool.proofs.CheckLemmas.{err_is}
 use Rattle.std.specs.List.{list_any}
 use Rattle.std.specs.Str.{bytes_eq}
 use Rattle.std.proofs.Common.{false, inl, inr}

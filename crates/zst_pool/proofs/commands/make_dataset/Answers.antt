@@ -2,6 +2,7 @@ use Rattle.std.proofs.Common.{refl, sym, ap, ◌∙◌, subst, length, arith, in
 use Rattle.zst_block.specs.Blocks.{Has}
 use Rattle.zst_model.specs.pools.Pool.{is_before, inserted, Pool}
 use Rattle.zst_model.specs.pools.Step.{new_dataset, with_dataset}
+use Rattle.zst_model.proofs.Results.{err_is}
 use Rattle.std.specs.Prelude.{Ok}
 use Rattle.zst_dir.specs.Rows.{Rows}
 use Rattle.zst_dir.specs.Spelling.{dir_bytes}
@@ -12,7 +13,6 @@ use Rattle.zst_pool.specs.Cost.{cells_only}
 use Rattle.zst_pool.specs.Damage.{NoDamage}
 use Rattle.zst_image.specs.Reads.{IsNamedBy, RunsBy, bound_of}
 use Rattle.zst_pool.proofs.Bounds.{RunsBy-later}
-use Rattle.zst_pool.proofs.CheckLemmas.{err_is}
 use Rattle.zst_pool.proofs.NextPools.{dataset_runs, new_row, new_row_is_new}
 use Rattle.zst_pool.proofs.PoolsAtRest.{few_guids, rest_named, runs_named}
 use Rattle.zst_pool.proofs.CommandRuns.{runs_planned, runs_starved}

@@ -6,6 +6,7 @@ use Rattle.zst_names.specs.Names.{dataset_of}
 use Rattle.zst_model.specs.pools.Limits.{last_guid}
 use Rattle.zst_model.specs.pools.Pool.{inserted}
 use Rattle.zst_model.specs.pools.Step.{with_snapshot}
+use Rattle.zst_model.proofs.Results.{err_is}
 use Rattle.zst_pool.specs.Checks.{next_of, with_taken}
 use Rattle.zst_image.specs.Reads.{DatasetIs, RunsBy, bound_of}
 use Rattle.zst_dir.specs.Rows.{Rows, HasSnapshot, IsDatasetRow, snapshot_is_before}
@@ -15,7 +16,6 @@ use Rattle.zst_pool.specs.declared.fault.PoolFault.TheVariants.{OutOfMemory, Pla
 use Rattle.zst_pool.specs.Cost.{cells_only}
 use Rattle.zst_pool.specs.Damage.{NoDamage}
 use Rattle.zst_pool.proofs.Bounds.{RunsBy-later}
-use Rattle.zst_pool.proofs.CheckLemmas.{err_is}
 use Rattle.zst_dir.proofs.Matches.{Match-alike}
 use Rattle.zst_pool.proofs.NextPools.{snapshot_runs}
 use Rattle.zst_pool.proofs.PlanLemmas.{made_apart, plans_apart, plans_refused, told_or_last}

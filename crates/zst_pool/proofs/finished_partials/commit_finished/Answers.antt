@@ -3,6 +3,7 @@ use Rattle.std.proofs.lemmas.Result.{IfOk-weaker}
 use Rattle.zst_block.specs.Blocks.{Has}
 use Rattle.zst_block.specs.IoStates.{io_of}
 use Rattle.zst_model.specs.pools.Limits.{last_number}
+use Rattle.zst_model.proofs.Results.{err_is}
 use Rattle.zst_dir.specs.Rows.{Rows}
 use Rattle.zst_image.specs.Reads.{RunsBy, bound_of}
 use Rattle.zst_pool.specs.Events.{FollowsBy}
@@ -13,7 +14,6 @@ use Rattle.zst_pool.proofs.Bounds.{RunsBy-later}
 use Rattle.zst_pool.proofs.CommitAnswers.{call_grows, ends_idle}
 use Rattle.zst_pool.proofs.EventEnds.{puts_starved}
 use Rattle.zst_pool.proofs.FinishedRows.{partial_is_finished}
-use Rattle.zst_pool.proofs.CheckLemmas.{err_is}
 use Rattle.zst_pool.proofs.PoolsAtRest.{way_runs}
 use Rattle.zst_pool.proofs.Room.{call_full}
 use Rattle.zst_pool.proofs.finished_partials.commit_finished.Goals as goal

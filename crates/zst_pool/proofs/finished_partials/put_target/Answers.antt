@@ -1,7 +1,7 @@
 use Rattle.std.proofs.Common.{is_some, sym, ap, ◌∙◌, subst}
 use Rattle.zst_dir.specs.Rows.{HasDataset}
 use Rattle.zst_dir.specs.declared.rows.Dataset.{Dataset}
-use Rattle.zst_pool.proofs.CheckLemmas.{no_dataset}
+use Rattle.zst_dir.proofs.Lookups.{no_dataset}
 use Rattle.zst_pool.proofs.finished_partials.put_target.Goals as goal
 
 pub add_dataset-requires-clause-new : goal.add_dataset-requires-clause-new

@@ -11,6 +11,7 @@ use Rattle.zst_model.specs.pools.Step.{Stepped, committed, on_head}
 use Rattle.zst_dir.specs.Rows.{Rows, with_head}
 use Rattle.zst_dir.specs.Spelling.{dir_bytes}
 use Rattle.zst_model.specs.pools.KeptPool.{kept_of}
+use Rattle.zst_model.proofs.Results.{err_is}
 use Rattle.zst_image.specs.Reads.{RunsBy, bound_of}
 use Rattle.zst_pool.specs.Calls.{IsUnderWay}
 use Rattle.zst_pool.specs.Checks.{with_head_of}
@@ -21,7 +22,6 @@ use Rattle.zst_pool.specs.declared.fault.PoolFault.{PoolFault}
 use Rattle.zst_pool.specs.declared.fault.PoolFault.TheVariants.{Damaged, OutOfMemory, Plan}
 use Rattle.zst_pool.proofs.CommandEnds.{did_rows}
 use Rattle.zst_pool.proofs.Bounds.{RunsBy-later}
-use Rattle.zst_pool.proofs.CheckLemmas.{err_is}
 use Rattle.zst_pool.proofs.NextPools.{head_runs}
 use Rattle.zst_pool.proofs.PoolsAtRest.{few_guids, way_runs}
 use Rattle.zst_pool.proofs.CommitAnswers.{committed_sound}

@@ -6,7 +6,7 @@ use Rattle.zst_pool.specs.Cost.{cells_only}
 use Rattle.zst_image.specs.Reads.{free_by}
 use Rattle.zst_pool.specs.declared.fault.PoolFault.TheVariants.{Plan}
 use Rattle.zst_model.specs.pools.Step.{on_head}
-use Rattle.zst_pool.proofs.CheckLemmas.{err_is}
+use Rattle.zst_model.proofs.Results.{err_is}
 use Rattle.zst_pool.specs.Damage.{OfHead, slots_damage}
 use Rattle.zst_tree.specs.Sets.{SetFits}
 use Rattle.zst_pool.proofs.HeadAnswers.{always}

@@ -3,9 +3,9 @@ use Rattle.zst_block.specs.Blocks.{Has}
 use Rattle.zst_pool.specs.Checks.{with_head_of}
 use Rattle.zst_pool.proofs.HeadAnswers.{judged_accepted, judged_refused, answer_damaged, answer_well}
 use Rattle.zst_model.specs.declared.refusals.plan_fault.PlanFault.{PlanFault}
+use Rattle.zst_model.proofs.Results.{err_is}
 use Rattle.zst_pool.specs.Plans.{IsLast}
 use Rattle.zst_pool.specs.declared.fault.PoolFault.TheVariants.{Plan}
-use Rattle.zst_pool.proofs.CheckLemmas.{err_is}
 use Rattle.zst_pool.proofs.heads.judge.Goals as goal
 
 pub returns-then-not-is_accepted-clause-judged : goal.returns-then-not-is_accepted-clause-judged

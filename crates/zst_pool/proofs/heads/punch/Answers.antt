@@ -2,10 +2,10 @@ use Rattle.std.proofs.Common.{arith, ◌+◌, inl}
 use Rattle.zst_block.specs.IoStates.{io_of}
 use Rattle.zst_model.specs.pools.Pool.{Pool}
 use Rattle.zst_model.specs.pools.Step.{punched, on_head}
+use Rattle.zst_model.proofs.Results.{err_is}
 use Rattle.zst_pool.specs.Cost.{cells_only}
 use Rattle.zst_image.specs.Reads.{free_by}
 use Rattle.zst_pool.specs.declared.fault.PoolFault.TheVariants.{Plan}
-use Rattle.zst_pool.proofs.CheckLemmas.{err_is}
 use Rattle.zst_pool.specs.Damage.{OfHead, range_damage}
 use Rattle.zst_pool.proofs.CommandRuns.{changed_head, runs_head, runs_planned}
 use Rattle.zst_pool.proofs.PoolsAtRest.{ready_after, rest_named}

@@ -6,7 +6,7 @@ use Rattle.zst_pool.specs.Cost.{object_cost, spill_sectors}
 use Rattle.zst_image.specs.Reads.{free_by}
 use Rattle.zst_pool.specs.declared.fault.PoolFault.TheVariants.{Plan}
 use Rattle.zst_model.specs.pools.Step.{on_head}
-use Rattle.zst_pool.proofs.CheckLemmas.{err_is}
+use Rattle.zst_model.proofs.Results.{err_is}
 use Rattle.zst_pool.specs.Damage.{OfHead, slots_damage}
 use Rattle.zst_pool.proofs.CommandRuns.{changed_head, runs_head, runs_planned}
 use Rattle.zst_pool.proofs.PoolsAtRest.{ready_after, rest_named}

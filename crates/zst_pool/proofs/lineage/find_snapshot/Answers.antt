@@ -4,10 +4,11 @@ use Rattle.std.proofs.lemmas.List.Quantifiers.{position-Some}
 use Rattle.zst_model.proofs.OrderLaws.{same_bytes}
 use Rattle.zst_model.specs.refusals.Refusal.{refusal_of}
 use Rattle.zst_model.specs.pools.Pool.{snapshot_named}
+use Rattle.zst_model.proofs.Options.{none_there}
 use Rattle.zst_dir.specs.RowNames.{StandAlike}
 use Rattle.zst_dir.specs.declared.rows.Snapshot.{Snapshot}
+use Rattle.zst_dir.proofs.NamedRows.{snapshot_is_there}
 use Rattle.zst_pool.proofs.SnapshotRows.{snapshot_at}
-use Rattle.zst_pool.proofs.CheckLemmas.{none_there, snapshot_is_there}
 use Rattle.zst_pool.proofs.lineage.find_snapshot.Goals as goal
 
 pub returns-in-None-clause-found : goal.returns-in-None-clause-found

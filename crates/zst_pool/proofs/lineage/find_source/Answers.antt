@@ -1,9 +1,11 @@
 use Rattle.std.proofs.Common.{◌≡◌, ◌∙◌, sym, ap, subst, List, is_some, get_or}
 use Rattle.zst_model.specs.refusals.Refusal.{refusal_of}
 use Rattle.zst_model.specs.pools.Pool.{dataset_named}
+use Rattle.zst_model.proofs.Options.{none_there}
 use Rattle.zst_dir.specs.RowNames.{StandAlike}
 use Rattle.zst_dir.specs.declared.rows.Dataset.{Dataset}
-use Rattle.zst_pool.proofs.CheckLemmas.{dataset_at, dataset_is_there, none_there}
+use Rattle.zst_dir.proofs.NamedRows.{dataset_is_there}
+use Rattle.zst_pool.proofs.CheckLemmas.{dataset_at}
 use Rattle.zst_pool.proofs.lineage.find_source.Goals as goal
 
 pub returns-in-None-clause-found : goal.returns-in-None-clause-found

@@ -4,10 +4,11 @@ use Rattle.zst_model.specs.declared.refusals.plan_fault.PlanFault.{PlanFault}
 use Rattle.zst_model.specs.declared.refusals.refusal.Refusal.{Refusal}
 use Rattle.zst_model.specs.declared.refusals.subjects.Name.TheVariants as names
 use Rattle.zst_model.specs.pools.Step.{clone_of, no_such}
+use Rattle.zst_model.proofs.Results.{err_is}
 use Rattle.zst_pool.specs.Checks.{with_new}
 use Rattle.zst_pool.specs.Lineage.{JudgesClone}
 use Rattle.zst_pool.specs.Plans.{IsLast, is_by_rows}
-use Rattle.zst_pool.proofs.CheckLemmas.{err_has, err_is}
+use Rattle.zst_pool.proofs.CheckLemmas.{err_has}
 use Rattle.zst_pool.proofs.SnapshotRows.{clone_is_new, clone_of_none, clone_without_source}
 use Rattle.zst_pool.proofs.lineage.plan_clone.Goals as goal
 

@@ -1,9 +1,10 @@
 use Rattle.std.proofs.Common.{◌≡◌, ◌⊎◌, ℕ, true, inl, inr, ◌∙◌, sym, subst}
 use Rattle.zst_model.specs.declared.refusals.plan_fault.PlanFault.{PlanFault}
 use Rattle.zst_model.specs.pools.Step.{committed}
+use Rattle.zst_model.proofs.Results.{err_is}
 use Rattle.zst_pool.specs.Lineage.{JudgesDestroyed, pool_without}
 use Rattle.zst_pool.specs.Plans.{IsLast, is_by_rows}
-use Rattle.zst_pool.proofs.CheckLemmas.{err_has, err_is}
+use Rattle.zst_pool.proofs.CheckLemmas.{err_has}
 use Rattle.zst_pool.proofs.LineageRows.{same_number}
 use Rattle.zst_pool.proofs.lineage.plan_destroy.Goals as goal
 

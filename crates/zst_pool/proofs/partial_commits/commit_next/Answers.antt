@@ -4,6 +4,7 @@ use Rattle.std.proofs.lemmas.Result.{IfOk-weaker}
 use Rattle.zst_block.specs.Blocks.{Has, KeepsBlocks}
 use Rattle.zst_block.specs.IoStates.{io_of}
 use Rattle.zst_model.specs.pools.KeptPool.{kept_of}
+use Rattle.zst_model.proofs.Results.{err_is}
 use Rattle.zst_dir.specs.Rows.{IsLawful}
 use Rattle.zst_dir.specs.Spelling.{dir_bytes}
 use Rattle.zst_image.specs.Reads.{dir_sectors, free_by}
@@ -14,7 +15,6 @@ use Rattle.zst_pool.specs.Partials.{next_commit}
 use Rattle.zst_pool.specs.declared.fault.PoolFault.{PoolFault}
 use Rattle.zst_pool.specs.declared.fault.PoolFault.TheVariants.{Plan}
 use Rattle.zst_pool.proofs.CallLemmas.{call_did, call_fell, number_after}
-use Rattle.zst_pool.proofs.CheckLemmas.{err_is}
 use Rattle.zst_pool.proofs.CommitAnswers.{answers_ends, answers_follows, answers_full, answers_known, answers_ok, ends_idle}
 use Rattle.zst_pool.proofs.NamedPools.{rows_named}
 use Rattle.zst_pool.proofs.PoolsAtRest.{few_guids, kept_is_next, next_lawful, rests_next, rests_unless, way_runs}

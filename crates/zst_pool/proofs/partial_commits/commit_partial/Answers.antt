@@ -9,13 +9,13 @@ use Rattle.zst_pool.specs.PartialRows.{rows_with_partial}
 use Rattle.zst_pool.specs.Partials.{partial_put, with_partial}
 use Rattle.zst_pool.specs.declared.fault.PoolFault.TheVariants.{OutOfMemory}
 use Rattle.zst_pool.proofs.Bounds.{RunsBy-later}
-use Rattle.zst_pool.proofs.CheckLemmas.{err_is}
 use Rattle.zst_pool.proofs.CommitAnswers.{call_grows, ends_idle}
 use Rattle.zst_pool.proofs.EventEnds.{puts_starved}
 use Rattle.zst_pool.proofs.PartialRows.{partial_is_put}
 use Rattle.zst_pool.proofs.PoolsAtRest.{way_runs}
 use Rattle.zst_pool.proofs.Room.{call_full}
 use Rattle.zst_pool.proofs.partial_commits.commit_partial.Goals as goal
+use Rattle.zst_model.proofs.Results.{err_is}
 
 pub returns-in_err-dir-clause-puts : goal.returns-in_err-dir-clause-puts
 returns-in_err-dir-clause-puts g c =

@@ -1,8 +1,9 @@
 use Rattle.std.proofs.Common.{length, Err, ap, sym, ◌∙◌, arith}
 use Rattle.zst_model.specs.refusals.Refusal.{refusal_of}
-use Rattle.zst_pool.proofs.CheckLemmas.{partials_are_counted, snapshots_are_counted}
+use Rattle.zst_pool.proofs.CheckLemmas.{snapshots_are_counted}
 use Rattle.zst_pool.proofs.Limits.{past_partials, past_datasets, past_snapshots, past_number, within_limits}
 use Rattle.zst_pool.proofs.partials.check_limits.Goals as goal
+use Rattle.zst_dir.proofs.NamedRows.{partials_are_counted}
 
 pub returns-then-partials-gt-MOST_PARTIALS-clause-judged : goal.returns-then-partials-gt-MOST_PARTIALS-clause-judged
 returns-then-partials-gt-MOST_PARTIALS-clause-judged c = λ pool are same.

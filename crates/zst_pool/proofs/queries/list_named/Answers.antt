@@ -7,12 +7,12 @@ use Rattle.zst_model.specs.declared.pools.reply.Reply.{Reply}
 use Rattle.zst_model.specs.pools.Step.{answered, stepped}
 use Rattle.zst_model.specs.declared.refusals.plan_fault.PlanFault.{PlanFault}
 use Rattle.zst_model.specs.refusals.Refusal.{refusal_of}
+use Rattle.zst_model.proofs.Results.{err_is}
 use Rattle.zst_pool.specs.Plans.{is_by_rows}
 use Rattle.zst_pool.specs.declared.fault.PoolFault.TheVariants.{Plan}
 use Rattle.zst_pool.specs.Damage.{look_damage}
 use Rattle.zst_pool.specs.Faults.{of_list}
 use Rattle.zst_pool.proofs.ListQueries.{list_apart, list_missing, list_open, list_refused, list_there, list_told, no_plan-list, stop_list}
-use Rattle.zst_pool.proofs.CheckLemmas.{err_is}
 use Rattle.zst_pool.proofs.PlanLemmas.{plans_apart, plans_refused}
 use Rattle.zst_pool.proofs.QueryLemmas.{of_named, tells_missing}
 use Rattle.zst_pool.proofs.queries.list_named.Goals as goal

@@ -2,10 +2,10 @@ use Rattle.std.proofs.Common.{◌≡◌, ◌∙◌, false, sym, subst}
 use Rattle.zst_model.specs.declared.refusals.refusal.Refusal.{Refusal}
 use Rattle.std.specs.Prelude.{Result}
 use Rattle.zst_model.specs.pools.Step.{Stepped, newer_snapshots, unless_newer}
+use Rattle.zst_model.proofs.Results.{err_is}
 use Rattle.zst_dir.specs.declared.removal.Removal.{Removal}
 use Rattle.zst_pool.specs.Checks.{Judges}
 use Rattle.zst_pool.specs.Lineage.{AreGoing, if_rolls_back, newer_in_pool}
-use Rattle.zst_pool.proofs.CheckLemmas.{err_is}
 use Rattle.zst_pool.proofs.RollbackRows.{destroying_looks, keeping_looks, newer_go, same_dataset}
 use Rattle.zst_pool.proofs.rollbacks.check_rollback.Goals as goal
 

@@ -2,9 +2,10 @@ use Rattle.std.proofs.Common.{◌≡◌, ◌⊎◌, ℕ, true, inl, inr, ◌∙�
 use Rattle.zst_model.specs.pools.Step.{committed, rolled_back}
 use Rattle.zst_dir.specs.RowNames.{NamesSnapshot}
 use Rattle.zst_model.specs.declared.refusals.plan_fault.PlanFault.{PlanFault}
+use Rattle.zst_model.proofs.Results.{err_is}
 use Rattle.zst_pool.specs.Plans.{IsLast, is_by_rows}
 use Rattle.zst_pool.specs.Lineage.{JudgesRollback}
-use Rattle.zst_pool.proofs.CheckLemmas.{err_has, err_is}
+use Rattle.zst_pool.proofs.CheckLemmas.{err_has}
 use Rattle.zst_dir.proofs.Matches.{Match-alike}
 use Rattle.zst_pool.proofs.RollbackRows.{newer_is, rolls_to}
 use Rattle.zst_pool.proofs.rollbacks.plan_rollback.Goals as goal

@@ -5,8 +5,9 @@ use Rattle.std.proofs.lemmas.List.Elements.{All-drop, All-from_get_or, All-take}
 use Rattle.std.specs.List.{All}
 use Rattle.zst_model.specs.declared.sends.header.Header.{Header}
 use Rattle.zst_model.specs.fields.Guids.{IsGuidSet}
+use Rattle.zst_model.proofs.GuidLists.{IsSet}
 use Rattle.zst_record.specs.Payload.{goes_with_redacted, goes_with_resuming, goes_with_source, said_beside}
-use Rattle.zst_record.proofs.PayloadFields.{AreRight, IsSet, numbers_right, numbers_short, numbers_wrong, point_in, redact_in, from_redact_in}
+use Rattle.zst_record.proofs.PayloadFields.{AreRight, numbers_right, numbers_short, numbers_wrong, point_in, redact_in, from_redact_in}
 use Rattle.zst_record.proofs.payload.content_of.Goals.{then-second-others-via-then-second-others, then-second-others-via-else-second-others+then-not-goes_with}
 use Rattle.zst_record.proofs.payload.content_of.Goals as goal
 

@@ -7,13 +7,13 @@ use Rattle.zst_image.specs.Reads.{PartialIs, bound_of, free_by}
 use Rattle.zst_pool.specs.PartialRows.{CanPut, rows_with_partial}
 use Rattle.zst_pool.specs.Partials.{partial_finished, partial_put}
 use Rattle.zst_pool.specs.declared.fault.PoolFault.{PoolFault}
-use Rattle.zst_pool.proofs.CheckLemmas.{err_is}
 use Rattle.zst_recv.specs.ReceiveSteps.{put}
 use Rattle.zst_recv.specs.Commits.{CommitsBatch, Puts}
 use Rattle.zst_recv.specs.Stages.{CanPutFor, IsStage, LivesOn, StageFits}
 use Rattle.zst_recv.specs.declared.stage.Stage as coded
 use Rattle.zst_recv.proofs.CommitLemmas.{can_again, commits_made, commits_none, commits_refused, ended, goes_idle, idle_put, living, put_ended, put_living, put_none, puts_err, puts_none, puts_ok, batch_more}
 use Rattle.zst_recv.proofs.commits.put.Goals as goal
+use Rattle.zst_model.proofs.Results.{err_is}
 
 pub returns-then-not-batch-clause-puts : goal.returns-then-not-batch-clause-puts
 returns-then-not-batch-clause-puts g c = λ tight start running plain told way is.

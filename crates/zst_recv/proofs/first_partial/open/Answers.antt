@@ -4,7 +4,7 @@ use Rattle.zst_dir.specs.declared.rows.Partial.{Partial}
 use Rattle.zst_plan.specs.Receipts.{IsNewPlan, IsPlainPlan, IsRecvPlanOf}
 use Rattle.zst_plan.specs.RecvPlan.{RecvPlan, recv_plan}
 use Rattle.zst_plan.specs.declared.receive.RecvPlan as plans
-use Rattle.zst_recv.proofs.AlikeAnswers.{answers, err_alike, ok_alike, refuses}
+use Rattle.zst_plan.proofs.AlikeAnswers.{ok_alike, err_alike, refuses, answers}
 use Rattle.zst_pool.proofs.NamedPools.{rows_named}
 use Rattle.zst_image.specs.Reads.{PartialIs}
 use Rattle.zst_recv.specs.ReceiveSteps.{begun, opened}

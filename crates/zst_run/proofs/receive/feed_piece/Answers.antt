@@ -5,12 +5,13 @@ use Rattle.zst_recv.specs.declared.fault.RecvFault.{RecvFault}
 use Rattle.zst_run.proofs.PieceCosts.{grows_behind, short_behind}
 use Rattle.zst_run.proofs.TurnEnds.{turns_on, turns_received, turns_refused, turns_without}
 use Rattle.zst_recv.specs.Faults.{recv_refusal}
+use Rattle.zst_recv.proofs.FeedEnds.{fits_within}
 use Rattle.zst_run.specs.ReceiveTurns.{TurnPlans, turn_behind}
 use Rattle.zst_run.specs.declared.receive.Turn.TheVariants as turns
 use Rattle.zst_model.specs.declared.refusals.refusal.Refusal.TheVariants as refusals
 use Rattle.zst_run.proofs.ReceiveDamage.{damaged_only, never_refused, turn_refused}
 use Rattle.zst_run.proofs.LaterDisks.{later_none}
-use Rattle.zst_run.proofs.LiveReceives.{fed_within, lives_on, lives_without}
+use Rattle.zst_run.proofs.LiveReceives.{lives_on, lives_without}
 use Rattle.zst_run.proofs.ReceiveLemmas.{feed_refused}
 use Rattle.zst_run.proofs.ReceivePlans.{ends_plans, gave_one, goes_plans, none_plans, refused_plans, turn_plans}
 use Rattle.zst_run.proofs.receive.feed_piece.Goals as goal
@@ -142,7 +143,7 @@ returns-then-piece-eq0-clause-leaves g c =
           rw c.turn_behind.ensures
           (lives_without disk disk c.args.recv.now c.args.pool.now.io.failed (g.S.Source.state c.args.input.now) (g.S.Source.state p.new.input) p.new.room p.result.count p.result.end c.if-piece-eq0.true
           (p.ensures.room ∙ c.requires.room) p.ensures.fills can.live can.works);
-      within = fed_within _ _ can.fits;
+      within = fits_within _ _ can.fits;
       ask = refl;
       fits = can.fits;
       ready = λ works. can.ready;

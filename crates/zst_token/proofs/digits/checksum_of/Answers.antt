@@ -1,9 +1,10 @@
 use Rattle.std.proofs.Common.{◌≡◌, ap, sym, ◌∙◌, ◌++◌, arith, take, get_or, flat_map, List, ℕ}
 use Rattle.std.proofs.lemmas.List.{take_all}
 use Rattle.zst_bytes.specs.Words.{word}
+use Rattle.zst_bytes.proofs.WordLists.{words-more}
 use Rattle.zst_fletcher.specs.WeightSum.{weight_sum}
 use Rattle.zst_model.specs.refusals.Texts.{guid_text}
-use Rattle.zst_token.proofs.Numbers.{IsWhole-words, words-more, word-to_le_bytes}
+use Rattle.zst_token.proofs.Numbers.{IsWhole-words, word-to_le_bytes}
 use Rattle.zst_token.proofs.digits.checksum_of.Goals as goal
 
 pub loop-number-preserved : goal.loop-number-preserved

@@ -4,8 +4,8 @@ use Rattle.zst_dir.specs.declared.rows.Snapshot.{Snapshot}
 use Rattle.zst_plan.specs.Places.{StandsAt}
 use Rattle.zst_plan.specs.Plans.{bookmark_source}
 use Rattle.zst_plan.proofs.BeginHeader.{bookmark_guids, there_alike}
-use Rattle.zst_plan.proofs.LookupLemmas.{at_names}
 use Rattle.zst_plan.proofs.plan.SendPlan.header.Goals as goal
+use Rattle.zst_plan.proofs.AlikeAnswers.{at_names}
 
 pub returns : goal.returns
 returns c = λ pool sent are is.

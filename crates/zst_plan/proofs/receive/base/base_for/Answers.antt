@@ -6,9 +6,9 @@ use Rattle.zst_model.specs.pools.Pool.{dataset_named}
 use Rattle.zst_plan.specs.Places.{StandsAt}
 use Rattle.zst_plan.specs.Receipts.{IsBaseOf, TellsHead}
 use Rattle.zst_plan.specs.RecvPlan.{base_anew, base_for, base_onto}
-use Rattle.zst_plan.proofs.LookupLemmas.{at_names, datasets_find, none_alike, some_alike}
-use Rattle.zst_plan.proofs.ReceiveChecks.{hands_on}
+use Rattle.zst_plan.proofs.LookupLemmas.{datasets_find}
 use Rattle.zst_plan.proofs.receive.base.base_for.Goals as goal
+use Rattle.zst_plan.proofs.AlikeAnswers.{at_names, none_alike, some_alike, hands_on}
 
 pub returns-in-Some-clause-exact : goal.returns-in-Some-clause-exact
 returns-in-Some-clause-exact c = λ pool are tells.

@@ -4,10 +4,10 @@ use Rattle.zst_model.specs.states.AppliedItems.{◌>>=◌}
 use Rattle.zst_plan.specs.Places.{StandsAt}
 use Rattle.zst_plan.specs.Receipts.{IsBaseOf}
 use Rattle.zst_plan.specs.RecvPlan.{Base, base_by_head, base_onto, find_latest, if_kind, if_source}
-use Rattle.zst_plan.proofs.SendChecks.{err_alike, ok_alike}
 use Rattle.zst_plan.proofs.LookupLemmas.{row_names}
-use Rattle.zst_plan.proofs.ReceiveChecks.{answers, is_increment, onto_latest, onto_named, refuses}
+use Rattle.zst_plan.proofs.ReceiveChecks.{is_increment, onto_latest, onto_named}
 use Rattle.zst_plan.proofs.receive.base.base_onto.Goals as goal
+use Rattle.zst_plan.proofs.AlikeAnswers.{ok_alike, err_alike, refuses, answers}
 
 pub returns-in_err-check_increment-clause-exact : goal.returns-in_err-check_increment-clause-exact
 returns-in_err-check_increment-clause-exact c = λ pool target are names tells.

@@ -3,8 +3,9 @@ use Rattle.std.specs.List.{find}
 use Rattle.zst_model.specs.declared.refusals.subjects.Holder.TheVariants as holders
 use Rattle.zst_model.specs.declared.refusals.plan_fault.PlanFault.TheVariants as plans
 use Rattle.zst_plan.specs.RecvPlan.{Base, base_by_head}
-use Rattle.zst_plan.proofs.ReceiveChecks.{answers, bookmark_is_lost, hands_on, head_rolls, is_dated, is_later, is_later_row, later_alike, none_is_lost}
+use Rattle.zst_plan.proofs.ReceiveChecks.{bookmark_is_lost, head_rolls, is_dated, is_later, is_later_row, later_alike, none_is_lost}
 use Rattle.zst_plan.proofs.receive.base.goes_back.Goals as goal
+use Rattle.zst_plan.proofs.AlikeAnswers.{answers, hands_on}
 
 pub returns-in-Some : goal.returns-in-Some
 returns-in-Some c = λ pool target snapshot are names tells is.

@@ -5,8 +5,8 @@ use Rattle.zst_model.specs.states.AppliedItems.{unless}
 use Rattle.zst_names.specs.Names.{IsComponent, StopsAt, component_of}
 use Rattle.zst_plan.specs.RecvPlan.{behind_mark, component_stop, snapshot_name, stated_component}
 use Rattle.zst_plan.proofs.Components.{fails, is_text, passes, stops_there}
-use Rattle.zst_plan.proofs.ReceiveChecks.{answers, hands_on}
 use Rattle.zst_plan.proofs.receive.name.stated_name.Goals as goal
+use Rattle.zst_plan.proofs.AlikeAnswers.{answers, hands_on}
 
 pub returns-in-Err-clause-exact : goal.returns-in-Err-clause-exact
 returns-in-Err-clause-exact c =

@@ -6,9 +6,9 @@ use Rattle.zst_model.specs.states.AppliedItems.{◌>>=◌}
 use Rattle.zst_plan.specs.Places.{StandsAt}
 use Rattle.zst_plan.specs.Receipts.{IsBaseOf}
 use Rattle.zst_plan.specs.RecvPlan.{base_by_guid, cloned_base, is_full}
-use Rattle.zst_plan.proofs.LookupLemmas.{none_alike, some_alike}
-use Rattle.zst_plan.proofs.ReceiveChecks.{by_guid, guids_find, hands_on}
+use Rattle.zst_plan.proofs.ReceiveChecks.{by_guid, guids_find}
 use Rattle.zst_plan.proofs.receive.new_dataset.base_by_guid.Goals as goal
+use Rattle.zst_plan.proofs.AlikeAnswers.{none_alike, some_alike, hands_on}
 
 pub returns-in-Some-clause-exact : goal.returns-in-Some-clause-exact
 returns-in-Some-clause-exact c = λ pool are.

@@ -5,10 +5,9 @@ use Rattle.zst_model.specs.states.AppliedItems.{◌>>=◌}
 use Rattle.zst_plan.specs.Places.{StandsAt}
 use Rattle.zst_plan.specs.Receipts.{IsBaseOf}
 use Rattle.zst_plan.specs.RecvPlan.{base_by_origin, cloned_base, if_frees, if_from_origin}
-use Rattle.zst_plan.proofs.SendChecks.{ok_alike}
 use Rattle.zst_plan.proofs.LookupLemmas.{row_names}
-use Rattle.zst_plan.proofs.ReceiveChecks.{hands_on, refuses}
 use Rattle.zst_plan.proofs.receive.new_dataset.base_by_origin.Goals as goal
+use Rattle.zst_plan.proofs.AlikeAnswers.{ok_alike, refuses, hands_on}
 
 pub returns-in_err-check_from_origin-clause-exact : goal.returns-in_err-check_from_origin-clause-exact
 returns-in_err-check_from_origin-clause-exact c = λ pool are.

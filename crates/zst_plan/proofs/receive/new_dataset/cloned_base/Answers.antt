@@ -3,8 +3,9 @@ use Rattle.zst_dir.specs.declared.rows.Snapshot.{Snapshot}
 use Rattle.zst_plan.specs.Receipts.{IsBaseOf}
 use Rattle.zst_plan.specs.RecvPlan.{cloned_base, if_kind}
 use Rattle.zst_plan.proofs.LookupLemmas.{row_names}
-use Rattle.zst_plan.proofs.ReceiveChecks.{answers, refuses, unrolled}
+use Rattle.zst_plan.proofs.ReceiveChecks.{unrolled}
 use Rattle.zst_plan.proofs.receive.new_dataset.cloned_base.Goals as goal
+use Rattle.zst_plan.proofs.AlikeAnswers.{refuses, answers}
 
 pub returns-in_err-check_kind-clause-exact : goal.returns-in_err-check_kind-clause-exact
 returns-in_err-check_kind-clause-exact c = λ pool snapshot are at.

@@ -1,10 +1,11 @@
 use Rattle.std.proofs.Common.{◌∙◌, List, ℕ, Err, is_some, sym, ap}
 use Rattle.zst_dir.proofs.Lookups.{no_snapshot}
+use Rattle.zst_dir.proofs.NamedRows.{snapshot_is_there}
 use Rattle.zst_model.specs.declared.refusals.subjects.Name.TheVariants as names
 use Rattle.zst_model.specs.declared.refusals.subjects.PresentSubject.TheVariants as present
 use Rattle.zst_model.specs.declared.refusals.plan_fault.PlanFault.TheVariants as plans
 use Rattle.zst_model.specs.states.AppliedItems.{unless}
-use Rattle.zst_plan.proofs.ReceiveChecks.{is_taken, snapshot_is_there}
+use Rattle.zst_plan.proofs.ReceiveChecks.{is_taken}
 use Rattle.zst_plan.proofs.receive.room.check_new.Goals as goal
 
 pub returns-then-is_some-clause-exact : goal.returns-then-is_some-clause-exact

@@ -1,11 +1,12 @@
 use Rattle.std.proofs.Common.{◌≡◌, ◌∙◌, ◌+◌, length, refl, sym, ap, subst}
 use Rattle.zst_model.specs.declared.refusals.faults.Quantity.TheVariants as quantities
 use Rattle.zst_model.specs.pools.Step.{count_datasets}
+use Rattle.zst_model.proofs.Results.{err_is}
 use Rattle.zst_plan.specs.Places.{Judges}
 use Rattle.zst_plan.specs.RecvPlan.{if_room, if_within, new_datasets}
-use Rattle.zst_plan.proofs.SendChecks.{err_is}
-use Rattle.zst_plan.proofs.ReceiveChecks.{partials_are_counted, room_is, snapshots_are_counted}
+use Rattle.zst_plan.proofs.ReceiveChecks.{room_is, snapshots_are_counted}
 use Rattle.zst_plan.proofs.receive.room.check_room.Goals as goal
+use Rattle.zst_dir.proofs.NamedRows.{partials_are_counted}
 
 pub returns-in_err-check_within : goal.returns-in_err-check_within
 returns-in_err-check_within c = λ pool rest are.

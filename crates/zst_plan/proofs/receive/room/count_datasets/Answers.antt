@@ -1,6 +1,6 @@
 use Rattle.std.proofs.Common.{ap, ◌∙◌, ◌+◌, length}
-use Rattle.zst_plan.proofs.ReceiveChecks.{datasets_are_counted}
 use Rattle.zst_plan.proofs.receive.room.count_datasets.Goals as goal
+use Rattle.zst_dir.proofs.NamedRows.{datasets_are_counted}
 
 pub returns-clause-many : goal.returns-clause-many
 returns-clause-many c = λ pool are.

@@ -2,6 +2,7 @@ use Rattle.std.specs.Prelude.{◌||◌, Bool, true, Result, Ok, Err, IfErr}
 use Rattle.std.proofs.Common.{◌≡◌, ℕ, ◌+◌, List, [], ◌∷◌, refl, sym, ap, ◌∙◌, subst, arith}
 use Rattle.zst_model.specs.pools.AnswerLines.{ok_line}
 use Rattle.zst_model.specs.pools.Step.{stepped}
+use Rattle.zst_model.proofs.Results.{err_is}
 use Rattle.zst_image.specs.declared.pool_state.PoolState.{PoolState}
 use Rattle.zst_block.specs.Blocks.{FitsDisk, Has}
 use Rattle.zst_outside.specs.Images.{OnlyReads-none}
@@ -17,7 +18,6 @@ use Rattle.zst_pool.specs.declared.fault.PoolFault.TheVariants.{Failed, OutOfMem
 use Rattle.zst_image.proofs.PlainReads.{RunsBy-plain}
 use Rattle.zst_pool.proofs.QuerySteps.{on_err, rests_read, since_read, spares_read, spends_none, told_rests}
 use Rattle.zst_pool.proofs.CommandParts.{or_false}
-use Rattle.zst_pool.proofs.CheckLemmas.{err_is}
 use Rattle.zst_pool.proofs.EventEnds.{settles_committed, settles_err, settles_failed, runs_settled, settles_ok, settles_told, step_failed}
 use Rattle.zst_pool.proofs.PlanLemmas.{plans_err, plans_ok}
 use Rattle.zst_pool.proofs.Replies.{step_reply}

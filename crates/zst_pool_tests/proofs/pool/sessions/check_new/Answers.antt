@@ -1,6 +1,6 @@
 use Rattle.std.proofs.Common.{◌∙◌, sym, ap, is_some}
-use Rattle.zst_pool.proofs.CheckLemmas.{no_snapshot}
 use Rattle.zst_pool_tests.proofs.pool.sessions.check_new.Goals as goal
+use Rattle.zst_dir.proofs.Lookups.{no_snapshot}
 
 pub returns : goal.returns
 returns c = record {

@@ -1,13 +1,13 @@
 use Rattle.std.proofs.Common.{◌≡◌, ◌∙◌, false, sym, subst, refl}
 use Rattle.zst_block.specs.Blocks.{Has}
 use Rattle.zst_plan.specs.RecvPlan.{recv_plan}
+use Rattle.zst_plan.proofs.AlikeAnswers.{err_alike}
 use Rattle.zst_record.specs.declared.head.Head.TheVariants as heads
 use Rattle.zst_recv.specs.ReceiveSteps.{opened}
 use Rattle.zst_recv.specs.Stages.{IsBatch, IsStage, waits_at}
 use Rattle.zst_recv.specs.declared.batch.Batch as batches
 use Rattle.zst_recv.specs.declared.stage.Stage as coded
 use Rattle.zst_recv.specs.declared.stage.Stage.TheVariants as stages
-use Rattle.zst_recv.proofs.AlikeAnswers.{err_alike}
 use Rattle.zst_recv.proofs.BatchMoves.{moves_begun, moves_passed, moves_refused, not_waits}
 use Rattle.zst_recv.proofs.HandedRecords.{refused_begin, waits_tell}
 use Rattle.zst_recv.proofs.PlanRefusals.{begun_planned, refused_planned}

@@ -5,7 +5,7 @@ use Rattle.zst_record.specs.Heads.{covered_of}
 use Rattle.zst_model.specs.states.AppliedItems.{◌>>=◌}
 use Rattle.zst_model.specs.pools.Pool as models
 use Rattle.zst_model.specs.declared.refusals.refusal.Refusal.{Refusal}
-use Rattle.zst_recv.proofs.AlikeAnswers.{err_is}
+use Rattle.zst_model.proofs.Results.{err_is}
 use Rattle.zst_recv.specs.ReceiveSteps.{moved_by, taken, with_applied}
 use Rattle.zst_recv.specs.Stages.{IsBatch, StageFits}
 use Rattle.zst_recv.specs.TakenRecords.{Takes}

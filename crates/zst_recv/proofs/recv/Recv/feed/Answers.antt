@@ -1,6 +1,7 @@
 use Rattle.std.proofs.Common.{◌≡◌, ◌&&◌, ◌++◌, ◌||◌, Bool, true, false, cond, Some, None, Ok, Err, refl, sym, ap, ◌∙◌, subst, arith, ◌⊎◌}
 use Rattle.std.specs.Prelude.{◌+◌, ◌-◌, ◌≤◌, ℕ, IsSome, List, [], Result, length, not, sum_by}
 use Rattle.std.proofs.lemmas.List.{length-append}
+use Rattle.std.proofs.lemmas.Bool.{not-true, not-false}
 use Rattle.zst_space.specs.FreeSectors.{FreeSectors}
 use Rattle.zst_reader.specs.InputReads.{stream_limit}
 use Rattle.zst_reader.specs.StandsFor.{StandsFor, pushed_of, HandsOut}
@@ -44,7 +45,7 @@ use Rattle.zst_recv.specs.declared.fault.RecvFault.{RecvFault}
 use Rattle.zst_recv.specs.declared.fault.RecvFault.TheVariants as faults
 use Rattle.zst_recv.proofs.DamageLemmas.{damaged_renewed, err_told, told_call}
 use Rattle.zst_recv.proofs.HandedRecords.{over_reads}
-use Rattle.zst_recv.proofs.FeedEnds.{behind_fits, both_false, by_test, fed_so, first_stage, first_way, fits_within, kept_is, known_call, left_rests, live_behind, live_fits, loose, lost, not_false, not_not, over_fits, received_then, stopped, too_long, unmade, untaken_stands, waits_behind}
+use Rattle.zst_recv.proofs.FeedEnds.{behind_fits, both_false, by_test, fed_so, first_stage, first_way, fits_within, kept_is, known_call, left_rests, live_behind, live_fits, loose, lost, over_fits, received_then, stopped, too_long, unmade, untaken_stands, waits_behind}
 use Rattle.zst_stream.specs.Reading.{reading, waiting}
 use Rattle.zst_recv.specs.Costs.{PieceIsShort, Spends, records_behind}
 use Rattle.zst_recv.proofs.CostLemmas.{full_keeps_none, piece_grows, same_pool, short_put, short_read}
@@ -663,7 +664,7 @@ returns-in-Ok-put-clause-pool g c =
     let batch = c.read.new.batch in
     leaves_fed pool put c.if-pool.false c.go_on.result
     (λ goes.
-    let live : is_live batch.stage ≡ true = not_not (is_live batch.stage) (sym c.go_on.ensures.done ∙ goes) in
+    let live : is_live batch.stage ≡ true = not-false (is_live batch.stage) (sym c.go_on.ensures.done ∙ goes) in
     let none = λ (waits : waits_at batch.stage ≡ true). still_idle batch c.new-batch.result c.read.ensures.gathers.waits c.new-batch.ensures.taken waits in
     let fills = subst (λ (d : DiskState). FillsFree d free two c.read.new.io.space) (ap (λ (d : g.row.D.Denot). g.D.Disk.state d) c.renew.ensures.disk.now)
     (subst (λ (s : FreeSectors). FillsFree (g.D.Disk.state c.renew.new.self.io.disk.now) s two c.read.new.io.space) c.renew.ensures.space c.read.ensures.writes.fills.fills) in
@@ -685,11 +686,11 @@ returns-in-Ok-put-clause-receive g c =
       live = ap is_live c.go_on.ensures.stage ∙ live_behind batch.stage c.go_on.result.done c.go_on.ensures.done;
       fits = fits;
       fed = λ goes.
-          let live : is_live batch.stage ≡ true = not_not (is_live batch.stage) (sym c.go_on.ensures.done ∙ not_false c.go_on.result.done goes) in
+          let live : is_live batch.stage ≡ true = not-false (is_live batch.stage) (sym c.go_on.ensures.done ∙ not-true c.go_on.result.done goes) in
           ap pushed_of c.go_on.ensures.reader ∙ c.in-Ok.ensures.takes.all live;
       within = fits_within _ after fits;
       received = λ done.
-          let over : is_live batch.stage ≡ false = not_false (is_live batch.stage) (sym c.go_on.ensures.done ∙ done) in
+          let over : is_live batch.stage ≡ false = not-true (is_live batch.stage) (sym c.go_on.ensures.done ∙ done) in
           subst (λ (s : coded.Stage). IsSome (received_at s)) (sym c.go_on.ensures.stage) (received_then c.renew.new.self.kept.dir target batch.stage (read_fits g (goal.at.returns-in-Ok-put-clause-receive g c).After-read) over);
       waited = λ waits.
           let still = waits_behind batch.stage (ap waits_at (sym c.go_on.ensures.stage) ∙ waits) in

@@ -3,12 +3,14 @@ use Rattle.std.proofs.Common.{◌≡◌, ◌∙◌, subst}
 use Rattle.zst_block.specs.Blocks.{Has}
 use Rattle.zst_model.specs.sends.Headers.{Sent}
 use Rattle.zst_model.specs.sends.SendPlan.{send_plan}
+use Rattle.zst_model.proofs.Results.{err_is}
 use Rattle.zst_objset.specs.TightSets.{SetIsTight}
 use Rattle.zst_plan.specs.Plans.{IsPlanOf}
+use Rattle.zst_plan.proofs.AlikeAnswers.{ok_alike, err_alike}
 use Rattle.zst_pool.specs.declared.fault.PoolFault.TheVariants.{OutOfMemory, Plan}
 use Rattle.zst_send.specs.Openings.{opening}
 use Rattle.zst_pool.proofs.NamedPools.{rows_named}
-use Rattle.zst_send.proofs.PlanRows.{err_alike, err_is, ok_alike, passed, plan_lacks, plan_refuses, planned_is, refuses, unplanned}
+use Rattle.zst_send.proofs.PlanRows.{passed, plan_lacks, plan_refuses, planned_is, refuses, unplanned}
 use Rattle.zst_send.proofs.send.Send.open.Goals as goal
 
 pub returns-in_err-plan-clause-opens : goal.returns-in_err-plan-clause-opens

@@ -5,8 +5,9 @@ use Rattle.zst_pool.specs.declared.fault.PoolFault.TheVariants.{OutOfMemory, Pla
 use Rattle.zst_pool.proofs.NamedPools.{rows_named}
 use Rattle.zst_send.specs.Openings.{Resumes, built}
 use Rattle.zst_send.specs.declared.send.Send.{Send}
-use Rattle.zst_send.proofs.PlanRows.{err_is, passed, plan_lacks, plan_refuses}
+use Rattle.zst_send.proofs.PlanRows.{passed, plan_lacks, plan_refuses}
 use Rattle.zst_send.proofs.send.Send.resume.Goals as goal
+use Rattle.zst_model.proofs.Results.{err_is}
 
 pub returns-in_err-check_built-clause-resumes : goal.returns-in_err-check_built-clause-resumes
 returns-in_err-check_built-clause-resumes g c = λ image space running sent live runs is.

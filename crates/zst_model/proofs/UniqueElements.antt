@@ -1,6 +1,7 @@
 -- Elements of a list that its pairs can't tell apart are one.
-use Rattle.std.proofs.Common.{◌≡◌, inl, inr, ◌⊎◌, List, [], ◌∷◌, AllPairs, Contains, sym, ◌∙◌, subst}
+use Rattle.std.proofs.Common.{◌≡◌, ◌≢◌, inl, inr, ◌⊎◌, List, [], ◌∷◌, AllPairs, Contains, sym, ◌∙◌, subst}
 use Rattle.std.proofs.lemmas.List.Elements.{All-contains}
+use Rattle.zst_model.specs.pools.Pool.{Snapshot}
 use Rattle.zst_model.proofs.InsertedLaws.{contains_cases, contains_nothing, AllPairs-head, AllPairs-tail}
 
 -- two elements of which neither may stand before the other
@@ -18,3 +19,9 @@ same_element {A = A} R (x ∷ xs) pairs a b here there not_ab not_ba =
     go rest (inl e) (inr k) = absurd (not_ab (behind a b e k))
     go rest (inr k) (inl f) = absurd (not_ba (behind b a f k))
     go rest (inr k) (inr l) = rest k l not_ab not_ba
+
+-- snapshots whose names differ and that have one name are one
+pub same_named : (snapshots : List Snapshot) → AllPairs (λ a b. a.name ≢ b.name) snapshots → (a b : Snapshot)
+    → Contains snapshots a → Contains snapshots b → a.name ≡ b.name → a ≡ b
+same_named snapshots differ a b here there same =
+    same_element (λ c d. c.name ≢ d.name) snapshots differ a b here there (λ h. h same) (λ h. h (sym same))
