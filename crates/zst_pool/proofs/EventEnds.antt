@@ -192,9 +192,12 @@ module _ {D : Type 0} {g : Ghosts D} where
   looks_idle pool result failed_pool never = record {
     failed_pool = failed_pool;
     idle_disk = λ is. refl;
-    only_answers = record { reads = OnlyReads-none (disk_of pool.io); kept = refl };
-    space = refl;
-    failed = or_false pool.io.failed ∙ ap (λ (b : Bool). pool.io.failed || b) (sym never);
-    cause = record { later = omega arith; fault = λ is. absurd (disk_told (sym never ∙ ap is_disk_fault is)) };
-    same = refl;
+    reads_only = record {
+      reads = OnlyReads-none (disk_of pool.io);
+      space = refl;
+      failed = or_false pool.io.failed ∙ ap (λ (b : Bool). pool.io.failed || b) (sym never);
+      cause = record { later = omega arith; fault = λ is. absurd (disk_told (sym never ∙ ap is_disk_fault is)) };
+      same = refl;
+    };
+    kept = refl;
   }

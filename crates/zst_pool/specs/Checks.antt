@@ -1,6 +1,8 @@
 -- What the checks of a command say of its definition.
-use Rattle.std.specs.Prelude.{◌≡◌, ℕ, ◌+◌, List, [], ◌∷◌, length, map, false, is_some, Option, Result, Ok, Err}
+use Rattle.std.specs.Prelude.{◌≡◌, ◌⊎◌, ℕ, ◌+◌, ◌<◌, ◌^◌, List, [], ◌∷◌, length, map, true, false, bytes_eq, is_some, Option, Result, Ok, Err, IfErr, OnOk}
 use Rattle.std.specs.Borrow.{Bor}
+use Rattle.std.specs.List.{list_any}
+use Rattle.zst_names.specs.Names.{dataset_of}
 use Rattle.zst_model.specs.declared.states.attr.ObjectHead.{ObjectHead}
 use Rattle.zst_model.specs.declared.states.item.Change.TheVariants.{Put}
 use Rattle.zst_model.specs.declared.states.item.Item.TheVariants.{At, FreeObjects}
@@ -17,14 +19,32 @@ use Rattle.zst_model.specs.pools.Pool as plain
 use Rattle.zst_model.specs.refusals.Refusal.{refusal_of}
 use Rattle.zst_model.specs.pools.Step.{Stepped, exists_already, limited, last_guid, most_snapshots, on_dataset, on_head, committed, with_head, snapshot_of, with_snapshot, applied, in_numbers}
 use Rattle.zst_tree.specs.declared.tree.ObjSet.{ObjSet}
-use Rattle.zst_dir.specs.Rows.{Rows}
+use Rattle.zst_dir.specs.Rows.{HasSnapshot, Rows}
 use Rattle.zst_dir.specs.declared.rows.Dataset.{Dataset}
-use Rattle.zst_dir.specs.RowNames.{StandAlike}
+use Rattle.zst_dir.specs.RowNames.{AreNamed, StandAlike}
+use Rattle.zst_image.specs.declared.pool_state.PoolState.{PoolState}
+use Rattle.zst_pool.specs.Plans.{IsLast, is_by_rows}
 
 -- a check that passes leaves what comes next of the definition, and one that refuses gives the definition's refusal
 abbrev pub Judges : {T : Type 0} → Result Stepped Refusal → Result Stepped Refusal → Result T PlanFault → Type 0
 Judges definition next (Ok value) = definition ≡ next
 Judges definition next (Err fault) = definition ≡ Err (refusal_of fault)
+
+-- a check by the rows of a directory: it refuses only what they tell, and is judged so by each pool that they name
+pub record ChecksRows {T : Type 0} (dir : Rows) (judges : Pool → Result T PlanFault → Type 0) (result : Result T PlanFault) : Type 0 where
+  pub rows : IfErr result (λ fault. is_by_rows fault ≡ true)
+  pub judged : (pool : Pool) → AreNamed dir pool → judges pool result
+
+-- a plan of a commit over what is kept: it is judged so by each pool that this names
+pub record PlansCommit {T : Type 0} (kept : PoolState) (judges : Pool → Result T PlanFault → Type 0) (result : Result T PlanFault) : Type 0 where
+  -- one more number is left
+  pub number : OnOk result (kept.body.number < 2 ^ 63)
+  pub refused : IfErr result (λ fault. (is_by_rows fault ≡ true) ⊎ IsLast kept.body.number fault)
+  pub judged : (pool : Pool) → AreNamed kept.dir pool → pool.number ≡ kept.body.number → judges pool result
+
+-- a definition of which this check leaves what comes next, or gives its refusal
+abbrev pub JudgesNext : {T : Type 0} → (Pool → Result Stepped Refusal → Result Stepped Refusal) → Pool → Result T PlanFault → Type 0
+JudgesNext definition pool result = (rest : Result Stepped Refusal) → Judges (definition pool rest) rest result
 
 -- what comes next, where a snapshot's name is free and one more snapshot has room
 abbrev pub if_new_snapshot : List ℕ → Pool → Result Stepped Refusal → Result Stepped Refusal
@@ -58,6 +78,11 @@ FindsDataset rows name pool (Ok row) =
     (dataset : plain.Dataset) × StandAlike rows.datasets pool.datasets row.now dataset
     × ((next : plain.Dataset → Result Stepped Refusal) → on_dataset name pool next ≡ next dataset)
 FindsDataset rows name pool (Err fault) = (next : plain.Dataset → Result Stepped Refusal) → on_dataset name pool next ≡ Err (refusal_of fault)
+
+-- a snapshot of this name can be taken: there is none, and its dataset has no partial state
+pub record CanTake (rows : Rows) (name : List ℕ) : Type 0 where
+  pub absent : HasSnapshot rows name → ⊥
+  pub free : list_any (λ partial. bytes_eq partial.target (dataset_of 64 name)) rows.partials ≡ false
 
 -- the row of a new snapshot's dataset, the dataset at its place and what the definition makes of it; or its refusal
 abbrev pub JudgesSnapshot : Rows → ℕ → List ℕ → Pool → Result (Bor Dataset) PlanFault → Type 0

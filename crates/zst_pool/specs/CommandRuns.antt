@@ -10,9 +10,11 @@ use Rattle.zst_objset.specs.Damage.{DamageFact}
 use Rattle.zst_pool.specs.Cost.{Cost, Spends}
 use Rattle.zst_pool.specs.Damage.{IsOf}
 use Rattle.zst_pool.specs.Faults.{StepFault}
+use Rattle.zst_image.specs.Commits.{Ready}
 use Rattle.zst_image.specs.Reads.{free_by}
 use Rattle.zst_pool.specs.Calls.{IsAtRest}
 use Rattle.zst_pool.specs.Events.{EndsCommit}
+use Rattle.zst_pool.specs.Plans.{Plans}
 use Rattle.zst_pool.specs.StepAnswers.{BeforeOrAfter}
 use Rattle.zst_pool.specs.declared.fault.PoolFault.{PoolFault}
 use Rattle.zst_pool.specs.declared.fault.PoolFault.TheVariants.{DiskFault, Failed}
@@ -47,3 +49,13 @@ pub record Ran (definition : Pool → Result Stepped Refusal) (cost : Cost) (kep
 pub record Runs (definition : Pool → Result Stepped Refusal) (cost : Cost) (damage : DamageFact) (kept : PoolState) (old new : IoState) (result : Result PoolState PoolFault) : Type 0 where
   pub ran : Ran definition cost kept old new result
   pub damaged : new.disk.honest → IfErr result (IsOf damage)
+
+-- a command that commits can begin: what the latest body leaves free is free, and the next commit can be made
+pub record CanBegin (now : IoState) (kept : PoolState) : Type 0 where
+  pub space : now.space ≡ free_by kept.body
+  pub ready : Ready now.disk kept.body
+
+-- what a command that commits did and told, and what its plan refuses
+pub record RunsByPlan (definition : Pool → Result Stepped Refusal) (cost : Cost) (damage : DamageFact) (numbers indices : ℕ) (kept : PoolState) (old new : IoState) (result : Result PoolState PoolFault) : Type 0 where
+  pub runs : Runs definition cost damage kept old new result
+  pub plans : Plans definition numbers indices kept result

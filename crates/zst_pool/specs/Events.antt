@@ -3,7 +3,7 @@ use Rattle.std.specs.Prelude.{◌≡◌, ◌||◌, ◌+◌, ◌<◌, ◌≤◌, 
 use Rattle.zst_outside.specs.Images.{Leaves, OnlyReads}
 use Rattle.zst_outside.specs.declared.disk.Disk.{Ghosts}
 use Rattle.zst_space.specs.FreeSectors.{FreeSectors}
-use Rattle.zst_block.specs.Blocks.{KeepsBlocks, SparesTaken}
+use Rattle.zst_block.specs.Blocks.{FitsDisk, KeepsBlocks, SparesTaken}
 use Rattle.zst_block.specs.IoStates.{IoState, IsHonest, blocks_of, disk_of}
 use Rattle.zst_block.specs.declared.io.Io.{Io}
 use Rattle.zst_model.specs.declared.pools.command.Command.{Command}
@@ -53,6 +53,16 @@ module _ {D : Type 0} {g : Ghosts D} where
     pub kept : keeping new.kept result ≡ committed
     pub number : IfOk result (λ number. number ≡ new.kept.body.number)
     pub stays : OnErr result (new.kept ≡ old.kept)
+
+  -- what was committed can be kept: the sectors that the latest body leaves free fit the disk, and the next commit can follow the one that was made
+  pub record CanSettle (pool : Pool D g) (committed : Result PoolState PoolFault) : Type 0 where
+    pub fits : FitsDisk (disk_of pool.io).size (free_by pool.kept.body)
+    pub ready : IfOk committed (λ kept. Ready (disk_of pool.io) kept.body)
+
+  -- what was committed is kept over the disk as it stands
+  pub record KeepsOver (committed : Result PoolState PoolFault) (old new : Pool D g) (result : Result ℕ PoolFault) : Type 0 where
+    pub keeps : KeepsCommitted committed old new result
+    pub disk : SameDisk old.io new.io
 
   -- how each event of a pool ends, whatever the image is
   pub record Settles {T : Type 0} (old new : Pool D g) (result : Result T PoolFault) : Type 0 where
@@ -122,14 +132,19 @@ module _ {D : Type 0} {g : Ghosts D} where
     pub reads : OnlyReads (disk_of old.io) (disk_of new.io)
     pub kept : new.kept ≡ old.kept
 
+  -- what a call that looks something up does to the Io: the disk is only read
+  pub record ReadsOnly {T : Type 0} (old new : Io D g) (result : Result T PoolFault) : Type 0 where
+    pub reads : OnlyReads (disk_of old) (disk_of new)
+    pub space : new.space ≡ old.space
+    pub failed : new.failed ≡ (old.failed || is_disk_fault result)
+    pub cause : HasDiskCause (disk_of old).faults (disk_of new).faults result
+    pub same : new.disk.ghost_name ≡ old.disk.ghost_name
+
   -- a call that looks something up in a pool, whatever the image is
   pub record LooksUp {T : Type 0} (old new : Pool D g) (result : Result T PoolFault) : Type 0 where
     -- a pool that has failed answers nothing else, and does nothing
     pub failed_pool : old.io.failed ≡ true → result ≡ Err Failed
     pub idle_disk : old.io.failed ≡ true → new.io.disk.now ≡ old.io.disk.now
     -- it only reads
-    pub only_answers : OnlyAnswers old new
-    pub space : new.io.space ≡ old.io.space
-    pub failed : new.io.failed ≡ (old.io.failed || is_disk_fault result)
-    pub cause : HasDiskCause (disk_of old.io).faults (disk_of new.io).faults result
-    pub same : new.io.disk.ghost_name ≡ old.io.disk.ghost_name
+    pub reads_only : ReadsOnly old.io new.io result
+    pub kept : new.kept ≡ old.kept

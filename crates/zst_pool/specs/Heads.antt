@@ -1,14 +1,17 @@
 -- What changes the head of a dataset, and what its command makes of that.
-use Rattle.std.specs.Prelude.{◌≡◌, ◌+◌, ◌*◌, ◌≤◌, ℕ, Bool, true, false, List, Option, Some, None, Result, Ok, Err}
+use Rattle.std.specs.Prelude.{◌≡◌, ◌⊎◌, ◌+◌, ◌*◌, ◌<◌, ◌≤◌, ℕ, Bool, true, false, List, Option, Some, None, Result, Ok, Err, IfSome}
 use Rattle.zst_outside.specs.Images.{DiskState}
 use Rattle.zst_block.specs.Blocks.{Has}
 use Rattle.zst_block.specs.IoCalls as blocks
 use Rattle.zst_block.specs.IoStates.{IoState}
 use Rattle.zst_block.specs.declared.fault.BlockFault.{BlockFault}
 use Rattle.zst_block.specs.declared.fault.BlockFault.TheVariants as block_faults
+use Rattle.zst_model.specs.declared.refusals.plan_fault.PlanFault.{PlanFault}
 use Rattle.zst_model.specs.declared.refusals.refusal.Refusal.{Refusal}
 use Rattle.zst_model.specs.states.AppliedItems.{◌>>=◌}
+use Rattle.zst_model.specs.declared.states.attr.ObjectHead.{ObjectHead}
 use Rattle.zst_model.specs.states.DatedState.{DatedState}
+use Rattle.zst_model.specs.states.State.{IsHead, IsBonus, IsSpill}
 use Rattle.zst_model.specs.pools.Pool.{Pool}
 use Rattle.zst_model.specs.pools.Step.{committed, on_head}
 use Rattle.zst_tree.specs.Indices.{Blocks}
@@ -21,11 +24,19 @@ use Rattle.zst_pool.specs.Cost.{Cost}
 use Rattle.zst_pool.specs.Faults.{StepFault, of_set, is_disk_fault}
 use Rattle.zst_image.specs.Reads.{SetIs, bound_of, free_by}
 use Rattle.zst_pool.specs.Calls.{IsAtRest}
+use Rattle.zst_pool.specs.Plans.{IsLast}
 use Rattle.zst_pool.specs.declared.fault.PoolFault.{PoolFault}
 use Rattle.zst_pool.specs.declared.fault.PoolFault.TheVariants as faults
 use Rattle.zst_pool.specs.declared.head_fault.HeadFault.{HeadFault}
 use Rattle.zst_pool.specs.declared.head_fault.HeadFault.TheVariants.{Set, Memory}
 use Rattle.zst_image.specs.declared.pool_state.PoolState.{PoolState}
+
+-- an object of this number can have this head, this bonus and this spill block
+pub record CanPutObject (k : ℕ) (attr : ObjectHead) (held : List ℕ) (block : Option (List ℕ)) : Type 0 where
+  pub object : 0 < k
+  pub head : IsHead attr
+  pub bonus : IsBonus held
+  pub spill : IfSome block IsSpill
 
 -- a head's fault as a pool's
 abbrev pub of_head : HeadFault → PoolFault
@@ -80,6 +91,11 @@ pub record Stops (stop : Option BlockFault) (fault : PoolFault) : Type 0 where
   pub disk : fault ≡ faults.DiskFault → stop ≡ Some block_faults.DiskFault
   pub full : (need largest : ℕ) → fault ≡ faults.Full need largest → stop ≡ Some (block_faults.Full need largest)
   pub open_still : ¬ (fault ≡ faults.Failed)
+
+-- what a command that changes a head with this answer refuses: a damage is the change's own, and a plan is refused by the change or for the commit's number
+pub record RefusesHead {T : Type 0} (number : ℕ) (changed : Result (Unit {0}) HeadFault) (result : Result T PoolFault) : Type 0 where
+  pub damaged : (sector : ℕ) (stated found : List ℕ) → result ≡ Err (faults.Damaged sector stated found) → changed ≡ Err (Set (set_faults.Block (block_faults.Damaged sector stated found)))
+  pub last : (fault : PlanFault) → result ≡ Err (faults.Plan fault) → (of_change changed ≡ Err (faults.Plan fault)) ⊎ IsLast number fault
 
 -- the set is of a changed head that can be committed, or what the command is refused for
 abbrev pub JudgesHead : (bound : Option ℕ) → Blocks → ObjSet → List ℕ → Pool → Result DatedState Refusal → Result (Unit {0}) PoolFault → Type 0

@@ -1,5 +1,5 @@
 -- What the plans of clone, bookmark, rollback, destroy and abort say of their definitions.
-use Rattle.std.specs.Prelude.{◌≡◌, ◌+◌, ◌&&◌, ℕ, Bool, false, List, [], filter, length, is_some, not, bytes_eq, nat_lt, position, Option, Some, None, Result, Ok, Err}
+use Rattle.std.specs.Prelude.{◌≡◌, ◌≢◌, ◌+◌, ◌&&◌, All, IfSome, ℕ, Bool, false, List, [], filter, length, is_some, not, bytes_eq, nat_lt, position, Option, Some, None, Result, Ok, Err}
 use Rattle.std.specs.Borrow.{Bor}
 use Rattle.zst_names.specs.Names.{dataset_of}
 use Rattle.zst_block.specs.Ptr.{hole_of}
@@ -13,8 +13,8 @@ use Rattle.zst_model.specs.states.AppliedItems.{unless}
 use Rattle.zst_model.specs.pools.Pool.{Pool, bookmark_named, dataset_named, dataset_of_bookmark, dataset_of_snapshot, inserted, is_before, partial_of, snapshot_named}
 use Rattle.zst_model.specs.pools.Pool as plain
 use Rattle.zst_model.specs.pools.Step.{Stepped, bookmark_of, clone_of, committed, exists_already, is_one_of, limited, most_bookmarks, no_partial, no_such, not_ancestor, or_else, unless_used, with_bookmark, with_clone, with_destroyed, with_rollback, destroyed_by, rolled_back, unless_newer, without_bookmark, without_dataset, without_snapshot}
-use Rattle.zst_dir.specs.Removal.{names_going, without}
-use Rattle.zst_dir.specs.Rows.{Rows, with_objects}
+use Rattle.zst_dir.specs.Removal.{AreUnused, names_going, without}
+use Rattle.zst_dir.specs.Rows.{HasDataset, HasSnapshot, IsBookmarkRow, IsDatasetRow, IsSnapshotRow, Rows, with_objects}
 use Rattle.zst_dir.specs.declared.removal.Removal.{Removal}
 use Rattle.zst_dir.specs.declared.removal.Removal.TheVariants as goes
 use Rattle.zst_dir.specs.declared.rows.Bookmark.{Bookmark}
@@ -91,6 +91,13 @@ FindsSource rows name pool (Err fault) = (dataset_named name pool ≡ None) × (
 abbrev pub clone_row : List ℕ → Dataset → Snapshot → Dataset
 clone_row name source snapshot = record { name = name; kind = source.kind; origin = Some snapshot.name; head = snapshot.objects; redact = snapshot.redact }
 
+-- a row of a dataset that can be put among these under this name
+pub record IsNewDataset (rows : Rows) (name : List ℕ) (made : Dataset) : Type 0 where
+  pub row : IsDatasetRow made
+  pub named : made.name ≡ name
+  pub absent : HasDataset rows name → ⊥
+  pub origin : IfSome made.origin (HasSnapshot rows)
+
 -- the row of a clone, of the snapshot and of the kind that the definition takes; or its refusal
 abbrev pub JudgesClone : Rows → List ℕ → List ℕ → Pool → Result Dataset PlanFault → Type 0
 JudgesClone rows origin name pool (Ok row) =
@@ -117,6 +124,12 @@ if_new_bookmark name pool rest =
 abbrev pub if_of_dataset : List ℕ → List ℕ → Result Stepped Refusal → Result Stepped Refusal
 if_of_dataset snapshot name rest = unless (not (bytes_eq (dataset_of 64 snapshot) (dataset_of 35 name))) (not_ancestor (names.Bookmark name) (names.Snapshot snapshot)) rest
 
+-- a row of a bookmark that can be put among these under this name
+pub record IsNewBookmark (rows : Rows) (name : List ℕ) (made : Bookmark) : Type 0 where
+  pub row : IsBookmarkRow made
+  pub named : made.name ≡ name
+  pub absent : All (λ other. other.name ≢ name) rows.bookmarks
+
 -- the row of a bookmark of the snapshot that the definition takes; or its refusal
 abbrev pub JudgesBookmark : Rows → List ℕ → List ℕ → Pool → Result Bookmark PlanFault → Type 0
 JudgesBookmark rows snapshot name pool (Ok row) =
@@ -130,6 +143,11 @@ newer_than snapshot = goes.Newer (dataset_of 64 snapshot.name) snapshot.number
 
 abbrev pub newer_in_pool : plain.Snapshot → Removal
 newer_in_pool snapshot = goes.Newer (dataset_of_snapshot snapshot) snapshot.number
+
+-- rows can be rolled back to this row of a snapshot: nothing that is newer is used
+pub record CanRollBack (rows : Rows) (snapshot : Snapshot) : Type 0 where
+  pub row : IsSnapshotRow snapshot
+  pub unused : AreUnused (newer_than snapshot) rows
 
 -- what comes next, where a rollback to this snapshot loses nothing that is held
 abbrev pub if_rolls_back : Bool → plain.Snapshot → Pool → Result Stepped Refusal → Result Stepped Refusal

@@ -18,6 +18,7 @@ use Rattle.zst_image.specs.Reads.{RunsBy}
 use Rattle.zst_image.specs.declared.pool_state.PoolState.{PoolState}
 use Rattle.zst_pool.specs.Damage.{IsOf}
 use Rattle.zst_pool.specs.Faults.{StepFault}
+use Rattle.zst_pool.specs.Plans.{Plans}
 use Rattle.zst_pool.specs.declared.fault.PoolFault.{PoolFault}
 use Rattle.zst_pool.specs.declared.fault.PoolFault.TheVariants as faults
 
@@ -44,6 +45,11 @@ pub record Tells (definition : Pool → Result Stepped Refusal) (damage : Damage
   pub looks : Looks old new (stop_of result)
   pub open_still : ¬ (result ≡ Err faults.Failed)
   pub damaged : new.disk.honest → IfErr result (IsOf damage)
+
+-- what a command that only answers tells, and what its plan refuses
+pub record TellsByPlan (definition : Pool → Result Stepped Refusal) (damage : DamageFact) (numbers indices : ℕ) (kept : PoolState) (old new : IoState) (result : Result (List (List ℕ)) PoolFault) : Type 0 where
+  pub tells : Tells definition damage kept old new result
+  pub plans : Plans definition numbers indices kept result
 
 -- a set holds the state of this name
 pub record HoldsNamed (has : Blocks) (name : Name) (pool : Pool) (set : ObjSet) : Type 0 where

@@ -1,10 +1,14 @@
 -- What opening a pool again leaves.
 use Rattle.std.specs.Prelude.{◌≡◌, Bool, true, false, Result, Ok, Err, OnErr, OnOk}
-use Rattle.zst_outside.specs.Images.{IsSynced, OnlyReads}
+use Rattle.zst_outside.specs.Images.{DiskState, IsSynced, OnlyReads}
 use Rattle.zst_outside.specs.declared.disk.Disk.{Ghosts}
 use Rattle.zst_block.specs.IoStates.{disk_of}
 use Rattle.zst_uber.specs.DiskCalls.{HasDiskCause}
-use Rattle.zst_image.specs.Reads.{free_by}
+use Rattle.zst_uber.specs.declared.uber.Uber.{Uber}
+use Rattle.zst_model.specs.pools.Pool.{Pool as Plain}
+use Rattle.zst_dir.specs.Rows.{Rows}
+use Rattle.zst_image.specs.OpenAnswers.{GivesPool, OpenAnswers}
+use Rattle.zst_image.specs.Reads.{ReadsAs, free_by}
 use Rattle.zst_image.specs.declared.pool_state.PoolState.{PoolState}
 use Rattle.zst_image.specs.declared.open_fault.OpenFault.{OpenFault}
 use Rattle.zst_image.specs.declared.open_fault.OpenFault.TheVariants.{Damaged, NoPool, BadVersion, DiskFault, OutOfMemory}
@@ -24,6 +28,11 @@ failed_after failed (Err NoPool) = failed
 failed_after failed (Err (BadVersion version)) = failed
 failed_after failed (Err DiskFault) = true
 failed_after failed (Err OutOfMemory) = failed
+
+-- what an opening gives by the image that it reads: the pool of each body as which that reads, and else the refusal of what it found
+pub record OpensBy (old new : DiskState) (opened : Result PoolState OpenFault) : Type 0 where
+  pub there : (tight : Bool) (uber : Uber) (rows : Rows) (pool : Plain) → new.honest → ReadsAs tight uber rows pool old.seen → GivesPool uber rows opened
+  pub answer : new.honest → OpenAnswers old opened
 
 module _ {D : Type 0} {g : Ghosts D} where
   -- how opening a pool again ends, whatever the image is

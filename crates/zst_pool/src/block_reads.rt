@@ -1,5 +1,5 @@
 //! The command that reads a block: it only answers.
-ghost use Rattle.std.specs.Prelude.{◌≡◌, ◌⊎◌, ◌+◌, ◌<◌, ◌≤◌, ℕ, List, [], Result, Ok, Err, IfErr, IfOk, OnOk, None, Some, is_some, true};
+ghost use Rattle.std.specs.Prelude.{◌≡◌, ◌+◌, ◌<◌, ℕ, List, [], Result, Ok, Err, IfErr, IfOk, OnOk, None, Some, is_some, true};
 ghost use Rattle.zst_space.specs.FreeSectors.{FreeSectors};
 ghost use Rattle.zst_block.specs.Blocks.{Has};
 ghost use Rattle.zst_block.specs.IoStates.{IsHonest, blocks_of, disk_of, io_of};
@@ -18,8 +18,8 @@ ghost use Rattle.zst_dir.specs.RowNames.{AreNamed};
 ghost use Rattle.zst_image.specs.Reads.{RunsBy};
 ghost use Rattle.zst_pool.specs.Damage.{IsOf, OfSet, read_damage};
 ghost use Rattle.zst_pool.specs.Lookups.{set_named};
-ghost use Rattle.zst_pool.specs.Plans.{IsPast, Plans};
-ghost use Rattle.zst_pool.specs.Queries.{HoldsNamed, Tells, TellsAnswer, stop_of};
+ghost use Rattle.zst_pool.specs.Plans.{IsPast};
+ghost use Rattle.zst_pool.specs.Queries.{HoldsNamed, TellsAnswer, stop_of, TellsByPlan};
 ghost use Rattle.zst_pool.specs.declared.fault.PoolFault.{PoolFault};
 
 use crate::fault::PoolFault;
@@ -98,8 +98,7 @@ pub fn read_block<D: Disk>(
     index: u64,
 ) -> Result<Reply, PoolFault>
     requires object { 0 < object }
-    ensures tells { (now : ℕ) → Tells (λ pool. stepped [] now (Command.Read name object index) pool) (OfSet kept.now.dir name (read_damage (disk_of io.old))) kept.now (io_of io.old) (io_of io.new) result }
-    ensures plans { (now : ℕ) → Plans (λ pool. stepped [] now (Command.Read name object index) pool) 0 (index + 1) kept.now result }
+    ensures does { (now : ℕ) → TellsByPlan (λ pool. stepped [] now (Command.Read name object index) pool) (OfSet kept.now.dir name (read_damage (disk_of io.old))) 0 (index + 1) kept.now (io_of io.old) (io_of io.new) result }
 {
     reads_are_commands();
     let set = open_set(&kept.dir, name)?;

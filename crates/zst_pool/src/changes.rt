@@ -1,16 +1,16 @@
 // What a command makes of the object set of a head.
-ghost use Rattle.std.specs.Prelude.{◌≡◌, ◌+◌, ◌/◌, ◌<◌, ◌≤◌, ℕ, Bool, true, length, Err, IfErr, IfOk, IfSome, OnOk};
+ghost use Rattle.std.specs.Prelude.{◌≡◌, ◌+◌, ◌/◌, ◌<◌, ◌≤◌, ℕ, Bool, true, length, Err, IfErr, IfOk, OnOk};
 ghost use Rattle.zst_block.specs.IoCalls.{Looks};
 ghost use Rattle.zst_block.specs.IoStates.{IsHonest, blocks_of, disk_of, io_of};
 ghost use Rattle.zst_model.specs.declared.refusals.plan_fault.PlanFault.{PlanFault};
 ghost use Rattle.zst_model.specs.states.DatedState.{DatedState, size_at};
-ghost use Rattle.zst_model.specs.states.State.{is_block_size, IsHead, IsBonus, IsSpill};
+ghost use Rattle.zst_model.specs.states.State.{is_block_size};
 ghost use Rattle.zst_model.specs.pools.Pool.{Pool};
 ghost use Rattle.zst_model.specs.pools.Step.{filled, punched, written};
 ghost use Rattle.zst_objset.specs.Sets.{SetHolds};
 ghost use Rattle.zst_image.specs.Reads.{SetIs, bound_of};
 ghost use Rattle.zst_pool.specs.Checks.{freed, put_in};
-ghost use Rattle.zst_pool.specs.Heads.{ChangesHead, FindsSize, Works, of_call, of_change, of_head, stop_of};
+ghost use Rattle.zst_pool.specs.Heads.{ChangesHead, FindsSize, Works, of_call, of_change, of_head, stop_of, CanPutObject};
 ghost use Rattle.zst_pool.specs.Cost.{object_cells, spill_sectors};
 ghost use Rattle.zst_pool.specs.Damage.{IfHeadDamaged, block_damage, range_damage, slots_damage};
 ghost use Rattle.zst_objset.specs.Damage.{IsDamagedSet};
@@ -47,10 +47,7 @@ pub fn change_object<D: Disk>(
     bonus: Bytes,
     spill: Option<Bytes>,
 ) -> Result<(), HeadFault>
-    requires object { 0 < object }
-    requires head { IsHead head }
-    requires bonus { IsBonus bonus }
-    requires spill { IfSome spill IsSpill }
+    requires can { CanPutObject object head bonus spill }
     ensures changed { (tight : Bool) (pool : Pool) (old : DatedState) → IsHonest io.new → pool.number + 1 ≡ number → SetIs (bound_of tight number) (blocks_of io.old) set.old old
         → ChangesHead (bound_of tight number) (blocks_of io.new) set.new (put_in pool object head bonus spill old) result }
     ensures works { Works (object_cells spill) (spill_sectors spill) (io_of io.old) (io_of io.new) (stop_of result) }

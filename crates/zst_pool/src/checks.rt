@@ -1,11 +1,11 @@
 // What a command looks up before it changes anything, in the order of its definition.
-ghost use Rattle.std.specs.Prelude.{◌≡◌, ◌⊎◌, ◌+◌, ◌<◌, ◌≤◌, ◌^◌, ℕ, List, false, true, Contains, Result, Ok, OnOk, IfErr, IfOk, bytes_eq, count_by, is_some, is_none, length, position};
+ghost use Rattle.std.specs.Prelude.{◌≡◌, ◌+◌, ◌<◌, ◌^◌, ℕ, false, true, Contains, Result, Ok, OnOk, IfErr, IfOk, bytes_eq, count_by, is_none, position};
 ghost use Rattle.std.specs.List.{list_any};
 ghost use Rattle.zst_names.specs.Names.{dataset_of};
-ghost use Rattle.zst_model.specs.pools.Pool.{Pool, Dataset as Plain, partial_of, dataset_named};
+ghost use Rattle.zst_model.specs.pools.Pool.{Pool, Dataset as Plain};
 ghost use Rattle.zst_model.specs.declared.refusals.refusal.Refusal.{Refusal};
 ghost use Rattle.zst_model.specs.pools.Step.{Stepped, committed, with_dataset, count_datasets};
-ghost use Rattle.zst_pool.specs.Checks.{Judges, FindsDataset, if_guid_left, if_new_snapshot, JudgesSnapshot, next_of, with_new};
+ghost use Rattle.zst_pool.specs.Checks.{Judges, FindsDataset, if_guid_left, if_new_snapshot, JudgesSnapshot, next_of, with_new, ChecksRows, PlansCommit, JudgesNext, CanTake};
 ghost use Rattle.zst_dir.specs.Rows.{HasDataset, HasSnapshot, IsLawful};
 ghost use Rattle.zst_pool.specs.Plans.{IsLast, is_by_rows};
 ghost use Rattle.zst_dir.specs.RowNames.{AreNamed};
@@ -20,8 +20,7 @@ use zst_names::{DatasetName, SnapName};
 /// the snapshots that they are to become.
 pub fn check_new_snapshot(dir: &Dir, name: &SnapName) -> Result<(), PlanFault>
     ensures absent { OnOk result (HasSnapshot dir.now name.now → ⊥) }
-    ensures rows { IfErr result (λ fault. is_by_rows fault ≡ true) }
-    ensures judged { (pool : Pool) (rest : Result Stepped Refusal) → AreNamed dir.now pool → Judges (if_new_snapshot name.now pool rest) rest result }
+    ensures checks { ChecksRows dir.now (JudgesNext (if_new_snapshot name.now)) result }
 {
     if dir.snapshot(name).is_some() {
         return Err(PlanFault::Exists(PresentSubject::Named(Name::Snapshot(name.duplicate()))));
@@ -62,8 +61,7 @@ pub fn open_dataset<'a>(dir: &'a Dir, name: &DatasetName) -> Result<&'a Dataset,
     ensures lawful { IsLawful dir.now }
     ensures there { IfOk result (λ row. Contains dir.now.datasets row.now × (row.now.name ≡ name.now)) }
     ensures free { OnOk result (list_any (λ partial. bytes_eq partial.target name.now) dir.now.partials ≡ false) }
-    ensures rows { IfErr result (λ fault. is_by_rows fault ≡ true) }
-    ensures found { (pool : Pool) → AreNamed dir.now pool → FindsDataset dir.now name.now pool result }
+    ensures finds { ChecksRows dir.now (FindsDataset dir.now name.now) result }
 {
     let datasets = dir.datasets();
     let place = match dir.dataset(name) {
@@ -111,9 +109,7 @@ pub fn count_datasets(dir: &Dir) -> usize
 /// E4 where the name is taken, and E23 where there are too many datasets.
 pub fn check_new_dataset(dir: &Dir, name: &DatasetName) -> Result<(), PlanFault>
     ensures absent { OnOk result (HasDataset dir.now name.now → ⊥) }
-    ensures rows { IfErr result (λ fault. is_by_rows fault ≡ true) }
-    ensures judged { (dataset : Plain) (pool : Pool) → dataset.name ≡ name.now → AreNamed dir.now pool
-        → Judges (with_dataset dataset pool) (committed (with_new dataset pool)) result }
+    ensures checks { ChecksRows dir.now (λ pool answer. (dataset : Plain) → dataset.name ≡ name.now → Judges (with_dataset dataset pool) (committed (with_new dataset pool)) answer) result }
 {
     if dir.dataset(name).is_some() {
         return Err(exists_already(name));
@@ -155,13 +151,9 @@ pub fn check_number(number: u64) -> Result<(), PlanFault>
 pub fn plan_snapshot<'a>(kept: &'a PoolState, name: &SnapName) -> Result<&'a Dataset, PlanFault>
     ensures lawful { IsLawful kept.now.dir }
     ensures there { IfOk result (λ row. Contains kept.now.dir.datasets row.now × (row.now.name ≡ dataset_of 64 name.now)) }
-    ensures free { OnOk result (list_any (λ partial. bytes_eq partial.target (dataset_of 64 name.now)) kept.now.dir.partials ≡ false) }
-    ensures absent { OnOk result (HasSnapshot kept.now.dir name.now → ⊥) }
+    ensures can { OnOk result (CanTake kept.now.dir name.now) }
     ensures guids { OnOk result (kept.now.body.guids + 1 < 2 ^ 32) }
-    ensures number { OnOk result (kept.now.body.number < 2 ^ 63) }
-    ensures refused { IfErr result (λ fault. (is_by_rows fault ≡ true) ⊎ IsLast kept.now.body.number fault) }
-    ensures judged { (now : ℕ) (pool : Pool) → AreNamed kept.now.dir pool → pool.guids ≡ kept.now.body.guids → pool.number ≡ kept.now.body.number
-        → JudgesSnapshot kept.now.dir now name.now pool result }
+    ensures plans { PlansCommit kept.now (λ pool answer. (now : ℕ) → pool.guids ≡ kept.now.body.guids → JudgesSnapshot kept.now.dir now name.now pool answer) result }
 {
     let dataset = open_dataset(&kept.dir, &name.dataset())?;
     check_new_snapshot(&kept.dir, name)?;

@@ -1,7 +1,6 @@
 // The commands that commit, each over the Io of a pool that hasn't failed.
-ghost use Rattle.std.specs.Prelude.{◌≡◌, ◌⊎◌, ◌+◌, ◌*◌, ◌<◌, ◌≤◌, ◌^◌, [], None, false, Result, Err, bytes_eq, length, IfOk};
-ghost use Rattle.zst_block.specs.IoStates.{disk_of, io_of};
-ghost use Rattle.std.specs.List.{list_any};
+ghost use Rattle.std.specs.Prelude.{◌≡◌, ◌⊎◌, ◌+◌, ◌*◌, ◌<◌, ◌≤◌, ◌^◌, [], None, Result, Err, length};
+ghost use Rattle.zst_block.specs.IoStates.{io_of};
 ghost use Rattle.zst_names.specs.Names.{dataset_of};
 ghost use Rattle.zst_model.specs.pools.Pool.{inserted};
 ghost use Rattle.zst_model.specs.declared.refusals.plan_fault.PlanFault.{PlanFault};
@@ -9,15 +8,13 @@ ghost use Rattle.zst_model.specs.declared.refusals.refusal.Refusal.{Refusal};
 ghost use Rattle.zst_model.specs.pools.Pool.{Pool as Plain};
 ghost use Rattle.zst_model.specs.pools.Step.{Stepped, new_dataset, with_dataset, with_snapshot};
 ghost use Rattle.zst_tree.specs.Sets.{no_objects};
-ghost use Rattle.zst_dir.specs.Rows.{HasDataset, HasSnapshot, IsDatasetRow, IsLawful, IsSnapshotRow, snapshot_is_before};
+ghost use Rattle.zst_dir.specs.Rows.{HasDataset, IsDatasetRow, IsLawful, IsSnapshotRow, snapshot_is_before};
 ghost use Rattle.zst_dir.specs.Spelling.{dir_bytes};
-ghost use Rattle.zst_pool.specs.RowChanges.{MakesOfEach};
-ghost use Rattle.zst_pool.specs.Plans.{Plans};
-ghost use Rattle.zst_image.specs.Reads.{free_by};
+ghost use Rattle.zst_pool.specs.RowChanges.{MakesOfEach, MakesDir, MakesRow};
 ghost use Rattle.zst_pool.specs.Cost.{cells_only};
 ghost use Rattle.zst_pool.specs.Damage.{NoDamage};
-ghost use Rattle.zst_pool.specs.CommandRuns.{Runs};
-ghost use Rattle.zst_image.specs.Commits.{Ready};
+ghost use Rattle.zst_pool.specs.CommandRuns.{Runs, CanBegin, RunsByPlan};
+ghost use Rattle.zst_pool.specs.Checks.{CanTake};
 
 use crate::checks::{check_new_dataset, check_number, plan_snapshot};
 use crate::fault::{PoolFault, of_committed};
@@ -34,8 +31,7 @@ use zst_uber::Uber;
 /// A dataset without objects, a clone of none.
 fn new_dataset(kind: u32, name: &DatasetName) -> Dataset
     requires { (kind ≡ 2) ⊎ (kind ≡ 3) }
-    ensures same { result ≡ record { name = name.now; kind = kind; origin = None; head = no_objects; redact = [] } }
-    ensures row { IsDatasetRow result }
+    ensures makes { MakesRow IsDatasetRow (record { name = name.now; kind = kind; origin = None; head = no_objects; redact = [] }) result }
 {
     Dataset {
         name: name.duplicate(),
@@ -54,8 +50,7 @@ pub fn commit_rows<D: Disk>(
     guids: u64,
     dir: Dir,
 ) -> Result<PoolState, PoolFault>
-    requires space { io.old.space ≡ free_by kept.now.body }
-    requires ready { Ready (disk_of io.old) kept.now.body }
+    requires begins { CanBegin (io_of io.old) kept.now }
     requires number { kept.now.body.number < 2 ^ 63 }
     requires grows { length (dir_bytes dir) ≤ length (dir_bytes kept.now.dir) + 1024 }
     // What each definition does that makes these rows of the pool that runs.
@@ -76,10 +71,8 @@ pub fn make_dataset<D: Disk>(
     name: &DatasetName,
 ) -> Result<PoolState, PoolFault>
     requires kind { (kind ≡ 2) ⊎ (kind ≡ 3) }
-    requires space { io.old.space ≡ free_by kept.now.body }
-    requires ready { Ready (disk_of io.old) kept.now.body }
-    ensures runs { Runs (with_dataset (new_dataset kind name.now)) (cells_only 0) NoDamage kept.now (io_of io.old) (io_of io.new) result }
-    ensures plans { Plans (with_dataset (new_dataset kind name.now)) 0 0 kept.now result }
+    requires begins { CanBegin (io_of io.old) kept.now }
+    ensures does { RunsByPlan (with_dataset (new_dataset kind name.now)) (cells_only 0) NoDamage 0 0 kept.now (io_of io.old) (io_of io.new) result }
 {
     check_new_dataset(&kept.dir, name)?;
     check_number(kept.body.number)?;
@@ -94,8 +87,7 @@ fn new_snapshot(body: &Uber, dataset: &Dataset, now: u64, name: &SnapName) -> Sn
     requires guids { body.now.guids + 1 < 2 ^ 32 }
     requires number { body.now.number < 2 ^ 63 }
     requires row { IsDatasetRow dataset.now }
-    ensures same { result ≡ record { name = name.now; guid = body.now.id * 2 ^ 32 + (body.now.guids + 1); time = now; number = body.now.number + 1; objects = dataset.now.head; redact = dataset.now.redact } }
-    ensures row { IsSnapshotRow result }
+    ensures makes { MakesRow IsSnapshotRow (record { name = name.now; guid = body.now.id * 2 ^ 32 + (body.now.guids + 1); time = now; number = body.now.number + 1; objects = dataset.now.head; redact = dataset.now.redact }) result }
 {
     Snapshot {
         name: name.duplicate(),
@@ -111,11 +103,9 @@ fn new_snapshot(body: &Uber, dataset: &Dataset, now: u64, name: &SnapName) -> Sn
 fn dir_with_snapshot(alloc: Global, dir: &Dir, snapshot: Snapshot) -> Result<Dir, AllocError>
     requires lawful { IsLawful dir.now }
     requires row { IsSnapshotRow snapshot }
-    requires new { HasSnapshot dir.now snapshot.name → ⊥ }
     requires dataset { HasDataset dir.now (dataset_of 64 snapshot.name) }
-    requires free { list_any (λ partial. bytes_eq partial.target (dataset_of 64 snapshot.name)) dir.now.partials ≡ false }
-    ensures taken { IfOk result (λ next. next ≡ record dir.now { snapshots = inserted snapshot_is_before snapshot dir.now.snapshots }) }
-    ensures grows { IfOk result (λ next. length (dir_bytes next) ≤ length (dir_bytes dir.now) + 1024) }
+    requires can { CanTake dir.now snapshot.name }
+    ensures makes { MakesDir 1024 dir.now (record dir.now { snapshots = inserted snapshot_is_before snapshot dir.now.snapshots }) result }
 {
     let mut next = dir.copy(alloc)?;
     next.add_snapshot(snapshot)?;
@@ -130,10 +120,8 @@ pub fn take_snapshot<D: Disk>(
     now: u64,
     name: &SnapName,
 ) -> Result<PoolState, PoolFault>
-    requires space { io.old.space ≡ free_by kept.now.body }
-    requires ready { Ready (disk_of io.old) kept.now.body }
-    ensures runs { Runs (with_snapshot now name.now) (cells_only 0) NoDamage kept.now (io_of io.old) (io_of io.new) result }
-    ensures plans { Plans (with_snapshot now name.now) 0 0 kept.now result }
+    requires begins { CanBegin (io_of io.old) kept.now }
+    ensures does { RunsByPlan (with_snapshot now name.now) (cells_only 0) NoDamage 0 0 kept.now (io_of io.old) (io_of io.new) result }
 {
     let dataset = plan_snapshot(kept, name)?;
     let snapshot = new_snapshot(&kept.body, dataset, now, name);

@@ -8,6 +8,7 @@ ghost use Rattle.zst_pool.specs.FinishedRows.{dataset_row_from, rows_with_finish
 ghost use Rattle.zst_pool.specs.Events.{CommitsPartial, EndsCommit, PutsPartial, Settles};
 ghost use Rattle.zst_pool.specs.PartialRows.{CanPut};
 ghost use Rattle.zst_pool.specs.Partials.{partial_finished};
+ghost use Rattle.zst_pool.specs.RowChanges.{MakesRow};
 
 use crate::fault::PoolFault;
 use crate::partial_commits::commit_next;
@@ -22,8 +23,7 @@ use zst_outside::Disk;
 // The snapshot that a partial state becomes with the commit of this number.
 fn snapshot_from(partial: &Partial, number: u64) -> Snapshot
     requires { IsPartialRow partial.now }
-    ensures same { result ≡ snapshot_row_from number partial.now }
-    ensures row { IsSnapshotRow result }
+    ensures makes { MakesRow IsSnapshotRow (snapshot_row_from number partial.now) result }
 {
     Snapshot {
         name: partial.snapshot_name(),
@@ -38,8 +38,7 @@ fn snapshot_from(partial: &Partial, number: u64) -> Snapshot
 // The dataset that the partial state of an absent target makes.
 fn dataset_from(partial: &Partial) -> Dataset
     requires { IsPartialRow partial.now }
-    ensures same { result ≡ dataset_row_from partial.now }
-    ensures row { IsDatasetRow result }
+    ensures makes { MakesRow IsDatasetRow (dataset_row_from partial.now) result }
 {
     Dataset {
         name: partial.target.duplicate(),

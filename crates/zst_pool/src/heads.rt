@@ -1,24 +1,21 @@
 // The commands on a dataset's head, each over the Io of a pool that hasn't failed.
-ghost use Rattle.std.specs.Prelude.{◌≡◌, ◌⊎◌, ◌+◌, ◌<◌, ◌≤◌, ◌^◌, ℕ, Bool, true, List, Option, Result, Err, length, IfErr, IfSome, OnOk, IfOk, is_ok};
+ghost use Rattle.std.specs.Prelude.{◌≡◌, ◌+◌, ◌<◌, ◌≤◌, ◌^◌, ℕ, Bool, true, List, Option, Result, Err, length, IfErr, OnOk, IfOk, is_ok};
 ghost use Rattle.zst_space.specs.FreeSectors.{FreeSectors};
 ghost use Rattle.zst_block.specs.Blocks.{Has};
 ghost use Rattle.zst_block.specs.IoStates.{IsHonest, disk_of, io_of};
 ghost use Rattle.zst_names.specs.Names.{IsDataset};
 ghost use Rattle.zst_model.specs.declared.refusals.plan_fault.PlanFault.{PlanFault};
 ghost use Rattle.zst_model.specs.declared.refusals.refusal.Refusal.{Refusal};
-ghost use Rattle.zst_model.specs.states.State.{IsHead, IsBonus, IsSpill};
 ghost use Rattle.zst_model.specs.states.DatedState.{DatedState};
 ghost use Rattle.zst_model.specs.pools.Pool.{Pool};
 ghost use Rattle.zst_model.specs.pools.Step.{on_head, punched, written};
 ghost use Rattle.zst_tree.specs.Sets.{SetFits};
 ghost use Rattle.zst_tree.specs.declared.tree.ObjSet.{ObjSet as ObjectSet};
-ghost use Rattle.zst_pool.specs.Checks.{FindsHead, freed, put_in};
-ghost use Rattle.zst_pool.specs.Heads.{ChangedHead, ChangesHead, JudgesHead, Stops, is_accepted, of_change, rested, stop_of};
-ghost use Rattle.zst_dir.specs.RowNames.{AreNamed};
+ghost use Rattle.zst_pool.specs.Checks.{FindsHead, freed, put_in, ChecksRows};
+ghost use Rattle.zst_pool.specs.Heads.{ChangedHead, ChangesHead, JudgesHead, Stops, is_accepted, of_change, rested, stop_of, RefusesHead, CanPutObject};
 ghost use Rattle.zst_image.specs.Reads.{free_by};
 ghost use Rattle.zst_pool.specs.Cost.{Cost, cells_only, object_cost, write_cost};
-ghost use Rattle.zst_pool.specs.CommandRuns.{Runs, Ran};
-ghost use Rattle.zst_pool.specs.Plans.{IsLast, Plans, is_by_rows};
+ghost use Rattle.zst_pool.specs.CommandRuns.{Ran, CanBegin, RunsByPlan};
 ghost use Rattle.zst_pool.specs.Damage.{HasHead, OfHead, block_damage, range_damage, slots_damage};
 ghost use Rattle.zst_image.specs.Commits.{Ready};
 
@@ -42,8 +39,7 @@ fn open_head(dir: &Dir, name: &DatasetName) -> Result<ObjSet, PlanFault>
     ensures named { OnOk result (IsDataset name.now) }
     ensures there { IfOk result (HasHead dir.now name.now) }
     ensures levels { IfOk result SetFits }
-    ensures rows { IfErr result (λ fault. is_by_rows fault ≡ true) }
-    ensures found { (pool : Pool) → AreNamed dir.now pool → FindsHead dir.now name.now pool result }
+    ensures finds { ChecksRows dir.now (FindsHead dir.now name.now) result }
 {
     match open_dataset(dir, name) {
         Ok(dataset) => Ok(dataset.head),
@@ -86,8 +82,7 @@ fn judge(number: u64, changed: Result<(), HeadFault>) -> Result<(), PoolFault>
     ensures went_well { OnOk result (stop_of changed ≡ None) }
     ensures well { OnOk result (is_ok changed ≡ true) }
     ensures stops { IfErr result (Stops (stop_of changed)) }
-    ensures damaged { (sector : ℕ) (stated found : List ℕ) → result ≡ Err (PoolFault.Damaged sector stated found) → changed ≡ Err (HeadFault.Set (ObjFault.Block (BlockFault.Damaged sector stated found))) }
-    ensures last { (fault : PlanFault) → result ≡ Err (PoolFault.Plan fault) → (of_change changed ≡ Err (PoolFault.Plan fault)) ⊎ IsLast number fault }
+    ensures refuses { RefusesHead number changed result }
 {
     if !is_accepted(&changed) {
         return answer(changed);
@@ -112,9 +107,8 @@ fn commit_head<D: Disk>(
     ensures ran { (start : D) (failed : Bool) (reference : ℕ) (make : Pool → DatedState → Result DatedState Refusal) (cost : Cost)
         → ChangedHead kept.now name.now make cost (rested (D.state start) failed reference kept.now) (io_of io.old) set changed
         → Ran (λ pool. on_head name.now pool (make pool)) cost kept.now (rested (D.state start) failed reference kept.now) (io_of io.new) result }
-    ensures damaged { (sector : ℕ) (stated found : List ℕ) → result ≡ Err (PoolFault.Damaged sector stated found) → changed ≡ Err (HeadFault.Set (ObjFault.Block (BlockFault.Damaged sector stated found))) }
+    ensures refuses { RefusesHead kept.now.body.number changed result }
     ensures honest { IsHonest io.new → IsHonest io.old }
-    ensures plans { (fault : PlanFault) → result ≡ Err (PoolFault.Plan fault) → (of_change changed ≡ Err (PoolFault.Plan fault)) ⊎ IsLast kept.now.body.number fault }
     ensures same { io.new.disk.ghost_name ≡ io.old.disk.ghost_name }
 {
     judge(kept.body.number, changed)?;
@@ -135,14 +129,9 @@ pub fn put_object<D: Disk>(
     bonus: Bytes,
     spill: Option<Bytes>,
 ) -> Result<PoolState, PoolFault>
-    requires object { 0 < object }
-    requires head { IsHead head }
-    requires bonus { IsBonus bonus }
-    requires spill { IfSome spill IsSpill }
-    requires space { io.old.space ≡ free_by kept.now.body }
-    requires ready { Ready (disk_of io.old) kept.now.body }
-    ensures runs { Runs (λ pool. on_head name.now pool (put_in pool object head bonus spill)) (object_cost spill) (OfHead kept.now.dir name.now (slots_damage (disk_of io.old) (free_by kept.now.body))) kept.now (io_of io.old) (io_of io.new) result }
-    ensures plans { Plans (λ pool. on_head name.now pool (put_in pool object head bonus spill)) (object + 1) 0 kept.now result }
+    requires can { CanPutObject object head bonus spill }
+    requires begins { CanBegin (io_of io.old) kept.now }
+    ensures does { RunsByPlan (λ pool. on_head name.now pool (put_in pool object head bonus spill)) (object_cost spill) (OfHead kept.now.dir name.now (slots_damage (disk_of io.old) (free_by kept.now.body))) (object + 1) 0 kept.now (io_of io.old) (io_of io.new) result }
 {
     let mut set = open_head(&kept.dir, name)?;
     let number = next_number(&kept.body);
@@ -163,10 +152,8 @@ pub fn write_block<D: Disk>(
     requires object { 0 < object }
     requires some { 0 < length bytes.now }
     requires small { length bytes.now ≤ 2 ^ 20 }
-    requires space { io.old.space ≡ free_by kept.now.body }
-    requires ready { Ready (disk_of io.old) kept.now.body }
-    ensures runs { Runs (λ pool. on_head name.now pool (written pool object index bytes.now)) (write_cost name.now object) (OfHead kept.now.dir name.now (block_damage (disk_of io.old) (free_by kept.now.body))) kept.now (io_of io.old) (io_of io.new) result }
-    ensures plans { Plans (λ pool. on_head name.now pool (written pool object index bytes.now)) 0 (index + 1) kept.now result }
+    requires begins { CanBegin (io_of io.old) kept.now }
+    ensures does { RunsByPlan (λ pool. on_head name.now pool (written pool object index bytes.now)) (write_cost name.now object) (OfHead kept.now.dir name.now (block_damage (disk_of io.old) (free_by kept.now.body))) 0 (index + 1) kept.now (io_of io.old) (io_of io.new) result }
 {
     let mut set = open_head(&kept.dir, name)?;
     let number = next_number(&kept.body);
@@ -186,10 +173,8 @@ pub fn punch<D: Disk>(
 ) -> Result<PoolState, PoolFault>
     requires object { 0 < object }
     requires some { 0 < count }
-    requires space { io.old.space ≡ free_by kept.now.body }
-    requires ready { Ready (disk_of io.old) kept.now.body }
-    ensures runs { Runs (λ pool. on_head name.now pool (punched pool object first count)) (cells_only 2) (OfHead kept.now.dir name.now (range_damage (disk_of io.old) (free_by kept.now.body))) kept.now (io_of io.old) (io_of io.new) result }
-    ensures plans { Plans (λ pool. on_head name.now pool (punched pool object first count)) 0 (first + count) kept.now result }
+    requires begins { CanBegin (io_of io.old) kept.now }
+    ensures does { RunsByPlan (λ pool. on_head name.now pool (punched pool object first count)) (cells_only 2) (OfHead kept.now.dir name.now (range_damage (disk_of io.old) (free_by kept.now.body))) 0 (first + count) kept.now (io_of io.old) (io_of io.new) result }
 {
     let mut set = open_head(&kept.dir, name)?;
     let number = next_number(&kept.body);
@@ -208,10 +193,8 @@ pub fn free_objects<D: Disk>(
 ) -> Result<PoolState, PoolFault>
     requires first { 0 < first }
     requires some { 0 < count }
-    requires space { io.old.space ≡ free_by kept.now.body }
-    requires ready { Ready (disk_of io.old) kept.now.body }
-    ensures runs { Runs (λ pool. on_head name.now pool (freed pool first count)) (cells_only 2) (OfHead kept.now.dir name.now (slots_damage (disk_of io.old) (free_by kept.now.body))) kept.now (io_of io.old) (io_of io.new) result }
-    ensures plans { Plans (λ pool. on_head name.now pool (freed pool first count)) (first + count) 0 kept.now result }
+    requires begins { CanBegin (io_of io.old) kept.now }
+    ensures does { RunsByPlan (λ pool. on_head name.now pool (freed pool first count)) (cells_only 2) (OfHead kept.now.dir name.now (slots_damage (disk_of io.old) (free_by kept.now.body))) (first + count) 0 kept.now (io_of io.old) (io_of io.new) result }
 {
     let mut set = open_head(&kept.dir, name)?;
     let number = next_number(&kept.body);

@@ -1,16 +1,15 @@
 // What clone, bookmark, rollback and destroy look up before they change anything.
-ghost use Rattle.std.specs.Prelude.{◌≡◌, ◌≢◌, ◌⊎◌, ◌<◌, ◌^◌, ◌&&◌, ◌||◌, List, true, All, Contains, Result, OnOk, IfErr, IfOk, IfSome, bytes_eq, find, option_map};
+ghost use Rattle.std.specs.Prelude.{◌≡◌, ◌≢◌, ◌<◌, ◌&&◌, ◌||◌, List, true, All, Contains, Result, OnOk, IfErr, IfOk, bytes_eq, find, option_map};
 ghost use Rattle.std.specs.List.{list_any};
-ghost use Rattle.zst_model.specs.pools.Pool.{Pool};
 ghost use Rattle.zst_model.specs.pools.Pool as plain;
 ghost use Rattle.zst_model.specs.declared.refusals.refusal.Refusal.{Refusal};
 ghost use Rattle.zst_model.specs.pools.Step.{Stepped, unless_used};
 ghost use Rattle.zst_dir.specs.Removal.{AreUnused, names_going, takes_snapshot};
-ghost use Rattle.zst_dir.specs.Rows.{HasDataset, HasSnapshot, IsBookmarkRow, IsDatasetRow, IsSnapshotRow};
-ghost use Rattle.zst_dir.specs.RowNames.{AreNamed};
-ghost use Rattle.zst_pool.specs.Checks.{Judges};
-ghost use Rattle.zst_pool.specs.Lineage.{AreGoing, FindsGoing, FindsSnapshot, FindsSource, JudgesBookmark, JudgesClone, JudgesDestroyed, bookmark_row, clone_row, going_of, if_new_bookmark, if_of_dataset, is_on, is_there, may_go};
-ghost use Rattle.zst_pool.specs.Plans.{IsLast, is_by_rows};
+ghost use Rattle.zst_dir.specs.Rows.{IsBookmarkRow, IsDatasetRow, IsSnapshotRow};
+ghost use Rattle.zst_pool.specs.Checks.{Judges, ChecksRows, PlansCommit, JudgesNext};
+ghost use Rattle.zst_pool.specs.Lineage.{AreGoing, FindsGoing, FindsSnapshot, FindsSource, JudgesBookmark, JudgesClone, JudgesDestroyed, bookmark_row, clone_row, going_of, if_new_bookmark, if_of_dataset, is_on, is_there, may_go, IsNewDataset, IsNewBookmark};
+ghost use Rattle.zst_pool.specs.Plans.{is_by_rows};
+ghost use Rattle.zst_pool.specs.RowChanges.{MakesRow};
 
 use crate::checks::{check_new_dataset, check_number, no_such};
 use zst_block::Ptr;
@@ -44,8 +43,7 @@ fn going_of(name: Name) -> Removal
 
 // What goes where this name is destroyed: E3 where there is none.
 fn find_going(dir: &Dir, name: Name) -> Result<Removal, PlanFault>
-    ensures rows { IfErr result (λ fault. is_by_rows fault ≡ true) }
-    ensures found { (pool : Pool) → AreNamed dir.now pool → FindsGoing name dir.now pool result }
+    ensures finds { ChecksRows dir.now (FindsGoing name dir.now) result }
 {
     if !is_there(dir, &name) {
         return Err(PlanFault::NoSuch(AbsentSubject::Named(name)));
@@ -119,9 +117,7 @@ fn holding_clone(dir: &Dir, going: &Removal) -> Option<DatasetName>
 /// E5 where a partial state or a clone holds what goes.
 pub fn check_unused(dir: &Dir, going: &Removal) -> Result<(), PlanFault>
     ensures unused { OnOk result (AreUnused going.now dir.now) }
-    ensures rows { IfErr result (λ fault. is_by_rows fault ≡ true) }
-    ensures judged { (pool : Pool) (gone : List plain.Snapshot) (rest : Result Stepped Refusal) → AreNamed dir.now pool → AreGoing going.now dir.now gone
-        → Judges (unless_used (λ partial. is_on going.now partial.target) gone pool rest) rest result }
+    ensures checks { ChecksRows dir.now (λ pool answer. (gone : List plain.Snapshot) → AreGoing going.now dir.now gone → JudgesNext (unless_used (λ partial. is_on going.now partial.target) gone) pool answer) result }
 {
     if let Some(target) = holding_partial(dir, going) {
         return Err(PlanFault::Busy(Holder::Partial(target)));
@@ -135,9 +131,7 @@ pub fn check_unused(dir: &Dir, going: &Removal) -> Result<(), PlanFault>
 /// What goes where this name is destroyed, or the first refusal of its definition.
 pub fn plan_destroy(kept: &PoolState, name: Name) -> Result<Removal, PlanFault>
     ensures unused { IfOk result (λ going. AreUnused going kept.now.dir) }
-    ensures number { OnOk result (kept.now.body.number < 2 ^ 63) }
-    ensures refused { IfErr result (λ fault. (is_by_rows fault ≡ true) ⊎ IsLast kept.now.body.number fault) }
-    ensures judged { (pool : Pool) → AreNamed kept.now.dir pool → pool.number ≡ kept.now.body.number → JudgesDestroyed name pool result }
+    ensures plans { PlansCommit kept.now (JudgesDestroyed name) result }
 {
     let going = find_going(&kept.dir, name)?;
     check_unused(&kept.dir, &going)?;
@@ -155,8 +149,7 @@ fn no_snapshot(name: &SnapName) -> PlanFault
 pub fn find_snapshot<'a>(dir: &'a Dir, name: &SnapName) -> Result<&'a Snapshot, PlanFault>
     ensures there { IfOk result (λ row. Contains dir.now.snapshots row.now × (row.now.name ≡ name.now)) }
     ensures row { IfOk result (λ row. IsSnapshotRow row.now) }
-    ensures rows { IfErr result (λ fault. is_by_rows fault ≡ true) }
-    ensures found { (pool : Pool) → AreNamed dir.now pool → FindsSnapshot dir.now name.now pool result }
+    ensures finds { ChecksRows dir.now (FindsSnapshot dir.now name.now) result }
 {
     let _lawful = dir.datasets();
     let snapshots = dir.snapshots();
@@ -169,8 +162,7 @@ pub fn find_snapshot<'a>(dir: &'a Dir, name: &SnapName) -> Result<&'a Snapshot, 
 // The dataset of this name, whether it has a partial state or not: E3 where there is none.
 fn find_source<'a>(dir: &'a Dir, name: &DatasetName) -> Result<&'a Dataset, PlanFault>
     ensures row { IfOk result (λ row. IsDatasetRow row.now) }
-    ensures rows { IfErr result (λ fault. is_by_rows fault ≡ true) }
-    ensures found { (pool : Pool) → AreNamed dir.now pool → FindsSource dir.now name.now pool result }
+    ensures finds { ChecksRows dir.now (FindsSource dir.now name.now) result }
 {
     let datasets = dir.datasets();
     match dir.dataset(name) {
@@ -183,8 +175,7 @@ fn find_source<'a>(dir: &'a Dir, name: &DatasetName) -> Result<&'a Dataset, Plan
 fn clone_row(name: &DatasetName, source: &Dataset, snapshot: &Snapshot) -> Dataset
     requires source { IsDatasetRow source.now }
     requires snapshot { IsSnapshotRow snapshot.now }
-    ensures same { result ≡ clone_row name.now source.now snapshot.now }
-    ensures row { IsDatasetRow result }
+    ensures makes { MakesRow IsDatasetRow (clone_row name.now source.now snapshot.now) result }
 {
     Dataset {
         name: name.duplicate(),
@@ -201,13 +192,8 @@ pub fn plan_clone(
     origin: &SnapName,
     name: &DatasetName,
 ) -> Result<Dataset, PlanFault>
-    ensures row { IfOk result IsDatasetRow }
-    ensures named { IfOk result (λ row. row.name ≡ name.now) }
-    ensures absent { OnOk result (HasDataset kept.now.dir name.now → ⊥) }
-    ensures origin { IfOk result (λ row. IfSome row.origin (HasSnapshot kept.now.dir)) }
-    ensures number { OnOk result (kept.now.body.number < 2 ^ 63) }
-    ensures refused { IfErr result (λ fault. (is_by_rows fault ≡ true) ⊎ IsLast kept.now.body.number fault) }
-    ensures judged { (pool : Pool) → AreNamed kept.now.dir pool → pool.number ≡ kept.now.body.number → JudgesClone kept.now.dir origin.now name.now pool result }
+    ensures new { IfOk result (IsNewDataset kept.now.dir name.now) }
+    ensures plans { PlansCommit kept.now (JudgesClone kept.now.dir origin.now name.now) result }
 {
     let snapshot = find_snapshot(&kept.dir, origin)?;
     let source = find_source(&kept.dir, &origin.dataset())?;
@@ -233,8 +219,7 @@ fn check_dataset(snapshot: &SnapName, name: &BookName) -> Result<(), PlanFault>
 // E4 where the name is taken, and E23 where there are too many bookmarks.
 fn check_new_bookmark(dir: &Dir, name: &BookName) -> Result<(), PlanFault>
     ensures absent { OnOk result (All (λ other. other.name ≢ name.now) dir.now.bookmarks) }
-    ensures rows { IfErr result (λ fault. is_by_rows fault ≡ true) }
-    ensures judged { (pool : Pool) (rest : Result Stepped Refusal) → AreNamed dir.now pool → Judges (if_new_bookmark name.now pool rest) rest result }
+    ensures checks { ChecksRows dir.now (JudgesNext (if_new_bookmark name.now)) result }
 {
     if dir.bookmark(name).is_some() {
         return Err(PlanFault::Exists(PresentSubject::Named(Name::Bookmark(name.duplicate()))));
@@ -251,8 +236,7 @@ fn check_new_bookmark(dir: &Dir, name: &BookName) -> Result<(), PlanFault>
 // The row of a bookmark of a snapshot: it has no list.
 fn bookmark_row(name: &BookName, snapshot: &Snapshot) -> Bookmark
     requires { IsSnapshotRow snapshot.now }
-    ensures same { result ≡ bookmark_row name.now snapshot.now }
-    ensures row { IsBookmarkRow result }
+    ensures makes { MakesRow IsBookmarkRow (bookmark_row name.now snapshot.now) result }
 {
     Bookmark {
         name: name.duplicate(),
@@ -272,12 +256,8 @@ pub fn plan_bookmark(
     snapshot: &SnapName,
     name: &BookName,
 ) -> Result<Bookmark, PlanFault>
-    ensures row { IfOk result IsBookmarkRow }
-    ensures named { IfOk result (λ row. row.name ≡ name.now) }
-    ensures absent { OnOk result (All (λ other. other.name ≢ name.now) kept.now.dir.bookmarks) }
-    ensures number { OnOk result (kept.now.body.number < 2 ^ 63) }
-    ensures refused { IfErr result (λ fault. (is_by_rows fault ≡ true) ⊎ IsLast kept.now.body.number fault) }
-    ensures judged { (pool : Pool) → AreNamed kept.now.dir pool → pool.number ≡ kept.now.body.number → JudgesBookmark kept.now.dir snapshot.now name.now pool result }
+    ensures new { IfOk result (IsNewBookmark kept.now.dir name.now) }
+    ensures plans { PlansCommit kept.now (JudgesBookmark kept.now.dir snapshot.now name.now) result }
 {
     let row = find_snapshot(&kept.dir, snapshot)?;
     check_dataset(snapshot, name)?;

@@ -1,15 +1,12 @@
 // The commands that make clones and bookmarks, and those that leave rows out.
-ghost use Rattle.std.specs.Prelude.{◌≡◌, ◌+◌, ◌≤◌, [], IfOk, length};
-ghost use Rattle.zst_block.specs.IoStates.{disk_of, io_of};
+ghost use Rattle.std.specs.Prelude.{[]};
+ghost use Rattle.zst_block.specs.IoStates.{io_of};
 ghost use Rattle.zst_model.specs.pools.Step.{with_bookmark, with_clone, with_destroyed, with_rollback};
 ghost use Rattle.zst_dir.specs.Removal.{AreUnused, without};
-ghost use Rattle.zst_dir.specs.Spelling.{dir_bytes};
-ghost use Rattle.zst_image.specs.Commits.{Ready};
-ghost use Rattle.zst_image.specs.Reads.{free_by};
 ghost use Rattle.zst_pool.specs.Cost.{cells_only};
 ghost use Rattle.zst_pool.specs.Damage.{NoDamage};
-ghost use Rattle.zst_pool.specs.Plans.{Plans};
-ghost use Rattle.zst_pool.specs.CommandRuns.{Runs};
+ghost use Rattle.zst_pool.specs.CommandRuns.{CanBegin, RunsByPlan};
+ghost use Rattle.zst_pool.specs.RowChanges.{MakesDir};
 
 use crate::commands::commit_rows;
 use crate::fault::PoolFault;
@@ -31,10 +28,8 @@ pub fn make_clone<D: Disk>(
     origin: &SnapName,
     name: &DatasetName,
 ) -> Result<PoolState, PoolFault>
-    requires space { io.old.space ≡ free_by kept.now.body }
-    requires ready { Ready (disk_of io.old) kept.now.body }
-    ensures runs { Runs (with_clone origin.now name.now) (cells_only 0) NoDamage kept.now (io_of io.old) (io_of io.new) result }
-    ensures plans { Plans (with_clone origin.now name.now) 0 0 kept.now result }
+    requires begins { CanBegin (io_of io.old) kept.now }
+    ensures does { RunsByPlan (with_clone origin.now name.now) (cells_only 0) NoDamage 0 0 kept.now (io_of io.old) (io_of io.new) result }
 {
     let row = plan_clone(kept, origin, name)?;
     let mut dir = kept.dir.copy(alloc)?;
@@ -50,10 +45,8 @@ pub fn make_bookmark<D: Disk>(
     snapshot: &SnapName,
     name: &BookName,
 ) -> Result<PoolState, PoolFault>
-    requires space { io.old.space ≡ free_by kept.now.body }
-    requires ready { Ready (disk_of io.old) kept.now.body }
-    ensures runs { Runs (with_bookmark snapshot.now name.now) (cells_only 0) NoDamage kept.now (io_of io.old) (io_of io.new) result }
-    ensures plans { Plans (with_bookmark snapshot.now name.now) 0 0 kept.now result }
+    requires begins { CanBegin (io_of io.old) kept.now }
+    ensures does { RunsByPlan (with_bookmark snapshot.now name.now) (cells_only 0) NoDamage 0 0 kept.now (io_of io.old) (io_of io.new) result }
 {
     let row = plan_bookmark(kept, snapshot, name)?;
     let mut dir = kept.dir.copy(alloc)?;
@@ -64,8 +57,7 @@ pub fn make_bookmark<D: Disk>(
 // The directory without what goes.
 fn dir_without(alloc: Global, dir: &Dir, going: &Removal) -> Result<Dir, AllocError>
     requires { AreUnused going.now dir.now }
-    ensures left { IfOk result (λ next. next ≡ without going.now dir.now) }
-    ensures shrinks { IfOk result (λ next. length (dir_bytes next) ≤ length (dir_bytes dir.now)) }
+    ensures makes { MakesDir 0 dir.now (without going.now dir.now) result }
 {
     let mut next = dir.copy(alloc)?;
     next.leave_out(going);
@@ -79,10 +71,8 @@ pub fn destroy<D: Disk>(
     kept: &PoolState,
     name: Name,
 ) -> Result<PoolState, PoolFault>
-    requires space { io.old.space ≡ free_by kept.now.body }
-    requires ready { Ready (disk_of io.old) kept.now.body }
-    ensures runs { Runs (with_destroyed [] name) (cells_only 0) NoDamage kept.now (io_of io.old) (io_of io.new) result }
-    ensures plans { Plans (with_destroyed [] name) 0 0 kept.now result }
+    requires begins { CanBegin (io_of io.old) kept.now }
+    ensures does { RunsByPlan (with_destroyed [] name) (cells_only 0) NoDamage 0 0 kept.now (io_of io.old) (io_of io.new) result }
 {
     let going = plan_destroy(kept, name)?;
     let dir = dir_without(alloc, &kept.dir, &going)?;
@@ -97,10 +87,8 @@ pub fn roll_back<D: Disk>(
     destroys: bool,
     name: &SnapName,
 ) -> Result<PoolState, PoolFault>
-    requires space { io.old.space ≡ free_by kept.now.body }
-    requires ready { Ready (disk_of io.old) kept.now.body }
-    ensures runs { Runs (with_rollback [] destroys name.now) (cells_only 0) NoDamage kept.now (io_of io.old) (io_of io.new) result }
-    ensures plans { Plans (with_rollback [] destroys name.now) 0 0 kept.now result }
+    requires begins { CanBegin (io_of io.old) kept.now }
+    ensures does { RunsByPlan (with_rollback [] destroys name.now) (cells_only 0) NoDamage 0 0 kept.now (io_of io.old) (io_of io.new) result }
 {
     let snapshot = plan_rollback(kept, destroys, name)?;
     let dir = dir_rolled_back(alloc, &kept.dir, snapshot)?;

@@ -1,13 +1,11 @@
 // The lists of bookmarks.
-ghost use Rattle.std.specs.Prelude.{◌≡◌, ◌||◌, List, [], None, false, Some, IfErr, IfOk, IfSome, Err, option_map};
-ghost use Rattle.zst_outside.specs.Images.{OnlyReads};
+ghost use Rattle.std.specs.Prelude.{◌≡◌, List, [], None, false, Some, IfErr, IfOk, IfSome, Err, option_map};
 ghost use Rattle.zst_block.specs.IoStates.{IsHonest, blocks_of, disk_of};
 ghost use Rattle.zst_model.specs.fields.Lists.{Runs};
 ghost use Rattle.zst_model.specs.pools.Pool.{Pool as Plain, bookmark_named};
 ghost use Rattle.zst_list.specs.StoredLists.{HasList};
 ghost use Rattle.zst_image.specs.Reads.{RunsBy};
-ghost use Rattle.zst_pool.specs.Faults.{HasDiskCause, is_disk_fault};
-ghost use Rattle.zst_pool.specs.Events.{LooksUp};
+ghost use Rattle.zst_pool.specs.Events.{LooksUp, ReadsOnly};
 ghost use Rattle.zst_pool.specs.Lists.{AnswersNamed, AnswersRow, GivesList, GivesListed, StandsBelow, TellsRow, list_by, row_named};
 
 use crate::fault::PoolFault;
@@ -70,11 +68,7 @@ fn read_row<D: Disk>(
     ensures rows { AnswersRow row.now result }
     ensures stands { IsHonest io.new → io.old.space.free ≡ [] → IfOk result (StandsBelow (blocks_of io.old) row.now) }
     ensures damaged { IsHonest io.new → IfErr result (TellsRow io.old.space.end (disk_of io.old).seen (disk_of io.old).size row.now) }
-    ensures reads { OnlyReads (disk_of io.old) (disk_of io.new) }
-    ensures space { io.new.space ≡ io.old.space }
-    ensures failed { io.new.failed ≡ (io.old.failed || is_disk_fault result) }
-    ensures cause { HasDiskCause (disk_of io.old).faults (disk_of io.new).faults result }
-    ensures same { io.new.disk.ghost_name ≡ io.old.disk.ghost_name }
+    ensures reads_only { ReadsOnly io.old io.new result }
 {
     if row.redact.as_slice().is_empty() {
         return Ok(None);

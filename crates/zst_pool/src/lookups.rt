@@ -1,11 +1,6 @@
 // What the layers above ask of a pool besides its commands.
-ghost use Rattle.std.specs.Prelude.{◌≡◌, ◌==◌, ℕ, List, None, find, option_map};
-ghost use Rattle.zst_space.specs.FreeSectors.{FreeSectors};
-ghost use Rattle.zst_block.specs.Blocks.{Has};
-ghost use Rattle.zst_model.specs.pools.Pool.{Pool as Plain};
-ghost use Rattle.zst_model.specs.pools.Step.{state_named};
-ghost use Rattle.zst_pool.specs.Lookups.{FindsState, set_named};
-ghost use Rattle.zst_image.specs.Reads.{RunsBy};
+ghost use Rattle.std.specs.Prelude.{◌≡◌, ◌==◌, None, find, option_map};
+ghost use Rattle.zst_pool.specs.Lookups.{set_named, FindsSet};
 
 use crate::pool::Pool;
 use zst_dir::Dir;
@@ -58,9 +53,7 @@ impl<'d, D: Disk> Pool<'d, D> {
 
     /// The object set of a dataset's head, or of a snapshot; a bookmark has none.
     pub fn objects_of(&self, name: &Name) -> Option<ObjSet>
-        ensures rows { result ≡ set_named name.now self.now.kept.dir }
-        // Where the rows stand for a pool, it is there exactly where that has a state, and holds it.
-        ensures found { (image : List ℕ) (space : FreeSectors) (pool : Plain) → RunsBy None (Has image space) self.now.kept.dir pool → FindsState (Has image space) (state_named name.now pool) result }
+        ensures finds { FindsSet name.now self.now.kept.dir result }
     {
         set_of(&self.kept.dir, name)
     }
@@ -68,8 +61,7 @@ impl<'d, D: Disk> Pool<'d, D> {
 
 /// The object set of a dataset's head, or of a snapshot; a bookmark has none.
 pub(crate) fn set_of(dir: &Dir, name: &Name) -> Option<ObjSet>
-    ensures rows { result ≡ set_named name.now dir.now }
-    ensures found { (image : List ℕ) (space : FreeSectors) (pool : Plain) → RunsBy None (Has image space) dir.now pool → FindsState (Has image space) (state_named name.now pool) result }
+    ensures finds { FindsSet name.now dir.now result }
 {
     match name {
         Name::Dataset(name) => head_of(dir, name),

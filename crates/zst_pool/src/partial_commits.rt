@@ -8,7 +8,7 @@ ghost use Rattle.zst_model.specs.pools.KeptPool.{kept_of};
 ghost use Rattle.zst_dir.specs.Rows.{is_unkept_for};
 ghost use Rattle.zst_dir.specs.Spelling.{dir_bytes};
 ghost use Rattle.zst_pool.specs.Calls.{CallDid, CanCommit, IsAtRest, IsCallFault, IsUnderWay, ListsAnew};
-ghost use Rattle.zst_pool.specs.Events.{CommitsPartial, EndsCommit, FollowsBy, KeepsCommitted, PutsPartial, SameDisk, Settles};
+ghost use Rattle.zst_pool.specs.Events.{CommitsPartial, EndsCommit, FollowsBy, KeepsCommitted, PutsPartial, SameDisk, Settles, CanSettle, KeepsOver};
 ghost use Rattle.zst_pool.specs.PartialRows.{CanPut, rows_with_partial};
 ghost use Rattle.zst_pool.specs.Partials.{next_commit, partial_put, without_unkept};
 ghost use Rattle.zst_image.specs.Reads.{RunsBy, bound_of, dir_sectors, free_by};
@@ -94,11 +94,9 @@ impl<'d, D: Disk> Pool<'d, D> {
         alloc: Global,
         committed: Result<PoolState, PoolFault>,
     ) -> Result<u64, PoolFault>
-        requires fits { FitsDisk (disk_of self.old.io).size (free_by self.old.kept.body) }
-        requires ready { IfOk committed (λ kept. Ready (disk_of self.old.io) kept.body) }
-        ensures keeps { KeepsCommitted committed self.old self.new result }
+        requires can { CanSettle self.old committed }
+        ensures keeps { KeepsOver committed self.old self.new result }
         ensures space { self.new.io.space ≡ free_by self.new.kept.body }
-        ensures disk { SameDisk self.old.io self.new.io }
     {
         let answer = self.keep(committed);
         self.renew(alloc);

@@ -1,5 +1,4 @@
 ghost use Rattle.std.specs.Prelude.{◌≡◌, ◌∷◌, [], false, true, IfOk, Err};
-ghost use Rattle.zst_block.specs.Blocks.{FitsDisk};
 ghost use Rattle.zst_block.specs.IoStates.{disk_of, io_of};
 ghost use Rattle.zst_model.specs.pools.AnswerLines.{ok_line};
 ghost use Rattle.zst_model.specs.pools.Pool.{Pool as Plain};
@@ -11,8 +10,8 @@ ghost use Rattle.zst_image.specs.Reads.{free_by};
 ghost use Rattle.zst_pool.specs.Calls.{CanCommit, IsAtRest};
 ghost use Rattle.zst_pool.specs.Cost.{cost_of};
 ghost use Rattle.zst_pool.specs.Damage.{TellsDamage};
-ghost use Rattle.zst_pool.specs.CommandRuns.{Runs};
-ghost use Rattle.zst_pool.specs.Events.{KeepsCommitted, OnlyAnswers, SameDisk, Settles, StepDid};
+ghost use Rattle.zst_pool.specs.CommandRuns.{Runs, CanBegin, RunsByPlan};
+ghost use Rattle.zst_pool.specs.Events.{OnlyAnswers, Settles, StepDid, CanSettle, KeepsOver};
 ghost use Rattle.zst_image.specs.Commits.{Ready};
 
 use crate::aborts::abort;
@@ -103,12 +102,10 @@ impl<'d, D: Disk> Pool<'d, D> {
         alloc: Global,
         ran: Result<PoolState, PoolFault>,
     ) -> Result<u64, PoolFault>
-        requires fits { FitsDisk (disk_of self.old.io).size (free_by self.old.kept.body) }
-        requires ready { IfOk ran (λ kept. Ready (disk_of self.old.io) kept.body) }
-        ensures keeps { KeepsCommitted ran self.old self.new result }
+        requires can { CanSettle self.old ran }
+        ensures keeps { KeepsOver ran self.old self.new result }
         ensures space { is_full ran ≡ false → self.new.io.space ≡ free_by self.new.kept.body }
         ensures left { is_full ran ≡ true → self.new.io.space ≡ self.old.io.space }
-        ensures disk { SameDisk self.old.io self.new.io }
     {
         if is_full(&ran) {
             return self.keep(ran);
@@ -145,10 +142,8 @@ fn run<D: Disk>(
 ) -> Result<PoolState, PoolFault>
     requires command { IsCommand command }
     requires commits { commits command ≡ true }
-    requires space { io.old.space ≡ free_by kept.now.body }
-    requires ready { Ready (disk_of io.old) kept.now.body }
-    ensures runs { Runs (λ pool. stepped [] now command pool) (cost_of command) (TellsDamage command kept.now.dir (disk_of io.old) (free_by kept.now.body)) kept.now (io_of io.old) (io_of io.new) result }
-    ensures plans { Plans (λ pool. stepped [] now command pool) (numbers_end command) (indices_end command) kept.now result }
+    requires begins { CanBegin (io_of io.old) kept.now }
+    ensures does { RunsByPlan (λ pool. stepped [] now command pool) (cost_of command) (TellsDamage command kept.now.dir (disk_of io.old) (free_by kept.now.body)) (numbers_end command) (indices_end command) kept.now (io_of io.old) (io_of io.new) result }
 {
     match command {
         Command::Fs { dataset } => make_dataset(io, alloc, kept, 2, &dataset),

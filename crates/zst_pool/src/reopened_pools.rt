@@ -6,11 +6,10 @@ ghost use Rattle.zst_uber.specs.declared.uber.Uber.{Uber as Body};
 ghost use Rattle.zst_model.specs.pools.Pool.{Pool as Plain};
 ghost use Rattle.zst_dir.specs.Rows.{Rows};
 ghost use Rattle.zst_uber.specs.DiskCalls.{ReadsOrFails};
-ghost use Rattle.zst_image.specs.OpenAnswers.{GivesPool, OpenAnswers};
 ghost use Rattle.zst_image.specs.Commits.{Ready};
 ghost use Rattle.zst_image.specs.Reads.{ReadsAs, Rests};
 ghost use Rattle.zst_pool.specs.Calls.{IsAtRest};
-ghost use Rattle.zst_pool.specs.ReopenedPools.{Reopens, failed_after, reopened};
+ghost use Rattle.zst_pool.specs.ReopenedPools.{Reopens, failed_after, reopened, OpensBy};
 
 use crate::pool::Pool;
 use std::alloc::Global;
@@ -32,8 +31,7 @@ fn failed_after(failed: bool, opened: &Result<PoolState, OpenFault>) -> bool
 
 // Opens the pool of an Io's disk. What is kept of its blocks stays, as the disk is only read.
 fn open_on<D: Disk>(alloc: Global, io: &mut Io<'_, D>) -> Result<PoolState, OpenFault>
-    ensures there { (tight : Bool) (uber : Body) (rows : Rows) (pool : Plain) → IsHonest io.new → ReadsAs tight uber rows pool (disk_of io.old).seen → GivesPool uber rows result }
-    ensures answer { IsHonest io.new → OpenAnswers (disk_of io.old) result }
+    ensures opens { OpensBy (disk_of io.old) (disk_of io.new) result }
     ensures rests { (tight : Bool) (uber : Body) (rows : Rows) (pool : Plain) → IsHonest io.new → ReadsAs tight uber rows pool (disk_of io.old).seen → IfOk result (λ kept. Rests tight (disk_of io.new) kept.body rows pool) }
     ensures ready { IfOk result (λ kept. Ready (disk_of io.new) kept.body) }
     ensures synced { ¬ (result ≡ Err OpenFault.DiskFault) → IsSynced (disk_of io.new) }
@@ -49,8 +47,7 @@ impl<'d, D: Disk> Pool<'d, D> {
     /// Does on the pool's own disk what opening does, with the same refusals. After E28 it has
     /// failed; after any other refusal it is as before, and a failed pool stays failed.
     pub fn reopen(&mut self, alloc: Global) -> Result<(), OpenFault>
-        ensures there { (tight : Bool) (uber : Body) (rows : Rows) (pool : Plain) → IsHonest self.new.io → ReadsAs tight uber rows pool (disk_of self.old.io).seen → GivesPool uber rows (reopened self.new.kept result) }
-        ensures answer { IsHonest self.new.io → OpenAnswers (disk_of self.old.io) (reopened self.new.kept result) }
+        ensures opens { OpensBy (disk_of self.old.io) (disk_of self.new.io) (reopened self.new.kept result) }
         // And the pool that was opened is at rest.
         ensures rests { (tight : Bool) (uber : Body) (rows : Rows) (pool : Plain) → IsHonest self.new.io → ReadsAs tight uber rows pool (disk_of self.old.io).seen → OnOk result (IsAtRest tight (disk_of self.new.io) self.new.kept pool) }
         ensures reopens { Reopens self.old self.new result }

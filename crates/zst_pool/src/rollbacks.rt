@@ -1,16 +1,11 @@
 // What a rollback looks up before it changes anything, and the directory that it commits.
-ghost use Rattle.std.specs.Prelude.{◌≡◌, ◌⊎◌, ◌+◌, ◌<◌, ◌≤◌, ◌^◌, [], false, true, List, Option, Result, OnOk, IfErr, IfOk, bytes_eq, filter, find, length, map, option_map};
-ghost use Rattle.zst_model.specs.pools.Pool.{Pool};
+ghost use Rattle.std.specs.Prelude.{◌≡◌, ◌<◌, [], false, Option, Result, OnOk, IfOk, bytes_eq, filter, find, map, option_map};
 ghost use Rattle.zst_model.specs.pools.Pool as plain;
-ghost use Rattle.zst_model.specs.declared.refusals.refusal.Refusal.{Refusal};
-ghost use Rattle.zst_model.specs.pools.Step.{Stepped, least_name, lesser_name, unless_newer, unless_used};
+ghost use Rattle.zst_model.specs.pools.Step.{least_name, lesser_name, unless_newer, unless_used};
 ghost use Rattle.zst_dir.specs.Removal.{AreUnused, takes_bookmark, takes_snapshot};
-ghost use Rattle.zst_dir.specs.Rows.{IsSnapshotRow};
-ghost use Rattle.zst_dir.specs.Spelling.{dir_bytes};
-ghost use Rattle.zst_dir.specs.RowNames.{AreNamed};
-ghost use Rattle.zst_pool.specs.Checks.{Judges};
-ghost use Rattle.zst_pool.specs.Lineage.{JudgesRollback, if_rolls_back, newer_in_pool, newer_than, rows_rolled_back};
-ghost use Rattle.zst_pool.specs.Plans.{IsLast, is_by_rows};
+ghost use Rattle.zst_pool.specs.Checks.{ChecksRows, PlansCommit, JudgesNext};
+ghost use Rattle.zst_pool.specs.Lineage.{JudgesRollback, if_rolls_back, newer_in_pool, newer_than, rows_rolled_back, CanRollBack};
+ghost use Rattle.zst_pool.specs.RowChanges.{MakesDir};
 
 use crate::checks::{busy_partial, check_number, has_partial};
 use crate::lineage::{check_unused, find_snapshot};
@@ -66,9 +61,7 @@ fn least_going(dir: &Dir, going: &Removal) -> Option<SnapName>
 // E5 where something goes: the first bookmark, or else the snapshot with the least name.
 fn check_newer(dir: &Dir, going: &Removal) -> Result<(), PlanFault>
     ensures unused { OnOk result (AreUnused going.now dir.now) }
-    ensures rows { IfErr result (λ fault. is_by_rows fault ≡ true) }
-    ensures judged { (pool : Pool) (taken : plain.Snapshot) (rest : Result Stepped Refusal) → AreNamed dir.now pool → going.now ≡ newer_in_pool taken
-        → Judges (unless_newer false taken pool rest) rest result }
+    ensures checks { ChecksRows dir.now (λ pool answer. (taken : plain.Snapshot) → going.now ≡ newer_in_pool taken → JudgesNext (unless_newer false taken) pool answer) result }
 {
     if let Some(bookmark) = first_going(dir, going) {
         return Err(PlanFault::Busy(Holder::Bookmark(bookmark)));
@@ -81,9 +74,7 @@ fn check_newer(dir: &Dir, going: &Removal) -> Result<(), PlanFault>
 
 // E5 where the dataset has a partial state.
 fn check_no_partial(dir: &Dir, name: &DatasetName) -> Result<(), PlanFault>
-    ensures rows { IfErr result (λ fault. is_by_rows fault ≡ true) }
-    ensures judged { (pool : Pool) (rest : Result Stepped Refusal) → AreNamed dir.now pool
-        → Judges (unless_used (λ partial. bytes_eq partial.target name.now) [] pool rest) rest result }
+    ensures checks { ChecksRows dir.now (JudgesNext (unless_used (λ partial. bytes_eq partial.target name.now) [])) result }
 {
     if has_partial(dir, name) {
         return Err(busy_partial(name));
@@ -94,9 +85,7 @@ fn check_no_partial(dir: &Dir, name: &DatasetName) -> Result<(), PlanFault>
 // E5 where a rollback to this snapshot loses what is held, or, unless it destroys, anything.
 fn check_rollback(dir: &Dir, destroys: bool, snapshot: &Snapshot) -> Result<(), PlanFault>
     ensures unused { OnOk result (AreUnused (newer_than snapshot.now) dir.now) }
-    ensures rows { IfErr result (λ fault. is_by_rows fault ≡ true) }
-    ensures judged { (pool : Pool) (taken : plain.Snapshot) (rest : Result Stepped Refusal) → AreNamed dir.now pool → newer_than snapshot.now ≡ newer_in_pool taken
-        → Judges (if_rolls_back destroys taken pool rest) rest result }
+    ensures checks { ChecksRows dir.now (λ pool answer. (taken : plain.Snapshot) → newer_than snapshot.now ≡ newer_in_pool taken → JudgesNext (if_rolls_back destroys taken) pool answer) result }
 {
     let going = newer_than(snapshot);
     if destroys {
@@ -112,11 +101,8 @@ pub fn plan_rollback<'a>(
     destroys: bool,
     name: &SnapName,
 ) -> Result<&'a Snapshot, PlanFault>
-    ensures row { IfOk result (λ row. IsSnapshotRow row.now) }
-    ensures unused { IfOk result (λ row. AreUnused (newer_than row.now) kept.now.dir) }
-    ensures number { OnOk result (kept.now.body.number < 2 ^ 63) }
-    ensures refused { IfErr result (λ fault. (is_by_rows fault ≡ true) ⊎ IsLast kept.now.body.number fault) }
-    ensures judged { (pool : Pool) → AreNamed kept.now.dir pool → pool.number ≡ kept.now.body.number → JudgesRollback kept.now.dir destroys name.now pool result }
+    ensures can { IfOk result (λ row. CanRollBack kept.now.dir row.now) }
+    ensures plans { PlansCommit kept.now (JudgesRollback kept.now.dir destroys name.now) result }
 {
     let snapshot = find_snapshot(&kept.dir, name)?;
     check_rollback(&kept.dir, destroys, snapshot)?;
@@ -126,10 +112,8 @@ pub fn plan_rollback<'a>(
 
 /// The directory without what is newer than a snapshot, and with the head of its dataset as that.
 pub fn dir_rolled_back(alloc: Global, dir: &Dir, snapshot: &Snapshot) -> Result<Dir, AllocError>
-    requires row { IsSnapshotRow snapshot.now }
-    requires unused { AreUnused (newer_than snapshot.now) dir.now }
-    ensures rolled { IfOk result (λ next. next ≡ rows_rolled_back snapshot.now dir.now) }
-    ensures grows { IfOk result (λ next. length (dir_bytes next) ≤ length (dir_bytes dir.now) + 136) }
+    requires can { CanRollBack dir.now snapshot.now }
+    ensures makes { MakesDir 136 dir.now (rows_rolled_back snapshot.now dir.now) result }
 {
     let mut next = dir.copy(alloc)?;
     next.leave_out(&newer_than(snapshot));

@@ -1,4 +1,4 @@
-use Rattle.std.proofs.Common.{◌≡◌, ◌⊎◌, ℕ, true, [], inl, inr, ◌∙◌, sym, subst, Ok}
+use Rattle.std.proofs.Common.{rules, ◌≡◌, ◌⊎◌, ℕ, true, [], inl, inr, ◌∙◌, sym, subst, Ok}
 use Rattle.zst_model.specs.pools.Step.{committed, with_aborted, without_partial}
 use Rattle.zst_model.specs.declared.refusals.plan_fault.PlanFault.{PlanFault}
 use Rattle.zst_model.proofs.Results.{err_is}
@@ -11,27 +11,33 @@ use Rattle.zst_pool.proofs.aborts.plan_abort.Goals as goal
 abbrev Refused : ℕ → PlanFault → Type 0
 Refused number fault = (is_by_rows fault ≡ true) ⊎ IsLast number fault
 
-pub returns-in_err-check_partial-clause-judged : goal.returns-in_err-check_partial-clause-judged
-returns-in_err-check_partial-clause-judged c = λ pool are number.
-    let target = c.args.target.now in
-    let fell = c.from_residual in
-    subst (Judges (with_aborted [] target pool) (Ok (next_of (without_partial target pool)))) (sym (err_is fell.result c.in_err-check_partial.field-0.0 fell.ensures.1))
-    (c.in_err-check_partial.ensures.judged pool (committed (without_partial target pool)) are)
+pub returns-in_err-check_partial-clause-plans : goal.returns-in_err-check_partial-clause-plans
+returns-in_err-check_partial-clause-plans c = record {
+  number = search rules;
+  refused = err_has (Refused c.args.kept.now.body.number) c.from_residual.result c.in_err-check_partial.field-0.0 c.from_residual.ensures.1 (inl c.in_err-check_partial.ensures.checks.rows);
+  judged = λ pool are number.
+      let target = c.args.target.now in
+      let fell = c.from_residual in
+      subst (Judges (with_aborted [] target pool) (Ok (next_of (without_partial target pool)))) (sym (err_is fell.result c.in_err-check_partial.field-0.0 fell.ensures.1))
+      (c.in_err-check_partial.ensures.checks.judged pool are (committed (without_partial target pool)));
+}
 
-pub returns-in_err-check_number-clause-judged : goal.returns-in_err-check_number-clause-judged
-returns-in_err-check_number-clause-judged c = λ pool are number.
-    let target = c.args.target.now in
-    let fell = c.from_residual-in_err-check_number in
-    subst (Judges (with_aborted [] target pool) (Ok (next_of (without_partial target pool)))) (sym (err_is fell.result c.in_err-check_number.field-0.0 fell.ensures.1))
-    (c.in_ok-check_partial.ensures.judged pool (committed (without_partial target pool)) are ∙ c.in_err-check_number.ensures.judged (without_partial target pool) number)
+pub returns-in_err-check_number-clause-plans : goal.returns-in_err-check_number-clause-plans
+returns-in_err-check_number-clause-plans c = record {
+  number = search rules;
+  refused = err_has (Refused c.args.kept.now.body.number) c.from_residual-in_err-check_number.result c.in_err-check_number.field-0.0 c.from_residual-in_err-check_number.ensures.1 (inr c.in_err-check_number.ensures.last);
+  judged = λ pool are number.
+      let target = c.args.target.now in
+      let fell = c.from_residual-in_err-check_number in
+      subst (Judges (with_aborted [] target pool) (Ok (next_of (without_partial target pool)))) (sym (err_is fell.result c.in_err-check_number.field-0.0 fell.ensures.1))
+      (c.in_ok-check_partial.ensures.checks.judged pool are (committed (without_partial target pool)) ∙ c.in_err-check_number.ensures.judged (without_partial target pool) number);
+}
 
-pub returns-clause-judged : goal.returns-clause-judged
-returns-clause-judged c = λ pool are number.
-    let target = c.args.target.now in
-    c.in_ok-check_partial.ensures.judged pool (committed (without_partial target pool)) are ∙ c.in_ok-check_number.ensures.judged (without_partial target pool) number
-
-pub returns-in_err-check_partial-clause-refused : goal.returns-in_err-check_partial-clause-refused
-returns-in_err-check_partial-clause-refused c = err_has (Refused c.args.kept.now.body.number) c.from_residual.result c.in_err-check_partial.field-0.0 c.from_residual.ensures.1 (inl c.in_err-check_partial.ensures.rows)
-
-pub returns-in_err-check_number-clause-refused : goal.returns-in_err-check_number-clause-refused
-returns-in_err-check_number-clause-refused c = err_has (Refused c.args.kept.now.body.number) c.from_residual-in_err-check_number.result c.in_err-check_number.field-0.0 c.from_residual-in_err-check_number.ensures.1 (inr c.in_err-check_number.ensures.last)
+pub returns-clause-plans : goal.returns-clause-plans
+returns-clause-plans c = record {
+  number = search rules;
+  refused = search rules;
+  judged = λ pool are number.
+      let target = c.args.target.now in
+      c.in_ok-check_partial.ensures.checks.judged pool are (committed (without_partial target pool)) ∙ c.in_ok-check_number.ensures.judged (without_partial target pool) number;
+}

@@ -1,6 +1,6 @@
 use Rattle.std.specs.Prelude.{Ok, Result}
 use Rattle.std.specs.Borrow.{Bor}
-use Rattle.std.proofs.Common.{◌≡◌, ℕ, List, sym, ap, ◌∙◌, subst}
+use Rattle.std.proofs.Common.{rules, ◌≡◌, ℕ, List, sym, ap, ◌∙◌, subst}
 use Rattle.zst_names.specs.Names.{dataset_of}
 use Rattle.zst_model.specs.declared.refusals.refusal.Refusal.{Refusal}
 use Rattle.zst_model.specs.pools.Pool.{Pool, Dataset}
@@ -27,13 +27,19 @@ after_name now name pool dataset = if_guid_left pool.guids (after_guids now name
 after_dataset : ℕ → List ℕ → Pool → Dataset → Result Stepped Refusal
 after_dataset now name pool dataset = if_new_snapshot name pool (after_name now name pool dataset)
 
-pub returns-in_err-dataset-clause-judged : goal.returns-in_err-dataset-clause-judged
+pub returns-in_err-dataset-clause-plans : goal.returns-in_err-dataset-clause-plans
 unfolding after_dataset after_name after_guids
-returns-in_err-dataset-clause-judged c = λ now pool are guids number.
-    let name = c.args.name.now in
-    let is = ap (λ (n : List ℕ). on_dataset n pool (after_dataset now name pool)) (sym c.dataset.ensures)
-    ∙ c.in_err-dataset.ensures.found pool are (after_dataset now name pool) in
-    subst (JudgesSnapshot c.args.kept.now.dir now name pool) (sym (err_is c.from_residual.result c.in_err-dataset.field-0.0 c.from_residual.ensures.1)) is
+returns-in_err-dataset-clause-plans c = record {
+  number = search rules;
+  refused =
+      let p = err_from_is_err_and c.from_residual.result c.from_residual.ensures.1 in
+      rw (p.1, p.2) (inl c.in_err-dataset.ensures.finds.rows);
+  judged = λ pool are number now guids.
+      let name = c.args.name.now in
+      let is = ap (λ (n : List ℕ). on_dataset n pool (after_dataset now name pool)) (sym c.dataset.ensures)
+      ∙ c.in_err-dataset.ensures.finds.judged pool are (after_dataset now name pool) in
+      subst (JudgesSnapshot c.args.kept.now.dir now name pool) (sym (err_is c.from_residual.result c.in_err-dataset.field-0.0 c.from_residual.ensures.1)) is;
+}
 
 -- what is left of the definition once the dataset was found
 opened : (rows : Rows) (now : ℕ) (name target : List ℕ) (pool : Pool) (row : Bor Row) → target ≡ dataset_of 64 name → (found : FindsDataset rows target pool (Ok row))
@@ -43,74 +49,79 @@ opened rows now name target pool row same found = ap (λ (n : List ℕ). on_data
 
 -- and once the snapshot is new, and a guid is left for it
 numbered : (c : In_ok-check_guids) (now : ℕ) (pool : Pool) (are : AreNamed c.args.kept.now.dir pool) → pool.guids ≡ c.args.kept.now.body.guids
-    → with_snapshot now c.args.name.now pool ≡ after_guids now c.args.name.now pool (c.in_ok-dataset.ensures.found pool are).0
+    → with_snapshot now c.args.name.now pool ≡ after_guids now c.args.name.now pool (c.in_ok-dataset.ensures.finds.judged pool are).0
 unfolding after_dataset after_name
 numbered c now pool are guids =
     let name = c.args.name.now in
-    let found = c.in_ok-dataset.ensures.found pool are in
+    let found = c.in_ok-dataset.ensures.finds.judged pool are in
     opened c.args.kept.now.dir now name c.dataset.result pool c.in_ok-dataset.dataset c.dataset.ensures found
-    ∙ c.in_ok-check_new_snapshot.ensures.judged pool (after_name now name pool found.0) are
+    ∙ c.in_ok-check_new_snapshot.ensures.checks.judged pool are (after_name now name pool found.0)
     ∙ ap (λ (n : ℕ). if_guid_left n (after_guids now name pool found.0)) guids
     ∙ c.in_ok-check_guids.ensures.judged (after_guids now name pool found.0)
 
-pub returns-in_err-check_new_snapshot-clause-judged : goal.returns-in_err-check_new_snapshot-clause-judged
+pub returns-in_err-check_new_snapshot-clause-plans : goal.returns-in_err-check_new_snapshot-clause-plans
 unfolding after_dataset
-returns-in_err-check_new_snapshot-clause-judged c = λ now pool are guids number.
-    let name = c.args.name.now in
-    let fell = c.from_residual-in_err-check_new_snapshot in
-    let found = c.in_ok-dataset.ensures.found pool are in
-    subst (JudgesSnapshot c.args.kept.now.dir now name pool) (sym (err_is fell.result c.in_err-check_new_snapshot.field-0.0 fell.ensures.1))
-    (opened c.args.kept.now.dir now name c.dataset.result pool c.in_ok-dataset.dataset c.dataset.ensures found ∙ c.in_err-check_new_snapshot.ensures.judged pool (after_name now name pool found.0) are)
+returns-in_err-check_new_snapshot-clause-plans c = record {
+  number = search rules;
+  refused =
+      let p = err_from_is_err_and c.from_residual-in_err-check_new_snapshot.result c.from_residual-in_err-check_new_snapshot.ensures.1 in
+      rw (p.1, p.2) (inl c.in_err-check_new_snapshot.ensures.checks.rows);
+  judged = λ pool are number now guids.
+      let name = c.args.name.now in
+      let fell = c.from_residual-in_err-check_new_snapshot in
+      let found = c.in_ok-dataset.ensures.finds.judged pool are in
+      subst (JudgesSnapshot c.args.kept.now.dir now name pool) (sym (err_is fell.result c.in_err-check_new_snapshot.field-0.0 fell.ensures.1))
+      (opened c.args.kept.now.dir now name c.dataset.result pool c.in_ok-dataset.dataset c.dataset.ensures found ∙ c.in_err-check_new_snapshot.ensures.checks.judged pool are (after_name now name pool found.0));
+}
 
-pub returns-in_err-check_guids-clause-judged : goal.returns-in_err-check_guids-clause-judged
+pub returns-in_err-check_guids-clause-plans : goal.returns-in_err-check_guids-clause-plans
 unfolding after_dataset after_name
-returns-in_err-check_guids-clause-judged c = λ now pool are guids number.
-    let name = c.args.name.now in
-    let found = c.in_ok-dataset.ensures.found pool are in
-    let is = opened c.args.kept.now.dir now name c.dataset.result pool c.in_ok-dataset.dataset c.dataset.ensures found
-    ∙ c.in_ok-check_new_snapshot.ensures.judged pool (after_name now name pool found.0) are
-    ∙ ap (λ (n : ℕ). if_guid_left n (after_guids now name pool found.0)) guids
-    ∙ c.in_err-check_guids.ensures.judged (after_guids now name pool found.0) in
-    subst (JudgesSnapshot c.args.kept.now.dir now name pool) (sym (err_is c.from_residual-in_err-check_guids.result c.in_err-check_guids.field-0.0 c.from_residual-in_err-check_guids.ensures.1)) is
+returns-in_err-check_guids-clause-plans c = record {
+  number = search rules;
+  refused =
+      let p = err_from_is_err_and c.from_residual-in_err-check_guids.result c.from_residual-in_err-check_guids.ensures.1 in
+      rw (p.1, p.2) (inl c.in_err-check_guids.ensures.rows);
+  judged = λ pool are number now guids.
+      let name = c.args.name.now in
+      let found = c.in_ok-dataset.ensures.finds.judged pool are in
+      let is = opened c.args.kept.now.dir now name c.dataset.result pool c.in_ok-dataset.dataset c.dataset.ensures found
+      ∙ c.in_ok-check_new_snapshot.ensures.checks.judged pool are (after_name now name pool found.0)
+      ∙ ap (λ (n : ℕ). if_guid_left n (after_guids now name pool found.0)) guids
+      ∙ c.in_err-check_guids.ensures.judged (after_guids now name pool found.0) in
+      subst (JudgesSnapshot c.args.kept.now.dir now name pool) (sym (err_is c.from_residual-in_err-check_guids.result c.in_err-check_guids.field-0.0 c.from_residual-in_err-check_guids.ensures.1)) is;
+}
 
-pub returns-in_err-check_number-clause-judged : goal.returns-in_err-check_number-clause-judged
+pub returns-in_err-check_number-clause-plans : goal.returns-in_err-check_number-clause-plans
 unfolding after_guids
-returns-in_err-check_number-clause-judged c = λ now pool are guids number.
-    let name = c.args.name.now in
-    let fell = c.from_residual-in_err-check_number in
-    let found = c.in_ok-dataset.ensures.found pool are in
-    subst (JudgesSnapshot c.args.kept.now.dir now name pool) (sym (err_is fell.result c.in_err-check_number.field-0.0 fell.ensures.1))
-    (numbered (goal.at.returns-in_err-check_number-clause-judged c).In_ok-check_guids now pool are guids ∙ c.in_err-check_number.ensures.judged (with_taken now name found.0 pool) number)
+returns-in_err-check_number-clause-plans c = record {
+  number = search rules;
+  refused =
+      let p = err_from_is_err_and c.from_residual-in_err-check_number.result c.from_residual-in_err-check_number.ensures.1 in
+      rw (p.1, p.2) (inr c.in_err-check_number.ensures.last);
+  judged = λ pool are number now guids.
+      let name = c.args.name.now in
+      let fell = c.from_residual-in_err-check_number in
+      let found = c.in_ok-dataset.ensures.finds.judged pool are in
+      subst (JudgesSnapshot c.args.kept.now.dir now name pool) (sym (err_is fell.result c.in_err-check_number.field-0.0 fell.ensures.1))
+      (numbered (goal.at.returns-in_err-check_number-clause-plans c).In_ok-check_guids now pool are guids ∙ c.in_err-check_number.ensures.judged (with_taken now name found.0 pool) number);
+}
 
-pub returns-clause-judged : goal.returns-clause-judged
+pub returns-clause-plans : goal.returns-clause-plans
 unfolding after_guids
-returns-clause-judged c = λ now pool are guids number.
-    let found = c.in_ok-dataset.ensures.found pool are in
-    let is = numbered (goal.at.returns-clause-judged c).In_ok-check_guids now pool are guids in
-    (found.0, found.1, is ∙ c.in_ok-check_number.ensures.judged (with_taken now c.args.name.now found.0 pool) number)
-
-pub returns-in_err-dataset-clause-refused : goal.returns-in_err-dataset-clause-refused
-returns-in_err-dataset-clause-refused c =
-    let p = err_from_is_err_and c.from_residual.result c.from_residual.ensures.1 in
-    rw (p.1, p.2) (inl c.in_err-dataset.ensures.rows)
-
-pub returns-in_err-check_new_snapshot-clause-refused : goal.returns-in_err-check_new_snapshot-clause-refused
-returns-in_err-check_new_snapshot-clause-refused c =
-    let p = err_from_is_err_and c.from_residual-in_err-check_new_snapshot.result c.from_residual-in_err-check_new_snapshot.ensures.1 in
-    rw (p.1, p.2) (inl c.in_err-check_new_snapshot.ensures.rows)
-
-pub returns-in_err-check_guids-clause-refused : goal.returns-in_err-check_guids-clause-refused
-returns-in_err-check_guids-clause-refused c =
-    let p = err_from_is_err_and c.from_residual-in_err-check_guids.result c.from_residual-in_err-check_guids.ensures.1 in
-    rw (p.1, p.2) (inl c.in_err-check_guids.ensures.rows)
-
-pub returns-in_err-check_number-clause-refused : goal.returns-in_err-check_number-clause-refused
-returns-in_err-check_number-clause-refused c =
-    let p = err_from_is_err_and c.from_residual-in_err-check_number.result c.from_residual-in_err-check_number.ensures.1 in
-    rw (p.1, p.2) (inr c.in_err-check_number.ensures.last)
+returns-clause-plans c = record {
+  number = search rules;
+  refused = search rules;
+  judged = λ pool are number now guids.
+      let found = c.in_ok-dataset.ensures.finds.judged pool are in
+      let is = numbered (goal.at.returns-clause-plans c).In_ok-check_guids now pool are guids in
+      (found.0, found.1, is ∙ c.in_ok-check_number.ensures.judged (with_taken now c.args.name.now found.0 pool) number);
+}
 
 pub returns-clause-there : goal.returns-clause-there
 returns-clause-there c = let there = c.in_ok-dataset.ensures.there in (there.0, there.1 ∙ c.dataset.ensures)
 
-pub returns-clause-free : goal.returns-clause-free
-returns-clause-free c = subst (λ (n : List ℕ). list_any (λ partial. bytes_eq partial.target n) c.args.kept.now.dir.partials ≡ false) c.dataset.ensures c.in_ok-dataset.ensures.free
+pub returns-clause-can : goal.returns-clause-can
+returns-clause-can c = record {
+  absent = search rules;
+  free = subst (λ (n : List ℕ). list_any (λ partial. bytes_eq partial.target n) c.args.kept.now.dir.partials ≡ false) c.dataset.ensures c.in_ok-dataset.ensures.free;
+}

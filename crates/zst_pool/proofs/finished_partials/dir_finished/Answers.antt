@@ -25,7 +25,7 @@ add_snapshot-requires-clause-dataset c =
     let back = (join_is_name 64 partial.target partial.snapshot at_is_mark c.requires.row.target).dataset_back in (
       there.0,
       subst (λ (r : Rows). Contains r.datasets there.0) (sym c.in_ok-put_target.ensures.put) there.1,
-      there.2 ∙ sym back ∙ ap (λ (s : Snapshot). dataset_of 64 s.name) (sym c.snapshot_from.ensures.same),
+      there.2 ∙ sym back ∙ ap (λ (s : Snapshot). dataset_of 64 s.name) (sym c.snapshot_from.ensures.makes.same),
     )
 
 pub add_snapshot-requires-clause-component : goal.add_snapshot-requires-clause-component
@@ -34,7 +34,7 @@ add_snapshot-requires-clause-component c =
     let rows = c.args.dir.now in
     let name = c.snapshot_from.result.name in
     let of_target : dataset_of 64 name ≡ partial.target =
-    ap (λ (s : Snapshot). dataset_of 64 s.name) c.snapshot_from.ensures.same ∙ (join_is_name 64 partial.target partial.snapshot at_is_mark c.requires.row.target).dataset_back in
+    ap (λ (s : Snapshot). dataset_of 64 s.name) c.snapshot_from.ensures.makes.same ∙ (join_is_name 64 partial.target partial.snapshot at_is_mark c.requires.row.target).dataset_back in
     let left = ap (λ (r : Rows). r.partials) c.in_ok-put_target.ensures.put ∙ ap (λ (r : Rows). r.partials) c.drop_partial.ensures.dropped
     ∙ ap (λ (r : Rows). filter (λ other. not (is_for partial.target other)) r.partials) c.in_ok-next.ensures in
     subst (λ (l : List Partial). All (λ (other : Partial). other.target ++ 64 ∷ other.snapshot ≡ name → ⊥) l) (sym left)
@@ -47,7 +47,7 @@ returns-clause-finished c =
     let row = snapshot_row_from c.args.number partial in
     let put = c.put_target.new.dir in
     c.in_ok-add_snapshot.ensures.added
-    ∙ ap (λ (s : Snapshot). record put { snapshots = inserted snapshot_is_before s put.snapshots }) c.snapshot_from.ensures.same
+    ∙ ap (λ (s : Snapshot). record put { snapshots = inserted snapshot_is_before s put.snapshots }) c.snapshot_from.ensures.makes.same
     ∙ ap (λ (r : Rows). record r { snapshots = inserted snapshot_is_before row r.snapshots }) c.in_ok-put_target.ensures.put
     ∙ ap (λ (r : Rows). record r { datasets = rows_with_target partial r.datasets; snapshots = inserted snapshot_is_before row r.snapshots }) c.drop_partial.ensures.dropped
     ∙ ap (λ (r : Rows). record r {

@@ -90,34 +90,34 @@ returns-clause-ran g c = λ start failed reference make cost changed.
     (λ next told_next. commit.commits tight start rests.rows (kept_of running) next told rests.rests fills told_next) commit.made commit.refused)
     grows commit.made commit.takes commit.refused commit.disk commit.cause
 
-pub returns-in_err-judge-clause-damaged : goal.returns-in_err-judge-clause-damaged
-returns-in_err-judge-clause-damaged g c = λ sector stated found is.
-    let fault = c.in_err-judge.field-0.0 in
-    let same = err_is c.from_residual.result fault c.from_residual.ensures.1 in
-    let told : fault ≡ Damaged sector stated found = cc (same, is) in
-    c.in_err-judge.ensures.damaged sector stated found (ap (λ (f : PoolFault). Err f) told)
+pub returns-in_err-judge-clause-refuses : goal.returns-in_err-judge-clause-refuses
+returns-in_err-judge-clause-refuses g c = record {
+  damaged = λ sector stated found is.
+      let fault = c.in_err-judge.field-0.0 in
+      let same = err_is c.from_residual.result fault c.from_residual.ensures.1 in
+      let told : fault ≡ Damaged sector stated found = cc (same, is) in
+      c.in_err-judge.ensures.refuses.damaged sector stated found (ap (λ (f : PoolFault). Err f) told);
+  last = λ fault is.
+      let fell = c.in_err-judge.field-0.0 in
+      let answered = err_is c.from_residual.result fell c.from_residual.ensures.1 in
+      let same : fell ≡ Plan fault = cc (answered, is) in
+      c.in_err-judge.ensures.refuses.last fault (ap (λ f. Err f) same);
+}
 
-pub returns-in_err-dir-clause-damaged : goal.returns-in_err-dir-clause-damaged
-returns-in_err-dir-clause-damaged g c = λ sector stated found is.
-    let fell = c.from_residual-in_err-dir in
-    let same = err_is fell.result OutOfMemory fell.ensures.1 in
-    absurd (cc (same, is))
+pub returns-in_err-dir-clause-refuses : goal.returns-in_err-dir-clause-refuses
+returns-in_err-dir-clause-refuses g c = record {
+  damaged = λ sector stated found is.
+      let fell = c.from_residual-in_err-dir in
+      let same = err_is fell.result OutOfMemory fell.ensures.1 in
+      absurd (cc (same, is));
+  last = λ fault is.
+      let fell = c.from_residual-in_err-dir in
+      let answered = err_is fell.result OutOfMemory fell.ensures.1 in
+      absurd (cc (answered, is));
+}
 
-pub returns-clause-damaged : goal.returns-clause-damaged
-returns-clause-damaged g c = λ sector stated found is. absurd (committed_sound c.commit_dir.result sector stated found (sym c.of_committed.ensures ∙ is))
-
-pub returns-in_err-judge-clause-plans : goal.returns-in_err-judge-clause-plans
-returns-in_err-judge-clause-plans g c = λ fault is.
-    let fell = c.in_err-judge.field-0.0 in
-    let answered = err_is c.from_residual.result fell c.from_residual.ensures.1 in
-    let same : fell ≡ Plan fault = cc (answered, is) in
-    c.in_err-judge.ensures.last fault (ap (λ f. Err f) same)
-
-pub returns-in_err-dir-clause-plans : goal.returns-in_err-dir-clause-plans
-returns-in_err-dir-clause-plans g c = λ fault is.
-    let fell = c.from_residual-in_err-dir in
-    let answered = err_is fell.result OutOfMemory fell.ensures.1 in
-    absurd (cc (answered, is))
-
-pub returns-clause-plans : goal.returns-clause-plans
-returns-clause-plans g c = λ fault is. absurd (no_plan-commit c.commit_dir.result c.of_committed.ensures fault is)
+pub returns-clause-refuses : goal.returns-clause-refuses
+returns-clause-refuses g c = record {
+  damaged = λ sector stated found is. absurd (committed_sound c.commit_dir.result sector stated found (sym c.of_committed.ensures ∙ is));
+  last = λ fault is. absurd (no_plan-commit c.commit_dir.result c.of_committed.ensures fault is);
+}

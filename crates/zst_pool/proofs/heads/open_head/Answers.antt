@@ -1,4 +1,4 @@
-use Rattle.std.proofs.Common.{refl, subst}
+use Rattle.std.proofs.Common.{rules, refl, subst}
 use Rattle.zst_model.specs.states.AppliedItems.{◌>>=◌}
 use Rattle.zst_model.specs.pools.Step.{committed}
 use Rattle.zst_pool.specs.Checks.{with_head_of}
@@ -16,10 +16,16 @@ returns-in-Ok-clause-levels c =
     let row = subst IsDatasetRow there.0.2 (c.in-Ok.ensures.lawful.datasets there.0.0 c.in-Ok.dataset.now there.0.1) in
     row.head
 
-pub returns-in-Ok-clause-found : goal.returns-in-Ok-clause-found
-returns-in-Ok-clause-found c = λ pool named.
-    let found = c.in-Ok.ensures.found pool named in
-    (c.in-Ok.dataset.now, found.0, found.1, refl, λ change. found.2 (λ dataset. change dataset.head >>= λ after. committed (with_head_of c.args.name.now after pool)))
+pub returns-in-Ok-clause-finds : goal.returns-in-Ok-clause-finds
+returns-in-Ok-clause-finds c = record {
+  rows = search rules;
+  judged = λ pool named.
+      let found = c.in-Ok.ensures.finds.judged pool named in
+      (c.in-Ok.dataset.now, found.0, found.1, refl, λ change. found.2 (λ dataset. change dataset.head >>= λ after. committed (with_head_of c.args.name.now after pool)));
+}
 
-pub returns-in-Err-clause-found : goal.returns-in-Err-clause-found
-returns-in-Err-clause-found c = λ pool named change. c.in-Err.ensures.found pool named (λ dataset. change dataset.head >>= λ after. committed (with_head_of c.args.name.now after pool))
+pub returns-in-Err-clause-finds : goal.returns-in-Err-clause-finds
+returns-in-Err-clause-finds c = record {
+  rows = c.in-Err.ensures.finds.rows;
+  judged = λ pool named change. c.in-Err.ensures.finds.judged pool named (λ dataset. change dataset.head >>= λ after. committed (with_head_of c.args.name.now after pool));
+}

@@ -14,40 +14,44 @@ use Rattle.zst_pool.proofs.heads.punch.Goals as goal
 
 pub commit_head-requires-clause-ready : goal.commit_head-requires-clause-ready
 commit_head-requires-clause-ready g c =
-    ready_after (g.D.Disk.state c.args.io.now.disk.now) (g.D.Disk.state c.change_holes-changed.new.io.disk.now) c.args.io.now.space c.change_holes-changed.new.io.space c.args.kept.now.body c.requires.space c.change_holes-changed.ensures.works.fills c.requires.ready
+    ready_after (g.D.Disk.state c.args.io.now.disk.now) (g.D.Disk.state c.change_holes-changed.new.io.disk.now) c.args.io.now.space c.change_holes-changed.new.io.space c.args.kept.now.body c.requires.begins.space c.change_holes-changed.ensures.works.fills c.requires.begins.ready
 
-pub returns-clause-runs : goal.returns-clause-runs
-returns-clause-runs g c =
-    let make = λ (pool : Pool). punched pool c.args.object c.args.first c.args.count in
-    runs_head (λ pool. on_head c.args.name.now pool (make pool)) (cells_only 2) c.args.kept.now c.args.name.now (range_damage (g.D.Disk.state c.args.io.now.disk.now)) (io_of c.args.io.now) (io_of c.change_holes-changed.new.io) c.in_ok-set.set c.change_holes-changed.result c.commit_head.result
-    c.requires.space c.in_ok-set.ensures.there c.change_holes-changed.ensures.damaged c.commit_head.ensures.honest c.commit_head.ensures.damaged
-    (c.commit_head.ensures.ran c.args.io.now.disk.now c.args.io.now.failed c.args.io.now.disk.ghost_name make (cells_only 2)
-    (changed_head c.args.kept.now c.args.name.now make (cells_only 2) (io_of c.args.io.now) (io_of c.change_holes-changed.new.io) c.requires.space c.next_number-number.ensures c.in_ok-set.ensures.found c.change_holes-changed.ensures.changed
-    (0, omega arith, c.change_holes-changed.ensures.works) (λ pool head told holds finds. c.change_holes-changed.ensures.works)))
+pub returns : goal.returns
+returns g c = record {
+  does = record {
+    runs =
+        let make = λ (pool : Pool). punched pool c.args.object c.args.first c.args.count in
+        runs_head (λ pool. on_head c.args.name.now pool (make pool)) (cells_only 2) c.args.kept.now c.args.name.now (range_damage (g.D.Disk.state c.args.io.now.disk.now)) (io_of c.args.io.now) (io_of c.change_holes-changed.new.io) c.in_ok-set.set c.change_holes-changed.result c.commit_head.result
+        c.requires.begins.space c.in_ok-set.ensures.there c.change_holes-changed.ensures.damaged c.commit_head.ensures.honest c.commit_head.ensures.refuses.damaged
+        (c.commit_head.ensures.ran c.args.io.now.disk.now c.args.io.now.failed c.args.io.now.disk.ghost_name make (cells_only 2)
+        (changed_head c.args.kept.now c.args.name.now make (cells_only 2) (io_of c.args.io.now) (io_of c.change_holes-changed.new.io) c.requires.begins.space c.next_number-number.ensures c.in_ok-set.ensures.finds.judged c.change_holes-changed.ensures.changed
+        (0, omega arith, c.change_holes-changed.ensures.works) (λ pool head told holds finds. c.change_holes-changed.ensures.works)));
+    plans =
+        let kept = c.args.kept.now in
+        let name = c.args.name.now in
+        let make = λ (pool : Pool). punched pool c.args.object c.args.first c.args.count in
+        let changed = c.change_holes-changed in
+        plans_apart (λ pool. on_head name pool (make pool)) 0 (c.args.first + c.args.count) kept c.commit_head.result
+        (λ pool named. head_apart kept.dir name pool c.in_ok-set.set (make pool) (punched_apart pool c.args.object c.args.first c.args.count) (c.in_ok-set.ensures.finds.judged pool named.are_named))
+        (λ fault is. head_limits 0 (c.args.first + c.args.count) kept.body changed.result changed.ensures.limits fault (c.commit_head.ensures.refuses.last fault is));
+  };
+}
 
-pub returns-in_err-set-clause-runs : goal.returns-in_err-set-clause-runs
-returns-in_err-set-clause-runs g c =
-    let make = λ (pool : Pool). punched pool c.args.object c.args.first c.args.count in
-    let plan = c.in_err-set.field-0.0 in
-    let space = free_by c.args.kept.now.body in
-    runs_planned (λ pool. on_head c.args.name.now pool (make pool)) (cells_only 2) (OfHead c.args.kept.now.dir c.args.name.now (range_damage (g.D.Disk.state c.args.io.now.disk.now) space)) c.args.kept.now plan (err_is c.from_residual.result (Plan plan) c.from_residual.ensures.1) c.requires.space c.requires.ready
-    (λ running rested.
-    let named = rest_named (g.D.Disk.state c.args.io.now.disk.now) c.args.kept.now running rested in
-    c.in_err-set.ensures.found running named.are_named (make running))
-
-pub returns-in_err-set-clause-plans : goal.returns-in_err-set-clause-plans
-returns-in_err-set-clause-plans g c =
-    let make = λ (pool : Pool). punched pool c.args.object c.args.first c.args.count in
-    let fault = c.in_err-set.field-0.0 in
-    plans_refused (λ pool. on_head c.args.name.now pool (make pool)) 0 (c.args.first + c.args.count) c.args.kept.now fault (err_is c.from_residual.result (Plan fault) c.from_residual.ensures.1) (inl c.in_err-set.ensures.rows)
-    (λ pool named. c.in_err-set.ensures.found pool named.are_named (make pool))
-
-pub returns-clause-plans : goal.returns-clause-plans
-returns-clause-plans g c =
-    let kept = c.args.kept.now in
-    let name = c.args.name.now in
-    let make = λ (pool : Pool). punched pool c.args.object c.args.first c.args.count in
-    let changed = c.change_holes-changed in
-    plans_apart (λ pool. on_head name pool (make pool)) 0 (c.args.first + c.args.count) kept c.commit_head.result
-    (λ pool named. head_apart kept.dir name pool c.in_ok-set.set (make pool) (punched_apart pool c.args.object c.args.first c.args.count) (c.in_ok-set.ensures.found pool named.are_named))
-    (λ fault is. head_limits 0 (c.args.first + c.args.count) kept.body changed.result changed.ensures.limits fault (c.commit_head.ensures.plans fault is))
+pub returns-in_err-set : goal.returns-in_err-set
+returns-in_err-set g c = record {
+  does = record {
+    runs =
+        let make = λ (pool : Pool). punched pool c.args.object c.args.first c.args.count in
+        let plan = c.in_err-set.field-0.0 in
+        let space = free_by c.args.kept.now.body in
+        runs_planned (λ pool. on_head c.args.name.now pool (make pool)) (cells_only 2) (OfHead c.args.kept.now.dir c.args.name.now (range_damage (g.D.Disk.state c.args.io.now.disk.now) space)) c.args.kept.now plan (err_is c.from_residual.result (Plan plan) c.from_residual.ensures.1) c.requires.begins.space c.requires.begins.ready
+        (λ running rested.
+        let named = rest_named (g.D.Disk.state c.args.io.now.disk.now) c.args.kept.now running rested in
+        c.in_err-set.ensures.finds.judged running named.are_named (make running));
+    plans =
+        let make = λ (pool : Pool). punched pool c.args.object c.args.first c.args.count in
+        let fault = c.in_err-set.field-0.0 in
+        plans_refused (λ pool. on_head c.args.name.now pool (make pool)) 0 (c.args.first + c.args.count) c.args.kept.now fault (err_is c.from_residual.result (Plan fault) c.from_residual.ensures.1) (inl c.in_err-set.ensures.finds.rows)
+        (λ pool named. c.in_err-set.ensures.finds.judged pool named.are_named (make pool));
+  };
+}

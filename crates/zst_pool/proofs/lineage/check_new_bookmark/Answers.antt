@@ -1,24 +1,33 @@
-use Rattle.std.proofs.Common.{◌∙◌, sym, ap, is_some, List, Err, arith, length}
+use Rattle.std.proofs.Common.{rules, ◌∙◌, sym, ap, is_some, List, Err, arith, length}
 use Rattle.zst_model.specs.pools.Step.{exists_already}
 use Rattle.zst_model.specs.declared.refusals.subjects.Name.TheVariants as names
 use Rattle.zst_dir.specs.declared.rows.Bookmark.{Bookmark}
 use Rattle.zst_pool.proofs.SnapshotRows.{bookmark_is_new, bookmark_is_taken, bookmarks_are_many, no_bookmark}
 use Rattle.zst_pool.proofs.lineage.check_new_bookmark.Goals as goal
 
-pub returns-then-is_some-clause-judged : goal.returns-then-is_some-clause-judged
-returns-then-is_some-clause-judged c = λ pool rest are.
-    bookmark_is_taken c.args.dir.now pool are c.args.name.now rest (ap is_some (sym c.bookmark.ensures) ∙ sym c.is_some.ensures ∙ c.if-is_some.true)
-    ∙ ap (λ (n : List _). Err (exists_already (names.Bookmark n))) (sym c.duplicate.ensures)
+pub returns-then-is_some-clause-checks : goal.returns-then-is_some-clause-checks
+returns-then-is_some-clause-checks c = record {
+  rows = search rules;
+  judged = λ pool are rest.
+      bookmark_is_taken c.args.dir.now pool are c.args.name.now rest (ap is_some (sym c.bookmark.ensures) ∙ sym c.is_some.ensures ∙ c.if-is_some.true)
+      ∙ ap (λ (n : List _). Err (exists_already (names.Bookmark n))) (sym c.duplicate.ensures);
+}
 
-pub returns-then-bookmarks-ge-MOST_BOOKMARKS-clause-judged : goal.returns-then-bookmarks-ge-MOST_BOOKMARKS-clause-judged
-returns-then-bookmarks-ge-MOST_BOOKMARKS-clause-judged c = λ pool rest are.
-    bookmarks_are_many c.args.dir.now pool are c.args.name.now rest (ap is_some (sym c.bookmark.ensures) ∙ sym c.is_some.ensures ∙ c.if-is_some.false)
-    (omega (arith, ap (λ (xs : List Bookmark). length xs) c.bookmarks.ensures, c.if-bookmarks-ge-MOST_BOOKMARKS.true))
+pub returns-then-bookmarks-ge-MOST_BOOKMARKS-clause-checks : goal.returns-then-bookmarks-ge-MOST_BOOKMARKS-clause-checks
+returns-then-bookmarks-ge-MOST_BOOKMARKS-clause-checks c = record {
+  rows = search rules;
+  judged = λ pool are rest.
+      bookmarks_are_many c.args.dir.now pool are c.args.name.now rest (ap is_some (sym c.bookmark.ensures) ∙ sym c.is_some.ensures ∙ c.if-is_some.false)
+      (omega (arith, ap (λ (xs : List Bookmark). length xs) c.bookmarks.ensures, c.if-bookmarks-ge-MOST_BOOKMARKS.true));
+}
 
 pub returns-clause-absent : goal.returns-clause-absent
 returns-clause-absent c = no_bookmark c.args.dir.now c.args.name.now (ap is_some (sym c.bookmark.ensures) ∙ sym c.is_some.ensures ∙ c.if-is_some.false)
 
-pub returns-clause-judged : goal.returns-clause-judged
-returns-clause-judged c = λ pool rest are.
-    bookmark_is_new c.args.dir.now pool are c.args.name.now rest (ap is_some (sym c.bookmark.ensures) ∙ sym c.is_some.ensures ∙ c.if-is_some.false)
-    (omega (arith, ap (λ (xs : List Bookmark). length xs) c.bookmarks.ensures, c.if-bookmarks-ge-MOST_BOOKMARKS.false))
+pub returns-clause-checks : goal.returns-clause-checks
+returns-clause-checks c = record {
+  rows = search rules;
+  judged = λ pool are rest.
+      bookmark_is_new c.args.dir.now pool are c.args.name.now rest (ap is_some (sym c.bookmark.ensures) ∙ sym c.is_some.ensures ∙ c.if-is_some.false)
+      (omega (arith, ap (λ (xs : List Bookmark). length xs) c.bookmarks.ensures, c.if-bookmarks-ge-MOST_BOOKMARKS.false));
+}

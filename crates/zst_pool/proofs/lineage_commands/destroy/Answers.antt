@@ -15,51 +15,57 @@ use Rattle.zst_pool.proofs.PoolsAtRest.{few_guids, rest_named, runs_named}
 use Rattle.zst_pool.proofs.CommandRuns.{runs_planned, runs_starved}
 use Rattle.zst_pool.proofs.lineage_commands.destroy.Goals as goal
 
-pub returns-in_err-going-clause-runs : goal.returns-in_err-going-clause-runs
-returns-in_err-going-clause-runs g c =
-    let kept = c.args.kept.now in
-    let plan = c.in_err-going.field-0.0 in
-    runs_planned (with_destroyed [] c.args.name) (cells_only 0) NoDamage kept plan (err_is c.from_residual.result (Plan plan) c.from_residual.ensures.1) c.requires.space c.requires.ready
-    (λ running rested. let named = rest_named (g.D.Disk.state c.args.io.now.disk.now) kept running rested in c.in_err-going.ensures.judged running named.are_named named.number)
+pub returns-in_err-going : goal.returns-in_err-going
+returns-in_err-going g c = record {
+  does = record {
+    runs =
+        let kept = c.args.kept.now in
+        let plan = c.in_err-going.field-0.0 in
+        runs_planned (with_destroyed [] c.args.name) (cells_only 0) NoDamage kept plan (err_is c.from_residual.result (Plan plan) c.from_residual.ensures.1) c.requires.begins.space c.requires.begins.ready
+        (λ running rested. let named = rest_named (g.D.Disk.state c.args.io.now.disk.now) kept running rested in c.in_err-going.ensures.plans.judged running named.are_named named.number);
+    plans =
+        let kept = c.args.kept.now in
+        let fault = c.in_err-going.field-0.0 in
+        plans_refused (with_destroyed [] c.args.name) 0 0 kept fault (err_is c.from_residual.result (Plan fault) c.from_residual.ensures.1) (told_or_last 0 0 kept.body fault c.in_err-going.ensures.plans.refused)
+        (λ pool named. c.in_err-going.ensures.plans.judged pool named.are_named named.number);
+  };
+}
 
-pub returns-clause-runs : goal.returns-clause-runs
-returns-clause-runs g c =
-    let kept = c.args.kept.now in
-    let going = c.in_ok-going.going in
-    c.commit_rows.ensures.runs (with_destroyed [] c.args.name) (λ tight image space running runs.
-    let has = Has image space in
-    let named = runs_named has kept running runs in
-    record {
-      next = pool_without going running;
-      made = c.in_ok-going.ensures.judged running named.are_named named.number;
-      id = same_id going running;
-      number = same_number going running;
-      guid_counter = same_guids going running ∙ runs.guids;
-      few = few_guids has kept running runs;
-      runs_by = RunsBy-later tight running.number (running.number + 1) (omega arith) has _ (pool_without going running)
-          (subst (λ (r : Rows). RunsBy (bound_of tight running.number) has r (pool_without going running)) (sym c.in_ok-dir.ensures.left) (left_runs has kept.dir running runs.runs_by going));
-    })
+pub returns : goal.returns
+returns g c = record {
+  does = record {
+    runs =
+        let kept = c.args.kept.now in
+        let going = c.in_ok-going.going in
+        c.commit_rows.ensures.runs (with_destroyed [] c.args.name) (λ tight image space running runs.
+        let has = Has image space in
+        let named = runs_named has kept running runs in
+        record {
+          next = pool_without going running;
+          made = c.in_ok-going.ensures.plans.judged running named.are_named named.number;
+          id = same_id going running;
+          number = same_number going running;
+          guid_counter = same_guids going running ∙ runs.guids;
+          few = few_guids has kept running runs;
+          runs_by = RunsBy-later tight running.number (running.number + 1) (omega arith) has _ (pool_without going running)
+              (subst (λ (r : Rows). RunsBy (bound_of tight running.number) has r (pool_without going running)) (sym c.in_ok-dir.ensures.makes.made) (left_runs has kept.dir running runs.runs_by going));
+        });
+    plans =
+        plans_apart (with_destroyed [] c.args.name) 0 0 c.args.kept.now c.commit_rows.result
+        (λ pool named. made_apart (with_destroyed [] c.args.name pool) _ (c.in_ok-going.ensures.plans.judged pool named.are_named named.number))
+        (λ fault is. absurd (c.commit_rows.ensures.unplanned fault is));
+  };
+}
 
-pub returns-in_err-going-clause-plans : goal.returns-in_err-going-clause-plans
-returns-in_err-going-clause-plans g c =
-    let kept = c.args.kept.now in
-    let fault = c.in_err-going.field-0.0 in
-    plans_refused (with_destroyed [] c.args.name) 0 0 kept fault (err_is c.from_residual.result (Plan fault) c.from_residual.ensures.1) (told_or_last 0 0 kept.body fault c.in_err-going.ensures.refused)
-    (λ pool named. c.in_err-going.ensures.judged pool named.are_named named.number)
-
-pub returns-in_err-dir-clause-runs : goal.returns-in_err-dir-clause-runs
-returns-in_err-dir-clause-runs g c =
-    let fell = c.from_residual-in_err-dir in
-    runs_starved (with_destroyed [] c.args.name) (cells_only 0) NoDamage c.args.kept.now (err_is fell.result OutOfMemory fell.ensures.1) c.requires.space c.requires.ready
-
-pub returns-in_err-dir-clause-plans : goal.returns-in_err-dir-clause-plans
-returns-in_err-dir-clause-plans g c =
-    let fell = c.from_residual-in_err-dir in
-    plans_starved (with_destroyed [] c.args.name) 0 0 c.args.kept.now fell.result (err_is fell.result OutOfMemory fell.ensures.1)
-    (λ pool named. made_apart (with_destroyed [] c.args.name pool) _ (c.in_ok-going.ensures.judged pool named.are_named named.number))
-
-pub returns-clause-plans : goal.returns-clause-plans
-returns-clause-plans g c =
-    plans_apart (with_destroyed [] c.args.name) 0 0 c.args.kept.now c.commit_rows.result
-    (λ pool named. made_apart (with_destroyed [] c.args.name pool) _ (c.in_ok-going.ensures.judged pool named.are_named named.number))
-    (λ fault is. absurd (c.commit_rows.ensures.unplanned fault is))
+pub returns-in_err-dir : goal.returns-in_err-dir
+returns-in_err-dir g c = record {
+  does = record {
+    runs =
+        let fell = c.from_residual-in_err-dir in
+        runs_starved (with_destroyed [] c.args.name) (cells_only 0) NoDamage c.args.kept.now (err_is fell.result OutOfMemory fell.ensures.1) c.requires.begins.space c.requires.begins.ready;
+    plans =
+        let fell = c.from_residual-in_err-dir in
+        plans_starved (with_destroyed [] c.args.name) 0 0 c.args.kept.now fell.result (err_is fell.result OutOfMemory fell.ensures.1)
+        (λ pool named. made_apart (with_destroyed [] c.args.name pool) _ (c.in_ok-going.ensures.plans.judged pool named.are_named named.number));
+  };
+}

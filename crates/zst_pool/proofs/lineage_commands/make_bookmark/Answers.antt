@@ -1,4 +1,5 @@
-use Rattle.std.proofs.Common.{refl, sym, ap, ◌∙◌, subst, ◌+◌, arith}
+use Rattle.std.proofs.Common.{◌≡◌, ℕ, List, refl, sym, ap, ◌∙◌, subst, ◌+◌, arith}
+use Rattle.std.specs.List.{All}
 use Rattle.zst_block.specs.Blocks.{Has}
 use Rattle.zst_model.specs.pools.Pool.{is_before, inserted}
 use Rattle.zst_model.specs.pools.Step.{bookmark_of, with_bookmark}
@@ -17,67 +18,84 @@ use Rattle.zst_pool.proofs.PoolsAtRest.{few_guids, rest_named, runs_named}
 use Rattle.zst_pool.proofs.CommandRuns.{runs_planned, runs_starved}
 use Rattle.zst_pool.proofs.lineage_commands.make_bookmark.Goals as goal
 
-pub returns-in_err-row-clause-runs : goal.returns-in_err-row-clause-runs
-returns-in_err-row-clause-runs g c =
-    let kept = c.args.kept.now in
-    let plan = c.in_err-row.field-0.0 in
-    runs_planned (with_bookmark c.args.snapshot.now c.args.name.now) (cells_only 0) NoDamage kept plan (err_is c.from_residual.result (Plan plan) c.from_residual.ensures.1) c.requires.space c.requires.ready
-    (λ running rested. let named = rest_named (g.D.Disk.state c.args.io.now.disk.now) kept running rested in c.in_err-row.ensures.judged running named.are_named named.number)
+pub add_bookmark-requires-clause-row : goal.add_bookmark-requires-clause-row
+add_bookmark-requires-clause-row g c = c.in_ok-row.ensures.new.row
 
-pub returns-in_err-add_bookmark-clause-runs : goal.returns-in_err-add_bookmark-clause-runs
-returns-in_err-add_bookmark-clause-runs g c =
-    let fell = c.from_residual-in_err-add_bookmark in
-    runs_starved (with_bookmark c.args.snapshot.now c.args.name.now) (cells_only 0) NoDamage c.args.kept.now (err_is fell.result OutOfMemory fell.ensures.1) c.requires.space c.requires.ready
+pub add_bookmark-requires-clause-new : goal.add_bookmark-requires-clause-new
+add_bookmark-requires-clause-new g c =
+    let new = c.in_ok-row.ensures.new in
+    subst (λ (r : Rows). All (λ (other : Bookmark). other.name ≡ c.in_ok-row.row.name → ⊥) r.bookmarks) (sym c.in_ok-dir.ensures)
+    (subst (λ (n : List ℕ). All (λ (other : Bookmark). other.name ≡ n → ⊥) c.args.kept.now.dir.bookmarks) (sym new.named) new.absent)
 
-pub returns-clause-runs : goal.returns-clause-runs
-returns-clause-runs g c =
-    let kept = c.args.kept.now in
-    let name = c.args.name.now in
-    let row = c.in_ok-row.row in
-    let dir = c.in_ok-add_bookmark.ensures.added ∙ ap (λ (d : Rows). record d { bookmarks = inserted (λ (a b : Bookmark). is_before a.name b.name) row d.bookmarks }) c.in_ok-dir.ensures in
-    c.commit_rows.ensures.runs (with_bookmark c.args.snapshot.now name) (λ tight image space running runs.
-    let has = Has image space in
-    let named = runs_named has kept running runs in
-    let judged = c.in_ok-row.ensures.judged running named.are_named named.number in
-    let next = with_marked (bookmark_of name judged.1) running in
-    let rows = dir ∙ ap (λ (b : Bookmark). record kept.dir { bookmarks = inserted (λ (x y : Bookmark). is_before x.name y.name) b kept.dir.bookmarks }) judged.3 in
-    record {
-      next = next;
-      made = judged.4;
-      id = refl;
-      number = refl;
-      guid_counter = runs.guids;
-      few = few_guids has kept running runs;
-      runs_by = RunsBy-later tight running.number (running.number + 1) (omega arith) has _ next
-          (subst (λ (r : Rows). RunsBy (bound_of tight running.number) has r next) (sym rows) (bookmark_runs has kept.dir running runs.runs_by name judged.0 judged.1 judged.2));
-    })
+pub returns-in_err-row : goal.returns-in_err-row
+returns-in_err-row g c = record {
+  does = record {
+    runs =
+        let kept = c.args.kept.now in
+        let plan = c.in_err-row.field-0.0 in
+        runs_planned (with_bookmark c.args.snapshot.now c.args.name.now) (cells_only 0) NoDamage kept plan (err_is c.from_residual.result (Plan plan) c.from_residual.ensures.1) c.requires.begins.space c.requires.begins.ready
+        (λ running rested. let named = rest_named (g.D.Disk.state c.args.io.now.disk.now) kept running rested in c.in_err-row.ensures.plans.judged running named.are_named named.number);
+    plans =
+        let kept = c.args.kept.now in
+        let fault = c.in_err-row.field-0.0 in
+        plans_refused (with_bookmark c.args.snapshot.now c.args.name.now) 0 0 kept fault (err_is c.from_residual.result (Plan fault) c.from_residual.ensures.1) (told_or_last 0 0 kept.body fault c.in_err-row.ensures.plans.refused)
+        (λ pool named. c.in_err-row.ensures.plans.judged pool named.are_named named.number);
+  };
+}
 
-pub returns-in_err-row-clause-plans : goal.returns-in_err-row-clause-plans
-returns-in_err-row-clause-plans g c =
-    let kept = c.args.kept.now in
-    let fault = c.in_err-row.field-0.0 in
-    plans_refused (with_bookmark c.args.snapshot.now c.args.name.now) 0 0 kept fault (err_is c.from_residual.result (Plan fault) c.from_residual.ensures.1) (told_or_last 0 0 kept.body fault c.in_err-row.ensures.refused)
-    (λ pool named. c.in_err-row.ensures.judged pool named.are_named named.number)
+pub returns-in_err-add_bookmark : goal.returns-in_err-add_bookmark
+returns-in_err-add_bookmark g c = record {
+  does = record {
+    runs =
+        let fell = c.from_residual-in_err-add_bookmark in
+        runs_starved (with_bookmark c.args.snapshot.now c.args.name.now) (cells_only 0) NoDamage c.args.kept.now (err_is fell.result OutOfMemory fell.ensures.1) c.requires.begins.space c.requires.begins.ready;
+    plans =
+        let fell = c.from_residual-in_err-add_bookmark in
+        plans_starved (with_bookmark c.args.snapshot.now c.args.name.now) 0 0 c.args.kept.now fell.result (err_is fell.result OutOfMemory fell.ensures.1)
+        (λ pool named. made_apart (with_bookmark c.args.snapshot.now c.args.name.now pool) _ (c.in_ok-row.ensures.plans.judged pool named.are_named named.number).4);
+  };
+}
 
-pub returns-in_err-dir-clause-runs : goal.returns-in_err-dir-clause-runs
-returns-in_err-dir-clause-runs g c =
-    let fell = c.from_residual-in_err-dir in
-    runs_starved (with_bookmark c.args.snapshot.now c.args.name.now) (cells_only 0) NoDamage c.args.kept.now (err_is fell.result OutOfMemory fell.ensures.1) c.requires.space c.requires.ready
+pub returns : goal.returns
+returns g c = record {
+  does = record {
+    runs =
+        let kept = c.args.kept.now in
+        let name = c.args.name.now in
+        let row = c.in_ok-row.row in
+        let dir = c.in_ok-add_bookmark.ensures.added ∙ ap (λ (d : Rows). record d { bookmarks = inserted (λ (a b : Bookmark). is_before a.name b.name) row d.bookmarks }) c.in_ok-dir.ensures in
+        c.commit_rows.ensures.runs (with_bookmark c.args.snapshot.now name) (λ tight image space running runs.
+        let has = Has image space in
+        let named = runs_named has kept running runs in
+        let judged = c.in_ok-row.ensures.plans.judged running named.are_named named.number in
+        let next = with_marked (bookmark_of name judged.1) running in
+        let rows = dir ∙ ap (λ (b : Bookmark). record kept.dir { bookmarks = inserted (λ (x y : Bookmark). is_before x.name y.name) b kept.dir.bookmarks }) judged.3 in
+        record {
+          next = next;
+          made = judged.4;
+          id = refl;
+          number = refl;
+          guid_counter = runs.guids;
+          few = few_guids has kept running runs;
+          runs_by = RunsBy-later tight running.number (running.number + 1) (omega arith) has _ next
+              (subst (λ (r : Rows). RunsBy (bound_of tight running.number) has r next) (sym rows) (bookmark_runs has kept.dir running runs.runs_by name judged.0 judged.1 judged.2));
+        });
+    plans =
+        plans_apart (with_bookmark c.args.snapshot.now c.args.name.now) 0 0 c.args.kept.now c.commit_rows.result
+        (λ pool named. made_apart (with_bookmark c.args.snapshot.now c.args.name.now pool) _ (c.in_ok-row.ensures.plans.judged pool named.are_named named.number).4)
+        (λ fault is. absurd (c.commit_rows.ensures.unplanned fault is));
+  };
+}
 
-pub returns-in_err-dir-clause-plans : goal.returns-in_err-dir-clause-plans
-returns-in_err-dir-clause-plans g c =
-    let fell = c.from_residual-in_err-dir in
-    plans_starved (with_bookmark c.args.snapshot.now c.args.name.now) 0 0 c.args.kept.now fell.result (err_is fell.result OutOfMemory fell.ensures.1)
-    (λ pool named. made_apart (with_bookmark c.args.snapshot.now c.args.name.now pool) _ (c.in_ok-row.ensures.judged pool named.are_named named.number).4)
-
-pub returns-in_err-add_bookmark-clause-plans : goal.returns-in_err-add_bookmark-clause-plans
-returns-in_err-add_bookmark-clause-plans g c =
-    let fell = c.from_residual-in_err-add_bookmark in
-    plans_starved (with_bookmark c.args.snapshot.now c.args.name.now) 0 0 c.args.kept.now fell.result (err_is fell.result OutOfMemory fell.ensures.1)
-    (λ pool named. made_apart (with_bookmark c.args.snapshot.now c.args.name.now pool) _ (c.in_ok-row.ensures.judged pool named.are_named named.number).4)
-
-pub returns-clause-plans : goal.returns-clause-plans
-returns-clause-plans g c =
-    plans_apart (with_bookmark c.args.snapshot.now c.args.name.now) 0 0 c.args.kept.now c.commit_rows.result
-    (λ pool named. made_apart (with_bookmark c.args.snapshot.now c.args.name.now pool) _ (c.in_ok-row.ensures.judged pool named.are_named named.number).4)
-    (λ fault is. absurd (c.commit_rows.ensures.unplanned fault is))
+pub returns-in_err-dir : goal.returns-in_err-dir
+returns-in_err-dir g c = record {
+  does = record {
+    runs =
+        let fell = c.from_residual-in_err-dir in
+        runs_starved (with_bookmark c.args.snapshot.now c.args.name.now) (cells_only 0) NoDamage c.args.kept.now (err_is fell.result OutOfMemory fell.ensures.1) c.requires.begins.space c.requires.begins.ready;
+    plans =
+        let fell = c.from_residual-in_err-dir in
+        plans_starved (with_bookmark c.args.snapshot.now c.args.name.now) 0 0 c.args.kept.now fell.result (err_is fell.result OutOfMemory fell.ensures.1)
+        (λ pool named. made_apart (with_bookmark c.args.snapshot.now c.args.name.now pool) _ (c.in_ok-row.ensures.plans.judged pool named.are_named named.number).4);
+  };
+}

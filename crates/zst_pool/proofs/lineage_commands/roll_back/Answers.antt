@@ -14,53 +14,59 @@ use Rattle.zst_pool.proofs.RollbackRows.{rolled_runs}
 use Rattle.zst_pool.proofs.CommandRuns.{runs_planned, runs_starved}
 use Rattle.zst_pool.proofs.lineage_commands.roll_back.Goals as goal
 
-pub returns-in_err-snapshot-clause-runs : goal.returns-in_err-snapshot-clause-runs
-returns-in_err-snapshot-clause-runs g c =
-    let kept = c.args.kept.now in
-    let plan = c.in_err-snapshot.field-0.0 in
-    runs_planned (with_rollback [] c.args.destroys c.args.name.now) (cells_only 0) NoDamage kept plan (err_is c.from_residual.result (Plan plan) c.from_residual.ensures.1) c.requires.space c.requires.ready
-    (λ running rested. let named = rest_named (g.D.Disk.state c.args.io.now.disk.now) kept running rested in c.in_err-snapshot.ensures.judged running named.are_named named.number)
+pub returns-in_err-snapshot : goal.returns-in_err-snapshot
+returns-in_err-snapshot g c = record {
+  does = record {
+    runs =
+        let kept = c.args.kept.now in
+        let plan = c.in_err-snapshot.field-0.0 in
+        runs_planned (with_rollback [] c.args.destroys c.args.name.now) (cells_only 0) NoDamage kept plan (err_is c.from_residual.result (Plan plan) c.from_residual.ensures.1) c.requires.begins.space c.requires.begins.ready
+        (λ running rested. let named = rest_named (g.D.Disk.state c.args.io.now.disk.now) kept running rested in c.in_err-snapshot.ensures.plans.judged running named.are_named named.number);
+    plans =
+        let kept = c.args.kept.now in
+        let fault = c.in_err-snapshot.field-0.0 in
+        plans_refused (with_rollback [] c.args.destroys c.args.name.now) 0 0 kept fault (err_is c.from_residual.result (Plan fault) c.from_residual.ensures.1) (told_or_last 0 0 kept.body fault c.in_err-snapshot.ensures.plans.refused)
+        (λ pool named. c.in_err-snapshot.ensures.plans.judged pool named.are_named named.number);
+  };
+}
 
-pub returns-clause-runs : goal.returns-clause-runs
-returns-clause-runs g c =
-    let kept = c.args.kept.now in
-    let row = c.in_ok-snapshot.snapshot.now in
-    c.commit_rows.ensures.runs (with_rollback [] c.args.destroys c.args.name.now) (λ tight image space running runs.
-    let has = Has image space in
-    let named = runs_named has kept running runs in
-    let judged = c.in_ok-snapshot.ensures.judged running named.are_named named.number in
-    let next = rolled_back judged.0 running in
-    record {
-      next = next;
-      made = judged.2;
-      id = refl;
-      number = refl;
-      guid_counter = runs.guids;
-      few = few_guids has kept running runs;
-      runs_by = RunsBy-later tight running.number (running.number + 1) (omega arith) has _ next
-          (subst (λ (r : Rows). RunsBy (bound_of tight running.number) has r next) (sym c.in_ok-dir.ensures.rolled) (rolled_runs has kept.dir running runs.runs_by row judged.0 judged.1));
-    })
+pub returns : goal.returns
+returns g c = record {
+  does = record {
+    runs =
+        let kept = c.args.kept.now in
+        let row = c.in_ok-snapshot.snapshot.now in
+        c.commit_rows.ensures.runs (with_rollback [] c.args.destroys c.args.name.now) (λ tight image space running runs.
+        let has = Has image space in
+        let named = runs_named has kept running runs in
+        let judged = c.in_ok-snapshot.ensures.plans.judged running named.are_named named.number in
+        let next = rolled_back judged.0 running in
+        record {
+          next = next;
+          made = judged.2;
+          id = refl;
+          number = refl;
+          guid_counter = runs.guids;
+          few = few_guids has kept running runs;
+          runs_by = RunsBy-later tight running.number (running.number + 1) (omega arith) has _ next
+              (subst (λ (r : Rows). RunsBy (bound_of tight running.number) has r next) (sym c.in_ok-dir.ensures.makes.made) (rolled_runs has kept.dir running runs.runs_by row judged.0 judged.1));
+        });
+    plans =
+        plans_apart (with_rollback [] c.args.destroys c.args.name.now) 0 0 c.args.kept.now c.commit_rows.result
+        (λ pool named. made_apart (with_rollback [] c.args.destroys c.args.name.now pool) _ (c.in_ok-snapshot.ensures.plans.judged pool named.are_named named.number).2)
+        (λ fault is. absurd (c.commit_rows.ensures.unplanned fault is));
+  };
+}
 
-pub returns-in_err-snapshot-clause-plans : goal.returns-in_err-snapshot-clause-plans
-returns-in_err-snapshot-clause-plans g c =
-    let kept = c.args.kept.now in
-    let fault = c.in_err-snapshot.field-0.0 in
-    plans_refused (with_rollback [] c.args.destroys c.args.name.now) 0 0 kept fault (err_is c.from_residual.result (Plan fault) c.from_residual.ensures.1) (told_or_last 0 0 kept.body fault c.in_err-snapshot.ensures.refused)
-    (λ pool named. c.in_err-snapshot.ensures.judged pool named.are_named named.number)
-
-pub returns-in_err-dir-clause-runs : goal.returns-in_err-dir-clause-runs
-returns-in_err-dir-clause-runs g c =
-    let fell = c.from_residual-in_err-dir in
-    runs_starved (with_rollback [] c.args.destroys c.args.name.now) (cells_only 0) NoDamage c.args.kept.now (err_is fell.result OutOfMemory fell.ensures.1) c.requires.space c.requires.ready
-
-pub returns-in_err-dir-clause-plans : goal.returns-in_err-dir-clause-plans
-returns-in_err-dir-clause-plans g c =
-    let fell = c.from_residual-in_err-dir in
-    plans_starved (with_rollback [] c.args.destroys c.args.name.now) 0 0 c.args.kept.now fell.result (err_is fell.result OutOfMemory fell.ensures.1)
-    (λ pool named. made_apart (with_rollback [] c.args.destroys c.args.name.now pool) _ (c.in_ok-snapshot.ensures.judged pool named.are_named named.number).2)
-
-pub returns-clause-plans : goal.returns-clause-plans
-returns-clause-plans g c =
-    plans_apart (with_rollback [] c.args.destroys c.args.name.now) 0 0 c.args.kept.now c.commit_rows.result
-    (λ pool named. made_apart (with_rollback [] c.args.destroys c.args.name.now pool) _ (c.in_ok-snapshot.ensures.judged pool named.are_named named.number).2)
-    (λ fault is. absurd (c.commit_rows.ensures.unplanned fault is))
+pub returns-in_err-dir : goal.returns-in_err-dir
+returns-in_err-dir g c = record {
+  does = record {
+    runs =
+        let fell = c.from_residual-in_err-dir in
+        runs_starved (with_rollback [] c.args.destroys c.args.name.now) (cells_only 0) NoDamage c.args.kept.now (err_is fell.result OutOfMemory fell.ensures.1) c.requires.begins.space c.requires.begins.ready;
+    plans =
+        let fell = c.from_residual-in_err-dir in
+        plans_starved (with_rollback [] c.args.destroys c.args.name.now) 0 0 c.args.kept.now fell.result (err_is fell.result OutOfMemory fell.ensures.1)
+        (λ pool named. made_apart (with_rollback [] c.args.destroys c.args.name.now pool) _ (c.in_ok-snapshot.ensures.plans.judged pool named.are_named named.number).2);
+  };
+}

@@ -6,152 +6,112 @@ use Rattle.zst_model.specs.pools.Step.{IsCommand, stepped}
 use Rattle.zst_image.specs.Reads.{free_by}
 use Rattle.zst_pool.specs.Cost.{cost_of}
 use Rattle.zst_pool.specs.Damage.{TellsDamage}
-use Rattle.zst_pool.specs.CommandRuns.{Runs}
-use Rattle.zst_pool.specs.Plans.{Plans, indices_end, numbers_end}
+use Rattle.zst_pool.specs.CommandRuns.{RunsByPlan}
+use Rattle.zst_pool.specs.Plans.{indices_end, numbers_end}
 use Rattle.zst_pool.proofs.pool.run.Goals as goal
 
-pub returns-in-Object-clause-runs : goal.returns-in-Object-clause-runs
+pub returns-in-Fs : goal.returns-in-Fs
 unfolding stepped
-returns-in-Object-clause-runs g c =
-    subst (λ (command : Command). Runs (λ pool. stepped [] c.args.now command pool) (cost_of command) (TellsDamage command c.args.kept.now.dir (g.D.Disk.state c.args.io.now.disk.now) (free_by c.args.kept.now.body)) c.args.kept.now (io_of c.args.io.now) (io_of c.put_object.new.io) c.put_object.result)
-    (sym c.in-Object.is) c.put_object.ensures.runs
+returns-in-Fs g c = record {
+  does =
+      subst (λ (command : Command). RunsByPlan (λ pool. stepped [] c.args.now command pool) (cost_of command) (TellsDamage command c.args.kept.now.dir (g.D.Disk.state c.args.io.now.disk.now) (free_by c.args.kept.now.body)) (numbers_end command) (indices_end command) c.args.kept.now (io_of c.args.io.now) (io_of c.make_dataset.new.io) c.make_dataset.result)
+      (sym c.in-Fs.is) c.make_dataset.ensures.does;
+}
 
-pub returns-in-Punch-clause-runs : goal.returns-in-Punch-clause-runs
+pub returns-in-Volume : goal.returns-in-Volume
 unfolding stepped
-returns-in-Punch-clause-runs g c =
-    subst (λ (command : Command). Runs (λ pool. stepped [] c.args.now command pool) (cost_of command) (TellsDamage command c.args.kept.now.dir (g.D.Disk.state c.args.io.now.disk.now) (free_by c.args.kept.now.body)) c.args.kept.now (io_of c.args.io.now) (io_of c.punch.new.io) c.punch.result)
-    (sym c.in-Punch.is) c.punch.ensures.runs
+returns-in-Volume g c = record {
+  does =
+      subst (λ (command : Command). RunsByPlan (λ pool. stepped [] c.args.now command pool) (cost_of command) (TellsDamage command c.args.kept.now.dir (g.D.Disk.state c.args.io.now.disk.now) (free_by c.args.kept.now.body)) (numbers_end command) (indices_end command) c.args.kept.now (io_of c.args.io.now) (io_of c.make_dataset-in-Volume.new.io) c.make_dataset-in-Volume.result)
+      (sym c.in-Volume.is) c.make_dataset-in-Volume.ensures.does;
+}
 
-pub returns-in-Free-clause-runs : goal.returns-in-Free-clause-runs
+pub returns-in-Object : goal.returns-in-Object
 unfolding stepped
-returns-in-Free-clause-runs g c =
-    subst (λ (command : Command). Runs (λ pool. stepped [] c.args.now command pool) (cost_of command) (TellsDamage command c.args.kept.now.dir (g.D.Disk.state c.args.io.now.disk.now) (free_by c.args.kept.now.body)) c.args.kept.now (io_of c.args.io.now) (io_of c.free_objects.new.io) c.free_objects.result)
-    (sym c.in-Free.is) c.free_objects.ensures.runs
+returns-in-Object g c = record {
+  does =
+      subst (λ (command : Command). RunsByPlan (λ pool. stepped [] c.args.now command pool) (cost_of command) (TellsDamage command c.args.kept.now.dir (g.D.Disk.state c.args.io.now.disk.now) (free_by c.args.kept.now.body)) (numbers_end command) (indices_end command) c.args.kept.now (io_of c.args.io.now) (io_of c.put_object.new.io) c.put_object.result)
+      (sym c.in-Object.is) c.put_object.ensures.does;
+}
 
-pub returns-in-Write-clause-runs : goal.returns-in-Write-clause-runs
+pub returns-in-Punch : goal.returns-in-Punch
 unfolding stepped
-returns-in-Write-clause-runs g c =
-    let runs = λ (command : Command).
-    Runs (λ pool. stepped [] c.args.now command pool) (cost_of command) (TellsDamage command c.args.kept.now.dir (g.D.Disk.state c.args.io.now.disk.now) (free_by c.args.kept.now.body)) c.args.kept.now (io_of c.args.io.now) (io_of c.write_block.new.io) c.write_block.result in
-    subst runs (sym c.in-Write.is) (subst (λ (bytes : List ℕ). runs (Write c.in-Write.dataset c.in-Write.object c.in-Write.index bytes)) c.as_slice.ensures c.write_block.ensures.runs)
+returns-in-Punch g c = record {
+  does =
+      subst (λ (command : Command). RunsByPlan (λ pool. stepped [] c.args.now command pool) (cost_of command) (TellsDamage command c.args.kept.now.dir (g.D.Disk.state c.args.io.now.disk.now) (free_by c.args.kept.now.body)) (numbers_end command) (indices_end command) c.args.kept.now (io_of c.args.io.now) (io_of c.punch.new.io) c.punch.result)
+      (sym c.in-Punch.is) c.punch.ensures.does;
+}
 
-pub returns-in-Fs-clause-plans : goal.returns-in-Fs-clause-plans
+pub returns-in-Free : goal.returns-in-Free
 unfolding stepped
-returns-in-Fs-clause-plans g c =
-    subst (λ (command : Command). Plans (λ pool. stepped [] c.args.now command pool) (numbers_end command) (indices_end command) c.args.kept.now c.make_dataset.result) (sym c.in-Fs.is) c.make_dataset.ensures.plans
+returns-in-Free g c = record {
+  does =
+      subst (λ (command : Command). RunsByPlan (λ pool. stepped [] c.args.now command pool) (cost_of command) (TellsDamage command c.args.kept.now.dir (g.D.Disk.state c.args.io.now.disk.now) (free_by c.args.kept.now.body)) (numbers_end command) (indices_end command) c.args.kept.now (io_of c.args.io.now) (io_of c.free_objects.new.io) c.free_objects.result)
+      (sym c.in-Free.is) c.free_objects.ensures.does;
+}
 
-pub returns-in-Volume-clause-plans : goal.returns-in-Volume-clause-plans
+pub returns-in-Snapshot : goal.returns-in-Snapshot
 unfolding stepped
-returns-in-Volume-clause-plans g c =
-    subst (λ (command : Command). Plans (λ pool. stepped [] c.args.now command pool) (numbers_end command) (indices_end command) c.args.kept.now c.make_dataset-in-Volume.result) (sym c.in-Volume.is) c.make_dataset-in-Volume.ensures.plans
+returns-in-Snapshot g c = record {
+  does =
+      subst (λ (command : Command). RunsByPlan (λ pool. stepped [] c.args.now command pool) (cost_of command) (TellsDamage command c.args.kept.now.dir (g.D.Disk.state c.args.io.now.disk.now) (free_by c.args.kept.now.body)) (numbers_end command) (indices_end command) c.args.kept.now (io_of c.args.io.now) (io_of c.take_snapshot.new.io) c.take_snapshot.result)
+      (sym c.in-Snapshot.is) c.take_snapshot.ensures.does;
+}
 
-pub returns-in-Object-clause-plans : goal.returns-in-Object-clause-plans
+pub returns-in-Clone : goal.returns-in-Clone
 unfolding stepped
-returns-in-Object-clause-plans g c =
-    subst (λ (command : Command). Plans (λ pool. stepped [] c.args.now command pool) (numbers_end command) (indices_end command) c.args.kept.now c.put_object.result) (sym c.in-Object.is) c.put_object.ensures.plans
+returns-in-Clone g c = record {
+  does =
+      subst (λ (command : Command). RunsByPlan (λ pool. stepped [] c.args.now command pool) (cost_of command) (TellsDamage command c.args.kept.now.dir (g.D.Disk.state c.args.io.now.disk.now) (free_by c.args.kept.now.body)) (numbers_end command) (indices_end command) c.args.kept.now (io_of c.args.io.now) (io_of c.make_clone.new.io) c.make_clone.result)
+      (sym c.in-Clone.is) c.make_clone.ensures.does;
+}
 
-pub returns-in-Write-clause-plans : goal.returns-in-Write-clause-plans
+pub returns-in-Bookmark : goal.returns-in-Bookmark
 unfolding stepped
-returns-in-Write-clause-plans g c =
-    let write = λ (bytes : List ℕ). Write c.in-Write.dataset c.in-Write.object c.in-Write.index bytes in
-    let planned : Command → Type 0 = λ command. Plans (λ pool. stepped [] c.args.now command pool) (numbers_end command) (indices_end command) c.args.kept.now c.write_block.result in
-    let bytes : c.as_slice.result.now ≡ c.in-Write.bytes = c.as_slice.ensures in
-    subst planned (sym c.in-Write.is) (subst (λ (b : List ℕ). planned (write b)) bytes c.write_block.ensures.plans)
+returns-in-Bookmark g c = record {
+  does =
+      subst (λ (command : Command). RunsByPlan (λ pool. stepped [] c.args.now command pool) (cost_of command) (TellsDamage command c.args.kept.now.dir (g.D.Disk.state c.args.io.now.disk.now) (free_by c.args.kept.now.body)) (numbers_end command) (indices_end command) c.args.kept.now (io_of c.args.io.now) (io_of c.make_bookmark.new.io) c.make_bookmark.result)
+      (sym c.in-Bookmark.is) c.make_bookmark.ensures.does;
+}
 
-pub returns-in-Punch-clause-plans : goal.returns-in-Punch-clause-plans
+pub returns-in-Rollback : goal.returns-in-Rollback
 unfolding stepped
-returns-in-Punch-clause-plans g c =
-    subst (λ (command : Command). Plans (λ pool. stepped [] c.args.now command pool) (numbers_end command) (indices_end command) c.args.kept.now c.punch.result) (sym c.in-Punch.is) c.punch.ensures.plans
+returns-in-Rollback g c = record {
+  does =
+      subst (λ (command : Command). RunsByPlan (λ pool. stepped [] c.args.now command pool) (cost_of command) (TellsDamage command c.args.kept.now.dir (g.D.Disk.state c.args.io.now.disk.now) (free_by c.args.kept.now.body)) (numbers_end command) (indices_end command) c.args.kept.now (io_of c.args.io.now) (io_of c.roll_back.new.io) c.roll_back.result)
+      (sym c.in-Rollback.is) c.roll_back.ensures.does;
+}
 
-pub returns-in-Free-clause-plans : goal.returns-in-Free-clause-plans
+pub returns-in-Destroy : goal.returns-in-Destroy
 unfolding stepped
-returns-in-Free-clause-plans g c =
-    subst (λ (command : Command). Plans (λ pool. stepped [] c.args.now command pool) (numbers_end command) (indices_end command) c.args.kept.now c.free_objects.result) (sym c.in-Free.is) c.free_objects.ensures.plans
+returns-in-Destroy g c = record {
+  does =
+      subst (λ (command : Command). RunsByPlan (λ pool. stepped [] c.args.now command pool) (cost_of command) (TellsDamage command c.args.kept.now.dir (g.D.Disk.state c.args.io.now.disk.now) (free_by c.args.kept.now.body)) (numbers_end command) (indices_end command) c.args.kept.now (io_of c.args.io.now) (io_of c.destroy.new.io) c.destroy.result)
+      (sym c.in-Destroy.is) c.destroy.ensures.does;
+}
 
-pub returns-in-Fs-clause-runs : goal.returns-in-Fs-clause-runs
+pub returns-in-Abort : goal.returns-in-Abort
 unfolding stepped
-returns-in-Fs-clause-runs g c =
-    subst (λ (command : Command). Runs (λ pool. stepped [] c.args.now command pool) (cost_of command) (TellsDamage command c.args.kept.now.dir (g.D.Disk.state c.args.io.now.disk.now) (free_by c.args.kept.now.body)) c.args.kept.now (io_of c.args.io.now) (io_of c.make_dataset.new.io) c.make_dataset.result)
-    (sym c.in-Fs.is) c.make_dataset.ensures.runs
+returns-in-Abort g c = record {
+  does =
+      subst (λ (command : Command). RunsByPlan (λ pool. stepped [] c.args.now command pool) (cost_of command) (TellsDamage command c.args.kept.now.dir (g.D.Disk.state c.args.io.now.disk.now) (free_by c.args.kept.now.body)) (numbers_end command) (indices_end command) c.args.kept.now (io_of c.args.io.now) (io_of c.abort.new.io) c.abort.result)
+      (sym c.in-Abort.is) c.abort.ensures.does;
+}
 
-pub returns-in-Volume-clause-runs : goal.returns-in-Volume-clause-runs
+pub returns-in-Write : goal.returns-in-Write
 unfolding stepped
-returns-in-Volume-clause-runs g c =
-    subst (λ (command : Command). Runs (λ pool. stepped [] c.args.now command pool) (cost_of command) (TellsDamage command c.args.kept.now.dir (g.D.Disk.state c.args.io.now.disk.now) (free_by c.args.kept.now.body)) c.args.kept.now (io_of c.args.io.now) (io_of c.make_dataset-in-Volume.new.io) c.make_dataset-in-Volume.result)
-    (sym c.in-Volume.is) c.make_dataset-in-Volume.ensures.runs
+returns-in-Write g c = record {
+  does =
+      let does : Command → Type 0 = λ command.
+      RunsByPlan (λ pool. stepped [] c.args.now command pool) (cost_of command) (TellsDamage command c.args.kept.now.dir (g.D.Disk.state c.args.io.now.disk.now) (free_by c.args.kept.now.body)) (numbers_end command) (indices_end command) c.args.kept.now (io_of c.args.io.now) (io_of c.write_block.new.io) c.write_block.result in
+      let bytes : c.as_slice.result.now ≡ c.in-Write.bytes = c.as_slice.ensures in
+      subst does (sym c.in-Write.is) (subst (λ (b : List ℕ). does (Write c.in-Write.dataset c.in-Write.object c.in-Write.index b)) bytes c.write_block.ensures.does);
+}
 
-pub returns-in-Snapshot-clause-runs : goal.returns-in-Snapshot-clause-runs
-unfolding stepped
-returns-in-Snapshot-clause-runs g c =
-    subst (λ (command : Command). Runs (λ pool. stepped [] c.args.now command pool) (cost_of command) (TellsDamage command c.args.kept.now.dir (g.D.Disk.state c.args.io.now.disk.now) (free_by c.args.kept.now.body)) c.args.kept.now (io_of c.args.io.now) (io_of c.take_snapshot.new.io) c.take_snapshot.result)
-    (sym c.in-Snapshot.is) c.take_snapshot.ensures.runs
-
-pub returns-in-Clone-clause-runs : goal.returns-in-Clone-clause-runs
-unfolding stepped
-returns-in-Clone-clause-runs g c =
-    subst (λ (command : Command). Runs (λ pool. stepped [] c.args.now command pool) (cost_of command) (TellsDamage command c.args.kept.now.dir (g.D.Disk.state c.args.io.now.disk.now) (free_by c.args.kept.now.body)) c.args.kept.now (io_of c.args.io.now) (io_of c.make_clone.new.io) c.make_clone.result)
-    (sym c.in-Clone.is) c.make_clone.ensures.runs
-
-pub returns-in-Bookmark-clause-runs : goal.returns-in-Bookmark-clause-runs
-unfolding stepped
-returns-in-Bookmark-clause-runs g c =
-    subst (λ (command : Command). Runs (λ pool. stepped [] c.args.now command pool) (cost_of command) (TellsDamage command c.args.kept.now.dir (g.D.Disk.state c.args.io.now.disk.now) (free_by c.args.kept.now.body)) c.args.kept.now (io_of c.args.io.now) (io_of c.make_bookmark.new.io) c.make_bookmark.result)
-    (sym c.in-Bookmark.is) c.make_bookmark.ensures.runs
-
-pub returns-in-Destroy-clause-runs : goal.returns-in-Destroy-clause-runs
-unfolding stepped
-returns-in-Destroy-clause-runs g c =
-    subst (λ (command : Command). Runs (λ pool. stepped [] c.args.now command pool) (cost_of command) (TellsDamage command c.args.kept.now.dir (g.D.Disk.state c.args.io.now.disk.now) (free_by c.args.kept.now.body)) c.args.kept.now (io_of c.args.io.now) (io_of c.destroy.new.io) c.destroy.result)
-    (sym c.in-Destroy.is) c.destroy.ensures.runs
-
-pub returns-in-Destroy-clause-plans : goal.returns-in-Destroy-clause-plans
-unfolding stepped
-returns-in-Destroy-clause-plans g c =
-    subst (λ (command : Command). Plans (λ pool. stepped [] c.args.now command pool) (numbers_end command) (indices_end command) c.args.kept.now c.destroy.result) (sym c.in-Destroy.is) c.destroy.ensures.plans
-
-pub returns-in-Rollback-clause-runs : goal.returns-in-Rollback-clause-runs
-unfolding stepped
-returns-in-Rollback-clause-runs g c =
-    subst (λ (command : Command). Runs (λ pool. stepped [] c.args.now command pool) (cost_of command) (TellsDamage command c.args.kept.now.dir (g.D.Disk.state c.args.io.now.disk.now) (free_by c.args.kept.now.body)) c.args.kept.now (io_of c.args.io.now) (io_of c.roll_back.new.io) c.roll_back.result)
-    (sym c.in-Rollback.is) c.roll_back.ensures.runs
-
-pub returns-in-Rollback-clause-plans : goal.returns-in-Rollback-clause-plans
-unfolding stepped
-returns-in-Rollback-clause-plans g c =
-    subst (λ (command : Command). Plans (λ pool. stepped [] c.args.now command pool) (numbers_end command) (indices_end command) c.args.kept.now c.roll_back.result) (sym c.in-Rollback.is) c.roll_back.ensures.plans
-
-pub returns-in-Clone-clause-plans : goal.returns-in-Clone-clause-plans
-unfolding stepped
-returns-in-Clone-clause-plans g c =
-    subst (λ (command : Command). Plans (λ pool. stepped [] c.args.now command pool) (numbers_end command) (indices_end command) c.args.kept.now c.make_clone.result) (sym c.in-Clone.is) c.make_clone.ensures.plans
-
-pub returns-in-Bookmark-clause-plans : goal.returns-in-Bookmark-clause-plans
-unfolding stepped
-returns-in-Bookmark-clause-plans g c =
-    subst (λ (command : Command). Plans (λ pool. stepped [] c.args.now command pool) (numbers_end command) (indices_end command) c.args.kept.now c.make_bookmark.result) (sym c.in-Bookmark.is) c.make_bookmark.ensures.plans
-
-pub returns-in-Abort-clause-runs : goal.returns-in-Abort-clause-runs
-unfolding stepped
-returns-in-Abort-clause-runs g c =
-    subst (λ (command : Command). Runs (λ pool. stepped [] c.args.now command pool) (cost_of command) (TellsDamage command c.args.kept.now.dir (g.D.Disk.state c.args.io.now.disk.now) (free_by c.args.kept.now.body)) c.args.kept.now (io_of c.args.io.now) (io_of c.abort.new.io) c.abort.result)
-    (sym c.in-Abort.is) c.abort.ensures.runs
-
-pub returns-in-Abort-clause-plans : goal.returns-in-Abort-clause-plans
-unfolding stepped
-returns-in-Abort-clause-plans g c =
-    subst (λ (command : Command). Plans (λ pool. stepped [] c.args.now command pool) (numbers_end command) (indices_end command) c.args.kept.now c.abort.result) (sym c.in-Abort.is) c.abort.ensures.plans
-
-pub put_object-requires-clause-object : goal.put_object-requires-clause-object
-put_object-requires-clause-object g c = (subst IsCommand c.in-Object.is c.requires.command).1
-
-pub put_object-requires-clause-head : goal.put_object-requires-clause-head
-put_object-requires-clause-head g c = (subst IsCommand c.in-Object.is c.requires.command).2
-
-pub put_object-requires-clause-bonus : goal.put_object-requires-clause-bonus
-put_object-requires-clause-bonus g c = (subst IsCommand c.in-Object.is c.requires.command).3
-
-pub put_object-requires-clause-spill : goal.put_object-requires-clause-spill
-put_object-requires-clause-spill g c = (subst IsCommand c.in-Object.is c.requires.command).4
+pub put_object-requires-clause-can : goal.put_object-requires-clause-can
+put_object-requires-clause-can g c =
+    let is = subst IsCommand c.in-Object.is c.requires.command in
+    record { object = is.1; head = is.2; bonus = is.3; spill = is.4 }
 
 pub punch-requires-clause-object : goal.punch-requires-clause-object
 punch-requires-clause-object g c = (subst IsCommand c.in-Punch.is c.requires.command).1
@@ -170,8 +130,3 @@ write_block-requires-clause-object g c = (subst IsCommand c.in-Write.is c.requir
 
 pub write_block-requires-clause-some : goal.write_block-requires-clause-some
 write_block-requires-clause-some g c = subst (λ (bytes : List ℕ). 0 < length bytes) (sym c.as_slice.ensures) (subst IsCommand c.in-Write.is c.requires.command).2
-
-pub returns-in-Snapshot-clause-plans : goal.returns-in-Snapshot-clause-plans
-unfolding stepped
-returns-in-Snapshot-clause-plans g c =
-    subst (λ (command : Command). Plans (λ pool. stepped [] c.args.now command pool) (numbers_end command) (indices_end command) c.args.kept.now c.take_snapshot.result) (sym c.in-Snapshot.is) c.take_snapshot.ensures.plans

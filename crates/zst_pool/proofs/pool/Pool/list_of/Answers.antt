@@ -66,9 +66,6 @@ returns-in-Some-clause-looks_up g c =
     record {
       failed_pool = λ is. absurd (cc (is, c.if-self.false));
       idle_disk = λ is. absurd (cc (is, c.if-self.false));
-      only_answers = record { reads = read.reads; kept = refl };
-      space = read.space;
-      failed = read.failed;
-      cause = read.cause;
-      same = read.same;
+      reads_only = read.reads_only;
+      kept = refl;
     }

@@ -25,25 +25,27 @@ use Rattle.zst_pool.proofs.StepCosts.{spends_apart, spends_err, spends_ok, spare
 use Rattle.zst_pool.proofs.PoolsAtRest.{commit_next_of, free_by_fits}
 use Rattle.zst_pool.proofs.pool.Pool.step.Goals as goal
 
-pub settle_command-requires-clause-fits : goal.settle_command-requires-clause-fits
-settle_command-requires-clause-fits g c =
-    let ready = c.requires.ready c.if-self.false in
-    let body = c.args.self.now.kept.body in
-    subst (λ (size : ℕ). FitsDisk size (free_by body)) (sym c.run-ran.ensures.runs.ran.commits.disk.size) (free_by_fits (g.D.Disk.state c.args.self.now.io.disk.now).size body ready.in_range)
-
-pub settle_command-requires-clause-ready : goal.settle_command-requires-clause-ready
-settle_command-requires-clause-ready g c = c.run-ran.ensures.runs.ran.commits.ready
+pub settle_command-requires : goal.settle_command-requires
+settle_command-requires g c = record {
+  can = record {
+    fits =
+        let ready = c.requires.ready c.if-self.false in
+        let body = c.args.self.now.kept.body in
+        subst (λ (size : ℕ). FitsDisk size (free_by body)) (sym c.run-ran.ensures.does.runs.ran.commits.disk.size) (free_by_fits (g.D.Disk.state c.args.self.now.io.disk.now).size body ready.in_range);
+    ready = c.run-ran.ensures.does.runs.ran.commits.ready;
+  };
+}
 
 pub returns : goal.returns
 returns g c =
     let pool = c.args.self.now in
     let settled = c.settle_command in
-    let keeps = c.in_ok-settle_command.ensures.keeps in
-    let runs = runs_settled c.run-ran.new.io settled.new.self.io c.run-ran.result (Ok settled.new.self.kept) settled.ensures.disk keeps.kept c.run-ran.ensures.runs in
+    let keeps = c.in_ok-settle_command.ensures.keeps.keeps in
+    let runs = runs_settled c.run-ran.new.io settled.new.self.io c.run-ran.result (Ok settled.new.self.kept) settled.ensures.keeps.disk keeps.kept c.run-ran.ensures.does.runs in
     let plans = λ (r : Result PoolState PoolFault). Plans (λ pool. stepped [] c.args.now c.args.command pool) (numbers_end c.args.command) (indices_end c.args.command) c.args.self.now.kept r in
     let cost = cost_of c.args.command in
     let commits = sym c.commits.ensures ∙ c.if-not-commits.false in
-    let settles = settles_committed pool settled.new.self c.run-ran.new.io c.run-ran.result (Ok 0) c.if-self.false keeps.kept settled.ensures.space settled.ensures.disk c.new-2.result c.run-ran.ensures.runs.ran.commits tt in
+    let settles = settles_committed pool settled.new.self c.run-ran.new.io c.run-ran.result (Ok 0) c.if-self.false keeps.kept settled.ensures.space settled.ensures.keeps.disk c.new-2.result c.run-ran.ensures.does.runs.ran.commits tt in
     record {
       did = record {
         moments = λ tight running told rested. let did = runs.ran.did tight running told rested in did.moments;
@@ -61,7 +63,7 @@ returns g c =
         spares = λ apart. tt;
         damaged = λ told. tt;
       };
-      planned = λ standing left. plans_ok (stepped [] c.args.now c.args.command) (numbers_end c.args.command) (indices_end c.args.command) pool.kept settled.new.self.kept c.in_ok-reply.reply (subst plans (sym keeps.kept) c.run-ran.ensures.plans);
+      planned = λ standing left. plans_ok (stepped [] c.args.now c.args.command) (numbers_end c.args.command) (indices_end c.args.command) pool.kept settled.new.self.kept c.in_ok-reply.reply (subst plans (sym keeps.kept) c.run-ran.ensures.does.plans);
       sound = λ running done rested sound made. c.steps_keep_sound.ensures [] c.args.now c.args.command running done c.requires.command rested.lawful sound made;
       only_answers = λ idle. absurd (cc (commits, idle));
       settles = settles_ok pool settled.new.self 0 c.in_ok-reply.reply settles;
@@ -72,9 +74,9 @@ pub returns-in_err-settle_command : goal.returns-in_err-settle_command
 returns-in_err-settle_command g c =
     let pool = c.args.self.now in
     let settled = c.settle_command in
-    let keeps = c.in_err-settle_command.ensures.keeps in
+    let keeps = c.in_err-settle_command.ensures.keeps.keeps in
     let fault = c.in_err-settle_command.field-0.0 in
-    let runs = runs_settled c.run-ran.new.io settled.new.self.io c.run-ran.result (Err fault) settled.ensures.disk keeps.kept c.run-ran.ensures.runs in
+    let runs = runs_settled c.run-ran.new.io settled.new.self.io c.run-ran.result (Err fault) settled.ensures.keeps.disk keeps.kept c.run-ran.ensures.does.runs in
     let plans = λ (r : Result PoolState PoolFault). Plans (λ pool. stepped [] c.args.now c.args.command pool) (numbers_end c.args.command) (indices_end c.args.command) c.args.self.now.kept r in
     let cost = cost_of c.args.command in
     let commits = sym c.commits.ensures ∙ c.if-not-commits.false in
@@ -83,7 +85,7 @@ returns-in_err-settle_command g c =
     let here = g.D.Disk.state settled.new.self.io.disk.now in
     let left : tells_full fault ≡ true → settled.new.self.io.space ≡ c.run-ran.new.io.space = λ is. settled.ensures.left (subst (λ (r : Result PoolState PoolFault). is_full r ≡ true) keeps.kept is) in
     let Is = TellsDamage c.args.command pool.kept.dir (g.D.Disk.state pool.io.disk.now) (free_by pool.kept.body) in
-    let settles = settles_committed pool settled.new.self c.run-ran.new.io c.run-ran.result (Err fault) c.if-self.false keeps.kept settled.ensures.space settled.ensures.disk c.new-2.result c.run-ran.ensures.runs.ran.commits keeps.stays in
+    let settles = settles_committed pool settled.new.self c.run-ran.new.io c.run-ran.result (Err fault) c.if-self.false keeps.kept settled.ensures.space settled.ensures.keeps.disk c.new-2.result c.run-ran.ensures.does.runs.ran.commits keeps.stays in
     record {
       did = record {
         moments = λ tight running told rested. let did = runs.ran.did tight running told rested in did.moments;
@@ -98,7 +100,7 @@ returns-in_err-settle_command g c =
         spares = spares_err _ fault fell.result same runs.ran.spares;
         damaged = λ told. subst (λ (r : Result (List (List ℕ)) PoolFault). IfErr r (IsOf Is)) (sym same) (runs.damaged told);
       };
-      planned = λ standing none. plans_err (stepped [] c.args.now c.args.command) (numbers_end c.args.command) (indices_end c.args.command) pool.kept fault same (subst plans (sym keeps.kept) c.run-ran.ensures.plans);
+      planned = λ standing none. plans_err (stepped [] c.args.now c.args.command) (numbers_end c.args.command) (indices_end c.args.command) pool.kept fault same (subst plans (sym keeps.kept) c.run-ran.ensures.does.plans);
       sound = λ running done rested sound made. c.steps_keep_sound.ensures [] c.args.now c.args.command running done c.requires.command rested.lawful sound made;
       only_answers = λ idle. absurd (cc (commits, idle));
       settles = settles_err pool settled.new.self fault fell.result same settles;
@@ -162,7 +164,7 @@ returns-then-self g c =
 pub returns-then-not-commits : goal.returns-then-not-commits
 returns-then-not-commits g c =
     let pool = c.args.self.now in
-    let is = c.tell.ensures.tells c.args.now in
+    let is = (c.tell.ensures.does c.args.now).tells in
     let free : c.new-2.result ≡ free_by pool.kept.body = rw (c.new-2.ensures, c.new.ensures.items) refl in
     let looks = is.looks in
     let cost = cost_of c.args.command in
@@ -181,7 +183,7 @@ returns-then-not-commits g c =
         spares = λ apart. on_err result (spares_read old new pool.kept looks.reads);
         damaged = is.damaged;
       };
-      planned = λ standing left. c.tell.ensures.plans c.args.now;
+      planned = λ standing left. (c.tell.ensures.does c.args.now).plans;
       sound = λ running done rested sound made. c.steps_keep_sound.ensures [] c.args.now c.args.command running done c.requires.command rested.lawful sound made;
       only_answers = λ idle. record { reads = looks.reads; kept = refl };
       settles = settles_told pool c.tell.new.io result c.if-self.false c.new-2.result free looks (c.requires.ready c.if-self.false);
