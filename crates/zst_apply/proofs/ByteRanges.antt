@@ -1,5 +1,5 @@
 -- Ranges of bytes that are whole blocks, and the ranges of indices that they are.
-use Rattle.std.proofs.Common.{◌≡◌, ◌≢◌, ℕ, ◌+◌, ◌*◌, ◌/◌, ◌%◌, ◌<◌, ◌≤◌, ◌==◌, ◌||◌, ◌&&◌, not, nat_lt, nat_le, Bool, true, false, refl, sym, ap, ◌∙◌, arith, mul-le-mul_right, length, List, Option, Some, None, Result, Ok, Err, if◌then◌else◌}
+use Rattle.std.proofs.Common.{◌≡◌, ◌≢◌, ℕ, ◌+◌, ◌*◌, ◌/◌, ◌%◌, ◌<◌, ◌==◌, ◌||◌, ◌&&◌, not, nat_lt, nat_le, Bool, true, false, refl, sym, ap, ◌∙◌, arith, length, List, Option, Some, None, Result, Ok, Err, if◌then◌else◌}
 use Rattle.std.proofs.Math.Nat.{div-add-mod}
 use Rattle.std.proofs.Math.Path.{fun_ext}
 use Rattle.std.proofs.lemmas.Bool.Decides.{nat_tests}
@@ -9,34 +9,18 @@ use Rattle.zst_model.specs.declared.states.item.Change.TheVariants.{Free, FreeFr
 use Rattle.zst_model.specs.states.AppliedItems.{apply_change, covers, is_unaligned, unless, within}
 use Rattle.zst_model.specs.states.DatedState.{dates_index, dates_number, size_at}
 use Rattle.zst_model.specs.states.State.{Block, Hole, Object, IsObject, index_bound}
-use Rattle.std.proofs.lemmas.Bool.{cases_lt, le-leb, lt-leb, lt-ltb}
+use Rattle.std.proofs.lemmas.Bool.{cases_lt}
 use Rattle.std.proofs.Common.{inl, inr}
 use Rattle.zst_record.specs.Formats.{to_end}
 use Rattle.zst_stream.specs.Items.{free_change}
 use Rattle.zst_objset.specs.Ranges.{put_range, with_range}
-use Rattle.zst_objset.proofs.RangeIndices.{within_times}
+use Rattle.zst_objset.proofs.RangeIndices.{le_times, lt_times, within_times}
 use Rattle.zst_objset.proofs.RangeLaws.{no_redact}
 use Rattle.zst_dnode.specs.declared.dnode.Dnode.{Dnode}
 use Rattle.zst_apply.specs.Checks.{free_check, redact_check, write_check}
 use Rattle.zst_apply.specs.Fills.{change_of, range_check}
 use Rattle.zst_apply.specs.declared.blocks.Fill.{Fill}
 use Rattle.zst_apply.specs.declared.blocks.Fill.TheVariants as fills
-
--- a greater number of blocks takes more bytes
-times_below : (a b size : ℕ) → 0 < size → a < b → a * size < b * size
-times_below a b size some below = let more : (a + 1) * size ≤ b * size = mul-le-mul_right size (omega arith) in omega (arith, more)
-
-le_times : (a b size : ℕ) → 0 < size → nat_le (a * size) (b * size) ≡ nat_le a b
-le_times a b size some = elim (cases_lt b a) [
-  | inl above ↦ lt-leb _ _ (times_below b a size some above) ∙ sym (lt-leb _ _ above)
-  | inr below ↦ le-leb _ _ (mul-le-mul_right size below) ∙ sym (le-leb _ _ below)
-]
-
-lt_times : (a b size : ℕ) → 0 < size → nat_lt (a * size) (b * size) ≡ nat_lt a b
-lt_times a b size some = elim (cases_lt a b) [
-  | inl below ↦ lt-ltb _ _ (times_below a b size some below) ∙ sym (lt-ltb _ _ below)
-  | inr above ↦ grind (arith, nat_tests, mul-le-mul_right size above)
-]
 
 -- a multiple of the block size is the first byte of an index
 pub whole : (size bytes : ℕ) → is_unaligned size bytes ≡ false → bytes / size * size ≡ bytes

@@ -12,13 +12,13 @@ use Rattle.zst_objset.specs.Ranges.{put_range}
 times_below : (a b size : ℕ) → 0 < size → a < b → a * size < b * size
 times_below a b size some below = let more : (a + 1) * size ≤ b * size = mul-le-mul_right size (omega arith) in omega (arith, more)
 
-le_times : (a b size : ℕ) → 0 < size → nat_le (a * size) (b * size) ≡ nat_le a b
+pub le_times : (a b size : ℕ) → 0 < size → nat_le (a * size) (b * size) ≡ nat_le a b
 le_times a b size some = elim (cases_lt b a) [
   | inl above ↦ lt-leb _ _ (times_below b a size some above) ∙ sym (lt-leb _ _ above)
   | inr below ↦ le-leb _ _ (mul-le-mul_right size below) ∙ sym (le-leb _ _ below)
 ]
 
-lt_times : (a b size : ℕ) → 0 < size → nat_lt (a * size) (b * size) ≡ nat_lt a b
+pub lt_times : (a b size : ℕ) → 0 < size → nat_lt (a * size) (b * size) ≡ nat_lt a b
 lt_times a b size some = elim (cases_lt a b) [
   | inl below ↦ lt-ltb _ _ (times_below a b size some below) ∙ sym (lt-ltb _ _ below)
   | inr above ↦ grind (arith, nat_tests, mul-le-mul_right size above)

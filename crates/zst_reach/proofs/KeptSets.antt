@@ -10,7 +10,7 @@ use Rattle.zst_block.specs.declared.ptr.Ptr.{Ptr}
 use Rattle.zst_dnode.specs.declared.dnode.Dnode.{Dnode}
 use Rattle.zst_dnode.specs.declared.slot.Slot.{Slot}
 use Rattle.zst_dnode.specs.declared.slot.Slot.TheVariants.{Absent, There}
-use Rattle.zst_model.specs.states.State.{Block, Hole, Redacted, Data, Object, index_bound}
+use Rattle.zst_model.specs.states.State.{Block, Hole, Redacted, Data, Object}
 use Rattle.zst_model.specs.states.DatedState.{DatedState}
 use Rattle.zst_tree.specs.Damage.{HangsBelow}
 use Rattle.zst_tree.specs.Indices.{Map, Subtree, TreeIs, child, span}
@@ -22,14 +22,11 @@ use Rattle.zst_objset.specs.Damage.{HasSlot}
 use Rattle.zst_objset.specs.Dnodes.{BlockIs, ObjectIs, SlotIs, SpillIs, tree_of}
 use Rattle.zst_objset.specs.Sets.{LeafIs, SetHolds}
 use Rattle.zst_objset.specs.TightSets.{SetIsTight}
+use Rattle.zst_objset.proofs.OneState.{under_bound}
 use Rattle.zst_objset.proofs.TightLaws.{SetIsTight-of, TreeIs-lawful, no_block}
 use Rattle.zst_reach.specs.Reached.{IsOf, ReachesBlock, ReachesSector}
 use Rattle.zst_reach.specs.ReachedSets.{ReachesInDnode, ReachesInSet}
 use Rattle.zst_reach.proofs.ReachedLaws.{reach_child, reach_here}
-
-small_index : (i : ℕ) → i < index_bound → i < 2 ^ 44
-unfolding index_bound
-small_index i less = let bound : index_bound ≡ 2 ^ 43 = refl in omega (arith, less, bound)
 
 -- the child below which an index stands
 record Child (width base index : ℕ) : Type 0 where
@@ -143,7 +140,7 @@ module _ (image : List ℕ) (space more : FreeSectors) where
     end_is = is.end_is;
     spill_is = spill_kept dnode.spill object.attr.spill (λ sector reached. none sector (inr reached)) is.spill_is;
     tree = TreeIs-kept (tree_of dnode) map is.tree (λ sector reached. none sector (inl reached));
-    blocks = λ i less. block_kept (tree_of dnode) map i (object.blocks i) is.tree (small_index i less) (λ sector reached. none sector (inl reached)) (is.blocks i less);
+    blocks = λ i less. block_kept (tree_of dnode) map i (object.blocks i) is.tree (under_bound i less) (λ sector reached. none sector (inl reached)) (is.blocks i less);
     index_dates = is.index_dates;
   }
 

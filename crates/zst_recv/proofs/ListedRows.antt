@@ -13,7 +13,7 @@ use Rattle.zst_recv.specs.declared.stage.Stage.TheVariants as stages
 
 pub row_fits : FittingRow
 row_fits rows target row lawful found = record {
-  of_target = same_bytes row.target target (found_passes (is_for target) rows.partials row found);
+  of_target = same_bytes row.target target (found_passes (is_for target) rows.partials row found).1;
   can = record {
     row = found_fits target rows row lawful (sym found);
     base = found_is (λ (r : Row). IfSome r.base (HasSnapshot rows)) (is_for target) rows.partials row lawful.linked.bases (sym found);

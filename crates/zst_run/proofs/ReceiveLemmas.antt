@@ -44,7 +44,6 @@ use Rattle.zst_run.proofs.CommandLemmas.{disk_fault, failed_before, full_only}
 use Rattle.zst_run.proofs.FedPieces.{along_then, none_fed}
 use Rattle.zst_run.proofs.Pieces.{concat_with, pieces_then, whole_then, with_some}
 use Rattle.zst_run.proofs.PieceCosts.{costs_more, grew_more, grew_none}
-use Rattle.zst_run.proofs.ReceiveDamage.{err_refused}
 
 -- ---- refusals
 
@@ -132,6 +131,9 @@ says_cut pieces input mid input' recv Failed refusal is none after has = says_ot
 
 abbrev refused : Refusal → Result (List (List ℕ)) Refusal
 refused refusal = Err refusal
+
+err_same : (one other : Refusal) → refused one ≡ refused other → one ≡ other
+err_same one other is = cc
 
 -- what cuts a receive isn't one
 cut_no_full : (end : End) (count need largest : ℕ) → cut_refusal end count ≡ refusals.Full need largest → ⊥
@@ -230,7 +232,7 @@ module _ (start old now : DiskState) (first kept kept' : PoolState) (begun recv 
   refused_fed refusal t =
       ended start old now first kept kept' begun recv recv' items items' input mid input' (turns.Refused refusal) f t same falls (Err refusal) t.sized.1
       (says_refused (with_piece f.pieces t.piece) input input' recv' refusal (reads start old now first kept kept' begun recv recv' items items' input mid input' (turns.Refused refusal) f t same falls))
-      (λ need largest is. subst (λ (l : List (List ℕ)). CostMore first l) (sym (with_some f.pieces t.piece t.sized.0)) (costs_more first kept f.pieces t.piece f.grew (t.spends (concat f.pieces) f.hands need largest (err_refused refusal (refusals.Full need largest) is))))
+      (λ need largest is. subst (λ (l : List (List ℕ)). CostMore first l) (sym (with_some f.pieces t.piece t.sized.0)) (costs_more first kept f.pieces t.piece f.grew (t.spends (concat f.pieces) f.hands need largest (err_same refusal (refusals.Full need largest) is))))
       (λ tight pool honest done. done.stands input input')
 
   -- what is left of a receive that waits for more
@@ -254,7 +256,7 @@ module _ (start old now : DiskState) (first kept kept' : PoolState) (begun recv 
     cut_fed end refusal t is =
         ended start old now first kept kept' begun recv recv' items items' input mid input' (turns.Over end) f t same falls (Err refusal) t.sized
         (says_cut (with_piece f.pieces t.piece) input mid input' recv' end refusal is f.no_fault t.input_is (reads start old now first kept kept' begun recv recv' items items' input mid input' (turns.Over end) f t same falls))
-        (λ need largest e. absurd (cut_no_full end (fed_of recv') need largest (sym is ∙ err_refused refusal (refusals.Full need largest) e)))
+        (λ need largest e. absurd (cut_no_full end (fed_of recv') need largest (sym is ∙ err_same refusal (refusals.Full need largest) e)))
         (λ tight pool honest done. cut_so end refusal t is tight pool (with_piece f.pieces t.piece) done.stands)
 
 -- ---- the start

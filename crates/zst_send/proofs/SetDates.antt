@@ -25,6 +25,7 @@ use Rattle.zst_objset.specs.Sets.{IsBounded, LeafIs, SetHolds, date_in, latest}
 use Rattle.zst_objset.specs.TightSets.{IsTightLeaf, SetIsTight}
 use Rattle.zst_objset.proofs.LeafLaws.{is_number_at}
 use Rattle.zst_objset.proofs.TightLaws.{tight_dated}
+use Rattle.zst_traverse.proofs.SlotDates.{latest-bounds}
 use Rattle.zst_plan.specs.Receipts.{TellsDates, TellsHead, latest_date}
 use Rattle.zst_plan.specs.RecvPlan.{is_dated_after}
 use Rattle.zst_tree.specs.Changes.{TreeDatedUpTo}
@@ -56,16 +57,6 @@ latest_least : (slots : ℕ → Slot) (count number : ℕ) → ((s : ℕ) → s 
 unfolding latest
 latest_least slots zero number each = omega arith
 latest_least slots (suc count) number each = omega (arith, each count (omega arith), latest_least slots count number (λ s less. each s (omega arith)))
-
-latest_bounds : (slots : ℕ → Slot) (count s : ℕ) → s < count → date_in (slots s) ≤ latest slots count
-unfolding latest
-latest_bounds slots zero s less = absurd (omega arith)
-latest_bounds slots (suc count) s less = elim (cases_lt s count) [
-  | inl below ↦ (let bound = latest_bounds slots count s below in omega arith)
-  | inr last ↦ (
-      let same : s ≡ count = omega arith in
-      rw same (omega arith))
-]
 
 module _ (number : ℕ) (snap : DatedState) where
   -- whether an index of a number is dated after this number
@@ -129,7 +120,7 @@ module _ (has : Blocks) (number : ℕ) (snap : DatedState) where
   leaf_early : (j : ℕ) (ptr : Ptr) → LeafIs has snap j ptr → ptr.number ≤ number → (s : ℕ) → s < 16 → is_number (16 * j + s) ≡ true
       → (snap.number_date (16 * j + s) ≤ number) × ((i : ℕ) → i < index_bound → snap.index_date (16 * j + s) i ≤ number)
   leaf_early j ptr (inl hole) early s under is = slot_early (16 * j + s) (Absent ptr.number) (hole.absent s under is) early
-  leaf_early j ptr (inr leaf) early s under is = slot_early (16 * j + s) (leaf.slots s) (leaf.slots_are.numbers s under is) (omega (arith, latest_bounds leaf.slots 16 s under, leaf.names.number, early))
+  leaf_early j ptr (inr leaf) early s under is = slot_early (16 * j + s) (leaf.slots s) (leaf.slots_are.numbers s under is) (omega (arith, latest-bounds leaf.slots 16 s under, leaf.names.number, early))
 
   -- a tight leaf's pointer is no later than the state
   leaf_told : DatedUpTo number snap → (j : ℕ) → j < 2 ^ 44 → (ptr : Ptr) → LeafIs has snap j ptr → IsTightLeaf has snap j ptr → ptr.number ≤ number

@@ -128,7 +128,7 @@ module _ (id : ℕ) (send : OpenSend) where
   put_stays event world other count one asked there found = go (other == id) refl asked
     where
       named : one.id ≡ other
-      named = eqb-true one.id other (found_passes (λ s. s.id == other) world.sends one there)
+      named = eqb-true one.id other (found_passes (λ s. s.id == other) world.sends one there).1
 
       go : (t : Bool) → (other == id) ≡ t → asked_of id event ≡ (cond t count 0) → Stays event (put_send (gone_on count one) world).sends
       go true is asked =
@@ -167,7 +167,7 @@ module _ (id : ℕ) (send : OpenSend) where
   closed_stays world other found = go (send.id == other) refl
     where
       named : send.id ≡ id
-      named = eqb-true send.id id (found_passes (λ s. s.id == id) world.sends send found)
+      named = eqb-true send.id id (found_passes (λ s. s.id == id) world.sends send found).1
 
       go : (t : Bool) → (send.id == other) ≡ t → Stays (events.Close other) (filter (λ one. not (one.id == other)) world.sends)
       go true is = inr (inr (sym (eqb-true send.id other is) ∙ named))

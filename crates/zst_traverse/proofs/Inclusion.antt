@@ -1,24 +1,12 @@
 -- When a number is included, and when an index is.
-use Rattle.std.proofs.Common.{◌≡◌, inl, inr, ℕ, zero, suc, ◌<◌, ◌≤◌, ◌||◌, nat_lt, nat_le, Bool, true, false, refl, sym, ◌∙◌, ap, arith}
+use Rattle.std.proofs.Common.{◌≡◌, inl, inr, ℕ, ◌<◌, ◌≤◌, ◌||◌, nat_lt, nat_le, Bool, true, false, refl, arith}
 use Rattle.std.specs.Prelude.{Option, Some, None}
-use Rattle.std.proofs.lemmas.Bool.{and_from, and_left, and_right, cases_eq, cases_lt, le-leb, le-ltb, lt-ltb, ltb-false, or_from, or_left, or_right}
+use Rattle.std.proofs.lemmas.Bool.{and_from, and_left, and_right, cases_lt, le-leb, le-ltb, lt-ltb, ltb-false, or_from, or_left, or_right}
 use Rattle.zst_model.specs.sends.Inclusion.{any_below, includes_number, includes_pair, is_after, is_late_pair}
 use Rattle.zst_model.specs.states.DatedState.{DatedState}
 use Rattle.zst_model.specs.states.State.{end_at, index_bound, is_number}
+use Rattle.zst_model.proofs.IndexTests.{any_passes, none_pass}
 use Rattle.zst_traverse.specs.Cells.{choice_after}
-
-any_none : (test : ℕ → Bool) (bound : ℕ) → ((i : ℕ) → i < bound → test i ≡ false) → any_below test bound ≡ false
-unfolding any_below
-any_none test zero none = refl
-any_none test (suc bound) none = or_from (test bound) (any_below test bound) (none bound (omega arith)) (any_none test bound (λ i less. none i (omega arith)))
-
-pub any_some : (test : ℕ → Bool) (bound i : ℕ) → i < bound → test i ≡ true → any_below test bound ≡ true
-unfolding any_below
-any_some test zero i less passes = absurd (omega arith)
-any_some test (suc bound) i less passes = elim (cases_eq i bound) [
-  | inl same ↦ or_left (test bound) (any_below test bound) (ap test (sym same) ∙ passes)
-  | inr other ↦ or_right (test bound) (any_below test bound) (any_some test bound i (omega arith) passes)
-]
 
 -- no date before one that isn't late is
 pub early_before : (source : Option ℕ) (a b : ℕ) → a ≤ b → is_after source b ≡ false → is_after source a ≡ false
@@ -59,13 +47,13 @@ module _ (snap : DatedState) (source : Option ℕ) (k : ℕ) where
   unfolding includes_number
   included_by_index number i less late =
       and_from (is_number k) (is_after source (snap.number_date k) || any_below is_touched index_bound) number
-      (or_right (is_after source (snap.number_date k)) (any_below is_touched index_bound) (any_some is_touched index_bound i less (touched i late)))
+      (or_right (is_after source (snap.number_date k)) (any_below is_touched index_bound) (any_passes is_touched index_bound i less (touched i late)))
 
   pub not_included : is_after source (snap.number_date k) ≡ false → ((i : ℕ) → i < index_bound → is_after source (snap.index_date k i) ≡ false) → includes_number snap (choice_after source) k ≡ false
   unfolding includes_number
   not_included early earlies =
       and_right (is_number k) (is_after source (snap.number_date k) || any_below is_touched index_bound)
-      (or_from (is_after source (snap.number_date k)) (any_below is_touched index_bound) early (any_none is_touched index_bound (λ i less. untouched i (earlies i less))))
+      (or_from (is_after source (snap.number_date k)) (any_below is_touched index_bound) early (none_pass is_touched index_bound (λ i less. untouched i (earlies i less))))
 
   pub no_number : is_number k ≡ false → includes_number snap (choice_after source) k ≡ false
   unfolding includes_number

@@ -1,7 +1,7 @@
 -- Which indices of an object are next.
-use Rattle.std.proofs.Common.{◌≡◌, ◌≢◌, inl, inr, ⊎_elim, if◌then◌else◌, Bool, ℕ, ◌+◌, ◌*◌, ◌%◌, ◌<◌, ◌≤◌, ◌==◌, ◌&&◌, ◌||◌, nat_lt, min, leb, ◌↔◌, true, false, List, refl, sym, ◌∙◌, ap, subst, arith}
+use Rattle.std.proofs.Common.{◌≡◌, ◌≢◌, inl, inr, ⊎_elim, if◌then◌else◌, Bool, ℕ, ◌+◌, ◌*◌, ◌<◌, ◌≤◌, ◌==◌, ◌||◌, nat_lt, min, ◌↔◌, true, false, List, refl, sym, ◌∙◌, ap, subst, arith}
 use Rattle.std.specs.Prelude.{Option, Some, None}
-use Rattle.std.proofs.lemmas.Bool.{and_from, and_left, and_right, le-ltb, lt-ltb, or_from, or_left, or_right, true≢false, and_parts, cases_lt, eq-eqb, eqb-false, eqb-true, leb-true}
+use Rattle.std.proofs.lemmas.Bool.{and_from, and_left, and_right, le-ltb, lt-ltb, or_from, or_left, or_right, true≢false, cases_lt, eq-eqb, eqb-false, eqb-true}
 use Rattle.zst_space.specs.FreeSectors.{FreeSectors}
 use Rattle.zst_block.proofs.BlocksLaws.{IsBlock-length}
 use Rattle.zst_block.specs.Blocks.{Has}
@@ -13,7 +13,7 @@ use Rattle.zst_model.specs.declared.states.cell.Cell.TheVariants as cells
 use Rattle.zst_model.specs.fields.Lists.{Runs, has_pair}
 use Rattle.zst_model.specs.sends.Inclusion.{Choice, includes_pair, is_after}
 use Rattle.zst_model.specs.states.DatedState.{DatedState, size_at}
-use Rattle.zst_model.specs.states.State.{Block, BlockFits, Hole, IsObject, Redacted, Data, Object, end_at, index_bound, is_block_size, largest_block}
+use Rattle.zst_model.specs.states.State.{Block, BlockFits, Hole, IsObject, Redacted, Data, Object, end_at, index_bound}
 use Rattle.zst_tree.specs.Lookups.{Shows}
 use Rattle.zst_tree.specs.Indices.{Blocks, Map}
 use Rattle.zst_tree.specs.Damage.{HangsIn, MayHave}
@@ -234,9 +234,3 @@ run_has_cell image space dnode object date dates map lawful withheld is index re
     let has = Has image space in
     let some = shows.some in
     cell_there image space ptr dnode.block_size (object.blocks index) (subst (λ (n : ℕ). BlockFits n (object.blocks index)) (sym is.size_is) (lawful.fits index)) (subst (λ (p : Ptr). BlockIs has p (object.blocks index)) (shows.same index (omega arith) (omega arith) (omega arith)) (read_block has (withheld index) (map index) (object.blocks index) read (is.blocks index (omega arith)))) none
-
-pub size_some : (size : ℕ) → is_block_size size ≡ true → 0 < size
-unfolding is_block_size largest_block
-size_some size is =
-    let both = (and_parts (leb 512 size && leb size 131072) ((size % 512) == 0) is).0 in
-    let over = leb-true 512 size (and_parts (leb 512 size) (leb size 131072) both).0 in omega arith

@@ -1,6 +1,6 @@
 mod Inclusion
 mod ListedNumbers
-mod SlotDates
+pub mod SlotDates
 mod Numbers
 mod Glances
 mod LeafLooks

@@ -16,7 +16,7 @@ use Rattle.zst_traverse.specs.ListedNumbers.{AreIncluded, FindsListed, FindsObje
 use Rattle.zst_traverse.specs.Runs.{FindsIn}
 use Rattle.zst_traverse.specs.declared.walk_entry.WalkEntry.{WalkEntry}
 use Rattle.zst_traverse.specs.declared.walk_entry.WalkEntry.TheVariants as found
-use Rattle.zst_traverse.proofs.Inclusion.{any_some}
+use Rattle.zst_model.proofs.IndexTests.{any_passes}
 use Rattle.zst_traverse.proofs.NextCells.{nothing_at, there_of}
 
 -- ---- the first number of a list, and of two
@@ -119,7 +119,7 @@ module _ (snap : DatedState) (source : Option ℕ) (listed withheld : Runs) (k :
   unfolding includes_number
   by_pair number i less below has =
       and_from (is_number k) (is_after source (snap.number_date k) || any_below (touches choice) index_bound) number
-      (or_right (is_after source (snap.number_date k)) (any_below (touches choice) index_bound) (any_some (touches choice) index_bound i less
+      (or_right (is_after source (snap.number_date k)) (any_below (touches choice) index_bound) (any_passes (touches choice) index_bound i less
       (or_left (includes_pair snap choice k i) (is_late_pair snap choice k i) (and_from (is_below i) (is_late i || is_listed i) (lt-ltb i (end_at (snap.state k)) below) (or_right (is_late i) (is_listed i) has)))))
 
   -- and nothing else

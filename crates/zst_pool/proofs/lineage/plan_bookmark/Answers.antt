@@ -8,7 +8,8 @@ use Rattle.zst_model.specs.pools.Pool as plain
 use Rattle.zst_model.specs.pools.Step.{bookmark_of, committed, no_such, not_ancestor, or_else, with_bookmark}
 use Rattle.zst_pool.specs.Lineage.{JudgesBookmark, if_new_bookmark, if_of_dataset, with_marked}
 use Rattle.zst_pool.specs.Plans.{IsLast, is_by_rows}
-use Rattle.zst_pool.proofs.CheckLemmas.{err_has, err_is}
+use Rattle.zst_model.proofs.Results.{err_is}
+use Rattle.zst_pool.proofs.CheckLemmas.{err_has}
 use Rattle.zst_pool.proofs.lineage.plan_bookmark.Goals as goal
 
 -- what the rows or the last number refuse

@@ -7,12 +7,13 @@ use Rattle.zst_model.specs.fields.Lists.{has_pair}
 use Rattle.zst_model.specs.sends.Inclusion.{is_after}
 use Rattle.zst_model.specs.states.DatedState.{DatedState}
 use Rattle.zst_model.specs.states.State.{IsObjectOrNone}
+use Rattle.zst_model.proofs.Sizes.{block_size_over_none}
 use Rattle.zst_objset.proofs.LeafLaws.{look_back, look_on}
 use Rattle.zst_objset.specs.Dnodes.{IsThereIn, ObjectIn, outside}
 use Rattle.zst_tree.specs.Indices.{TreeIs}
 use Rattle.zst_tree.specs.declared.tree.Tree.{Tree}
 use Rattle.zst_traverse.specs.Runs.{outside_indices, IsRun, TakesTurn}
-use Rattle.zst_traverse.proofs.Indices.{late_in, no_pairs_left, pairs_next, withheld_next, size_some}
+use Rattle.zst_traverse.proofs.Indices.{late_in, no_pairs_left, pairs_next, withheld_next}
 use Rattle.zst_tree.proofs.StepLooks.{InSteps-more, InSteps-then}
 use Rattle.zst_traverse.proofs.pairs.next_pairs.Given as given
 use Rattle.zst_traverse.proofs.pairs.next_pairs.Goals.{After-first_turn}
@@ -23,7 +24,7 @@ either true yes_it none = yes_it refl
 either false yes_it none = none refl
 
 pub first_index-from-requires : goal.first_index-from-requires
-first_index-from-requires g c = size_some c.args.dnode.now.block_size c.requires.dnode.head.size
+first_index-from-requires g c = block_size_over_none c.args.dnode.now.block_size c.requires.dnode.head.size
 
 pub returns-in_err-late-clause-found : goal.returns-in_err-late-clause-found
 returns-in_err-late-clause-found g c = λ snap honest lawful there.
