@@ -30,7 +30,7 @@ use Rattle.zst_objset.specs.Changes.{block_written, indices_changed}
 use Rattle.zst_objset.specs.Dnodes.{BlockIs, IsThere, SpillIs, tree_of}
 use Rattle.zst_objset.specs.BlockWrites.{PutsData}
 use Rattle.zst_objset.specs.BlockRuns.{AreSoFar, AreWritten, IsWritten, PutsBlocks, block_of, blocks_written}
-use Rattle.zst_objset.specs.SlotPuts.{Alike, PutsSlot, dates_to}
+use Rattle.zst_objset.specs.SlotPuts.{Alike, DatesRise, PutsSlot, dates_to}
 use Rattle.zst_objset.specs.Sets.{IsBounded}
 use Rattle.zst_objset.specs.Answers.{FindsThere, Refuses}
 use Rattle.zst_objset.specs.declared.fault.ObjFault.{ObjFault}
@@ -421,6 +421,13 @@ run_tight has number k size i bytes before now was map leaves tree end dated tig
     let here : number ≡ now.index_date k i = sym (first_dated has number size i bytes map leaves some written) ∙ run.due.is.index_dates i inside in
     inr (i, inside, omega (arith, was_early, early.0, early.1, here))
 
+-- and no number bounds the dates of the state that doesn't bound those before it, since one of the indices has the commit's
+pub run_rises : (has : Blocks) (number k size i : ℕ) (bytes : List ℕ) (before now : DatedState) (was : Dnode) (map : Map) (leaves : List Leaf) (end : ℕ) → DatedUpTo number before
+    → 0 < length leaves → i < index_bound → AreWritten has number size i bytes leaves → IsRun has before now k (with_end was end) (with_leaves map leaves) → DatesRise before now
+run_rises has number k size i bytes before now was map leaves end dated some inside written run bound later =
+    let here : number ≡ now.index_date k i = sym (first_dated has number size i bytes map leaves some written) ∙ run.due.is.index_dates i inside in
+    record { numbers = λ j. omega (arith, here, later.indices k i, dated.numbers j); indices = λ j m. omega (arith, here, later.indices k i, dated.indices j m) }
+
 -- an object that is tight has a tree of no later date
 pub tree_early : (number k : ℕ) (snap : DatedState) (dnode : Dnode) → DatedUpTo number snap → IsTightSlot snap k (There dnode) → TreeDatedUpTo number (tree_of dnode)
 tree_early number k snap dnode dated tight = let early = tight_dated number snap k (There dnode) dated tight in (omega (arith, early), omega (arith, early))
@@ -431,6 +438,7 @@ pub record BlocksEnd (has : Blocks) (number k size count i : ℕ) (bytes : List 
   pub is : blocks_written number k size count i bytes before ≡ Ok now
   pub puts : PutsSlot has before now k (k + 1) (There made)
   pub tight : DatedUpTo number before → IsTightSlot before k (There was) → TreeDatedUpTo number tree → IsTightSlot now k (There made)
+  pub rises : DatedUpTo number before → DatesRise before now
 
 pub blocks_end : (has : Blocks) (number k size count i : ℕ) (bytes : List ℕ) (before : DatedState) (was made : Dnode) (map : Map) (tree : Tree) → AppliedIsState → is_number k ≡ true → was.block_size ≡ size → 0 < count → IsRun has before before k was map
     → MayWrite size i count bytes → PutsBlocks has map number size count i bytes tree → made ≡ with_tree was tree (max was.end (i + count)) → BlocksEnd has number k size count i bytes before was made tree
@@ -444,6 +452,7 @@ blocks_end has number k size (suc count) i bytes before was made map tree law is
       puts = subst (λ (d : Dnode). PutsSlot has before runs.now k (k + 1) (There d)) (sym made_is) (run_ends has before runs.now k (with_end was end) (with_leaves map put.leaves) tree runs.run put.tree_is);
       tight = λ dated tight early. subst (λ (d : Dnode). IsTightSlot runs.now k (There d)) (sym made_is)
           (run_tight has number k size i bytes before runs.now was map put.leaves tree end dated tight early (omega (arith, put.long)) (index_under i (omega (arith, may.inside))) put.written runs.run);
+      rises = λ dated. run_rises has number k size i bytes before runs.now was map put.leaves end dated (omega (arith, put.long)) (index_under i (omega (arith, may.inside))) put.written runs.run;
     }
 
 -- a write of one block

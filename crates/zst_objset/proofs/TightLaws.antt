@@ -28,9 +28,9 @@ use Rattle.zst_tree.proofs.IndicesLaws.{TreeIs-grows}
 use Rattle.zst_tree.specs.Damage.{IsSeen}
 use Rattle.zst_objset.specs.Damage.{IsLoaded}
 use Rattle.zst_objset.specs.Dnodes.{SlotIs, tree_of}
-use Rattle.zst_objset.specs.FreedNumbers.{freed}
-use Rattle.zst_objset.specs.SlotPuts.{Alike, PutsSlot}
-use Rattle.zst_objset.specs.Sets.{date_in, AreSlots, HasSlots, LeafIs, NamesSlots, SetHolds, Spells}
+use Rattle.zst_objset.specs.FreedNumbers.{freed, is_in}
+use Rattle.zst_objset.specs.SlotPuts.{Alike, DatesRise, PutsSlot}
+use Rattle.zst_objset.specs.Sets.{date_in, latest, AreSlots, HasSlots, LeafIs, NamesSlots, SetHolds, Spells}
 use Rattle.zst_objset.specs.TightSets.{AreTight, IsTightDnode, IsTightLeaf, IsTightSlot, SetIsTight}
 use Rattle.zst_objset.proofs.ChangePuts.{changed_to, date_put, dates_put}
 use Rattle.zst_objset.proofs.FreeLaws.{SetHolds-holes, with_holes}
@@ -89,6 +89,12 @@ pub tight_dated : (number : ℕ) (snap : DatedState) (k : ℕ) (slot : Slot) →
 tight_dated number snap k slot dated (inl date) = omega (arith, date, dated.numbers k)
 tight_dated number snap k slot dated (inr index) = omega (arith, index.2, dated.indices k index.0)
 
+-- nor do slots each of which doesn't
+latest_least : (slots : ℕ → Slot) (count number : ℕ) → ((s : ℕ) → s < count → date_in (slots s) ≤ number) → latest slots count ≤ number
+unfolding latest
+latest_least slots zero number each = omega arith
+latest_least slots (suc count) number each = omega (arith, each count (omega arith), latest_least slots count number (λ s less. each s (omega arith)))
+
 -- nor does a dnode that is found
 pub found_dated : (number : ℕ) (snap : DatedState) (k : ℕ) (found : Option Dnode) → DatedUpTo number snap → IfSome found (λ dnode. IsTightSlot snap k (There dnode)) → IfSome found (λ dnode. date_in (There dnode) ≤ number)
 found_dated number snap k None dated tight = tt
@@ -112,12 +118,13 @@ module _ (old_image : List ℕ) (old_space : FreeSectors) (image : List ℕ) (sp
       let spelled = subst (λ (b : List ℕ). Spells b held) same spells in
       slot_kept (Has old_image old_space) old new j s leaf.slots (held s) less leaf.slots_are (Spells-one leaf.bytes held leaf.slots spelled leaf.names.spells s less) (alike s less) (tight leaf.bytes held leaf.names.there spelled s less)
 
--- a set is tight where the leaves of some map of its tree are
+-- a set is tight where the leaves of some map of its tree are, and its tree tells no date later than the state
 pub SetIsTight-of : (image : List ℕ) (space : FreeSectors) (set : ObjSet) (snap : DatedState) (map : Map) → SetHolds (Has image space) set snap → TreeIs (Has image space) set.tree map
-    → ((j : ℕ) → j < 2 ^ 44 → IsTightLeaf (Has image space) snap j (map j)) → SetIsTight (Has image space) set snap
-SetIsTight-of image space set snap map holds tree leaves = record {
+    → ((j : ℕ) → j < 2 ^ 44 → IsTightLeaf (Has image space) snap j (map j)) → ((number : ℕ) → DatedUpTo number snap → TreeDatedUpTo number set.tree) → SetIsTight (Has image space) set snap
+SetIsTight-of image space set snap map holds tree leaves told = record {
   holds = holds;
   tight = λ j less. subst (IsTightLeaf (Has image space) snap j) (TreeIs-one (Has image space) (Has-one image space) set.tree map holds.map tree holds.tree j less) (leaves j less);
+  tells = told;
 }
 
 pub alike_same : (snap : DatedState) (k : ℕ) → Alike snap snap k
@@ -128,14 +135,14 @@ pub tight_grows : (set : ObjSet) (old : List ℕ) (space : FreeSectors) (new : L
 tight_grows set old space new less snap keeps tight =
     let holds = tight.holds in
     SetIsTight-of new less set snap holds.map (SetHolds-grows (Has old space) (Has new less) keeps set snap holds) (TreeIs-grows (Has old space) (Has new less) keeps set.tree holds.map holds.tree)
-    (λ j under. leaf_kept old space new less keeps snap snap j (holds.map j) (TreeIs-lawful (Has old space) set.tree holds.map holds.tree j under) (holds.leaves j under) (λ s small number. alike_same snap (16 * j + s)) (tight.tight j under))
+    (λ j under. leaf_kept old space new less keeps snap snap j (holds.map j) (TreeIs-lawful (Has old space) set.tree holds.map holds.tree j under) (holds.leaves j under) (λ s small number. alike_same snap (16 * j + s)) (tight.tight j under)) tight.tells
 
 -- no leaf stands in a hole's place
 pub hole_tight : (image : List ℕ) (space : FreeSectors) (snap : DatedState) (j date : ℕ) → IsTightLeaf (Has image space) snap j (hole_of date)
 hole_tight image space snap j date bytes held there spells s less = absurd (no_block image space (hole_of date) bytes refl refl there)
 
 pub tight_empty : (image : List ℕ) (space : FreeSectors) → SetIsTight (Has image space) no_objects untouched
-tight_empty image space = SetIsTight-of image space no_objects untouched (λ i. hole_of 0) (empty (Has image space)) (TreeIs-hole (Has image space) 0) (λ j less. hole_tight image space untouched j 0)
+tight_empty image space = SetIsTight-of image space no_objects untouched (λ i. hole_of 0) (empty (Has image space)) (TreeIs-hole (Has image space) 0) (λ j less. hole_tight image space untouched j 0) (λ number dated. (omega arith, omega arith))
 
 -- the slots of a node that was loaded for a tight leaf
 pub loaded_tight : (seen : List ℕ) (space : FreeSectors) (snap : DatedState) (j : ℕ) (ptr : Ptr) (bytes : List ℕ) → LeafIs (Has seen space) snap j ptr → IsTightLeaf (Has seen space) snap j ptr → HasSlots (Has seen space) snap j bytes
@@ -194,16 +201,20 @@ module _ (first_image : List ℕ) (first_space : FreeSectors) (mid_image : List 
       → PutsSlot (Has first_image first_space) old new first below slot → SetIsTight (Has first_image first_space) set old → HasSlots (Has first_image first_space) old j before
       → AreTight old j before → ((k : ℕ) → first ≤ k → k < below → IsTightSlot new k slot)
       → ((slots : ℕ → Slot) → Spells after slots → NamesSlots (Has mid_image mid_space) ptr after slots)
-      → ((map other : Map) → TreeIs (Has mid_image mid_space) set.tree map → Puts map other j (j + 1) ptr → TreeIs (Has last_image last_space) tree other) → tree.levels ≤ 7
+      → ((map other : Map) → TreeIs (Has mid_image mid_space) set.tree map → Puts map other j (j + 1) ptr → TreeIs (Has last_image last_space) tree other) → tree.levels ≤ 7 → DatesRise old new
+      → ((number : ℕ) (map : Map) → TreeIs (Has mid_image mid_space) set.tree map → TreeDatedUpTo number set.tree → ptr.number ≤ number → TreeDatedUpTo number tree)
       → SetIsTight (Has last_image last_space) (record { tree = tree }) new
-  put_leaf_tight set tree old new first below j from to slot ptr before after at is puts tight slots before_tight each names sets levels =
+  put_leaf_tight set tree old new first below j from to slot ptr before after at is puts tight slots before_tight each names sets levels rises moves =
       SetIsTight-of last_image last_space (record { tree = tree }) new (with_one map j ptr)
       (put_leaf first_image first_space mid_image mid_space last_image last_space saving setting set tree old new first below j from to slot ptr before after at is puts tight.holds slots names sets levels)
-      (sets map (with_one map j ptr) (TreeIs-grows (Has first_image first_space) (Has mid_image mid_space) saving set.tree map tight.holds.tree) (Puts-one map j ptr))
-      (λ i less. ⊎_elim (λ lower. other i less (inl lower)) (λ over. ⊎_elim (λ higher. other i less (inr higher)) (λ le. same i (omega (arith, over, le))) (cases_lt j i)) (cases_lt i j))
+      (sets map (with_one map j ptr) stood (Puts-one map j ptr))
+      (λ i less. ⊎_elim (λ lower. other i less (inl lower)) (λ over. ⊎_elim (λ higher. other i less (inr higher)) (λ le. same i (omega (arith, over, le))) (cases_lt j i)) (cases_lt i j)) told
     where
       map : Map
       map = tight.holds.map
+
+      stood : TreeIs (Has mid_image mid_space) set.tree map
+      stood = TreeIs-grows (Has first_image first_space) (Has mid_image mid_space) saving set.tree map tight.holds.tree
 
       grown : KeepsBlocks first_image first_space last_image last_space
       grown p bytes has = setting p bytes (saving p bytes has)
@@ -227,16 +238,33 @@ module _ (first_image : List ℕ) (first_space : FreeSectors) (mid_image : List 
       same : (i : ℕ) → i ≡ j → IsTightLeaf (Has last_image last_space) new i (with_one map j ptr i)
       same i is = subst (IsTightLeaf (Has last_image last_space) new i) (sym (at_one map j ptr i is)) (subst (λ (n : ℕ). IsTightLeaf (Has last_image last_space) new n ptr) (sym is) here)
 
+      -- the leaf's pointer tells no date later than the state, so none of the tree does
+      early : (number : ℕ) → DatedUpTo number new → ptr.number ≤ number
+      early number dated =
+          let made = mended (Has first_image first_space) old new first below j from to slot before after at is puts slots in
+          let after_tight : AreTight new j after = put_tight (Has first_image first_space) old new first below j from to slot before after at is puts slots before_tight each in
+          omega (arith, (names made.slots made.spells).number, latest_least made.slots 16 number (λ s less. tight_dated number new (16 * j + s) (made.slots s) dated (after_tight made.slots made.spells s less)))
+
+      told : (number : ℕ) → DatedUpTo number new → TreeDatedUpTo number tree
+      told number dated = moves number map stood (tight.tells number (rises number dated)) (early number dated)
+
 -- holes in place of whole leaves
 module _ (old_image : List ℕ) (old_space : FreeSectors) (image : List ℕ) (space : FreeSectors) (keeps : KeepsBlocks old_image old_space image space) where
   pub holes_tight : (set made : ObjSet) (old new : DatedState) (first below date : ℕ) → PutsSlot (Has old_image old_space) old new (16 * first) (16 * below) (Absent date) → (tight : SetIsTight (Has old_image old_space) set old) → made.tree.levels ≤ 7
-      → TreeIs (Has image space) made.tree (with_holes tight.holds.map first below (hole_of date)) → SetIsTight (Has image space) made new
-  holes_tight set made old new first below date puts tight levels tree =
+      → TreeIs (Has image space) made.tree (with_holes tight.holds.map first below (hole_of date)) → 0 < first → first < below → below ≤ 2 ^ 44 → DatesRise old new
+      → ((number : ℕ) → TreeDatedUpTo number set.tree → date ≤ number → TreeDatedUpTo number made.tree) → SetIsTight (Has image space) made new
+  holes_tight set made old new first below date puts tight levels tree some more bound rises moves =
       SetIsTight-of image space made new (with_holes map first below (hole_of date)) (SetHolds-holes (Has old_image old_space) (Has image space) keeps set made old new first below date puts tight.holds levels tree) tree
-      (λ i less. leaf_at i less (sides first below i))
+      (λ i less. leaf_at i less (sides first below i)) told
     where
       map : Map
       map = tight.holds.map
+
+      -- the holes' date is one of the state
+      told : (number : ℕ) → DatedUpTo number new → TreeDatedUpTo number made.tree
+      told number dated =
+          let is = puts.put (16 * first) (is_number_at (16 * first) (omega (arith, some)) (omega (arith, more, bound))) (omega arith) (omega (arith, more)) in
+          moves number (tight.tells number (rises number dated)) (omega (arith, is.date_is, dated.numbers (16 * first)))
 
       apart : (i s : ℕ) → s < 16 → (i < first) ⊎ (below ≤ i) → (16 * i + s < 16 * first) ⊎ (16 * below ≤ 16 * i + s)
       apart i s small (inl before) = inl (omega arith)
@@ -248,6 +276,35 @@ module _ (old_image : List ℕ) (old_space : FreeSectors) (image : List ℕ) (sp
           subst (IsTightLeaf (Has image space) new i) (sym (outside first below i (hole_of date) (map i) beside))
           (leaf_kept old_image old_space image space keeps old new i (map i) (TreeIs-lawful (Has old_image old_space) set.tree map tight.holds.tree i less) (tight.holds.leaves i less)
           (λ s small number. puts.kept (16 * i + s) number (apart i s small beside)) (tight.tight i less))
+
+-- a date that stays, or is the commit's, is up to the commit's number; and no number bounds it that doesn't bound the one before
+dated_still : (number date : ℕ) (t : Bool) → date ≤ number → (if t then number else date) ≤ number
+dated_still number date true early = omega arith
+dated_still number date false early = early
+
+dated_before : (number bound date : ℕ) (t : Bool) → date ≤ number → (if t then number else date) ≤ bound → date ≤ bound
+dated_before number bound date true early late = let less : number ≤ bound = late in omega (arith, early, less)
+dated_before number bound date false early late = late
+
+-- the dates of a state only rise where a change in a commit dates some numbers and indices
+pub change_rises : (number j : ℕ) (change : Change) (old : DatedState) (object : Object) → DatedUpTo number old → DatesRise old (changed_to number j change old object)
+change_rises number j change old object dated bound later = record {
+  numbers = λ k. dated_before number bound (old.number_date k) (k == j && dates_number change) (dated.numbers k) (later.numbers k);
+  indices = λ k i. dated_before number bound (old.index_date k i) ((k == j && dates_index change (old.state j) i) && nat_lt i index_bound) (dated.indices k i) (later.indices k i);
+}
+
+module _ (number first below : ℕ) (old : DatedState) (dated : DatedUpTo number old) where
+  pub freed_dated : DatedUpTo number (freed number first below old)
+  freed_dated = record {
+    numbers = λ k. dated_still number (old.number_date k) (is_in first below k && is_number k) (dated.numbers k);
+    indices = λ k i. dated_still number (old.index_date k i) ((is_in first below k && is_number k) && nat_lt i index_bound) (dated.indices k i);
+  }
+
+  pub freed_rises : DatesRise old (freed number first below old)
+  freed_rises bound later = record {
+    numbers = λ k. dated_before number bound (old.number_date k) (is_in first below k && is_number k) (dated.numbers k) (later.numbers k);
+    indices = λ k i. dated_before number bound (old.index_date k i) ((is_in first below k && is_number k) && nat_lt i index_bound) (dated.indices k i) (later.indices k i);
+  }
 
 -- freed numbers have absent slots of the commit's date
 pub freed_tight : (has : Blocks) (number first below : ℕ) (old : DatedState) → PutsSlot has old (freed number first below old) first below (Absent number) → 0 < first → below ≤ 2 ^ 48

@@ -6,6 +6,7 @@ use Rattle.zst_dnode.specs.declared.slot.Slot.{Slot}
 use Rattle.zst_laws.specs.Dates.{IsLawfulItem}
 use Rattle.zst_model.specs.declared.states.item.Change.{Change}
 use Rattle.zst_model.specs.declared.states.item.Item.TheVariants.{At}
+use Rattle.zst_model.specs.pools.Soundness.{DatedUpTo}
 use Rattle.zst_model.specs.states.AppliedItems.{apply_change}
 use Rattle.zst_model.specs.states.State.{IsState, Object, is_number, index_bound}
 use Rattle.zst_model.specs.states.DatedState.{DatedState, dates_index, dates_number}
@@ -25,6 +26,10 @@ pub record PutsSlot (has : Blocks) (old new : DatedState) (from below : ℕ) (sl
   pub bounded : IsBounded new
   pub put : (k : ℕ) → is_number k ≡ true → from ≤ k → k < below → SlotIs has new k slot
   pub kept : (k : ℕ) → is_number k ≡ true → (k < from) ⊎ (below ≤ k) → Alike old new k
+
+-- where a state is dated up to a number, so was the one before it
+abbrev pub DatesRise : DatedState → DatedState → Type 0
+DatesRise old new = (number : ℕ) → DatedUpTo number new → DatedUpTo number old
 
 -- the date of a number after a change in a commit
 abbrev pub date_to : ℕ → ℕ → Change → DatedState → ℕ

@@ -5,8 +5,10 @@ use Rattle.zst_dnode.specs.declared.dnode.Dnode.{Dnode}
 use Rattle.zst_dnode.specs.declared.slot.Slot.{Slot}
 use Rattle.zst_dnode.specs.declared.slot.Slot.TheVariants.{There}
 use Rattle.zst_model.specs.declared.states.item.Change.{Change}
+use Rattle.zst_model.specs.pools.Soundness.{DatedUpTo}
 use Rattle.zst_model.specs.states.DatedState.{DatedState}
 use Rattle.zst_model.specs.states.State.{index_bound}
+use Rattle.zst_tree.specs.Changes.{TreeDatedUpTo}
 use Rattle.zst_tree.specs.Indices.{Blocks}
 use Rattle.zst_tree.specs.declared.tree.ObjSet.{ObjSet}
 use Rattle.zst_objset.specs.SlotPuts.{date_to, dates_to}
@@ -24,6 +26,8 @@ IsTightLeaf has snap j ptr = (bytes : List ℕ) (held : ℕ → Slot) → has pt
 pub record SetIsTightIn (has : Blocks) (reads : ℕ → ℕ → Blocks) (set : ObjSet) (snap : DatedState) : Type 0 where
   pub holds : SetIn has reads set snap
   pub tight : (j : ℕ) → j < 2 ^ 44 → IsTightLeaf has snap j (holds.map j)
+  -- no pointer of its tree tells a date later than all that the state has: not one of a seventh level either, which stands for numbers too that no object has
+  pub tells : (number : ℕ) → DatedUpTo number snap → TreeDatedUpTo number set.tree
 
 abbrev pub SetIsTight : Blocks → ObjSet → DatedState → Type 0
 SetIsTight has set snap = SetIsTightIn has (λ k i. has) set snap

@@ -6,13 +6,14 @@ ghost use Rattle.zst_dnode.specs.Dnode.{DnodeFits};
 ghost use Rattle.zst_dnode.specs.declared.slot.Slot.TheVariants.{There};
 ghost use Rattle.zst_model.specs.declared.states.item.Change.{Change};
 ghost use Rattle.zst_model.specs.declared.states.item.Item.TheVariants.{At};
+ghost use Rattle.zst_model.specs.pools.Soundness.{DatedUpTo};
 ghost use Rattle.zst_model.specs.states.DatedState.{DatedState};
 ghost use Rattle.zst_model.specs.states.State.{IsSpill};
 ghost use Rattle.zst_tree.specs.Sets.{SetFits};
 ghost use Rattle.zst_objset.specs.Answers.{Changes, NotLimit};
 ghost use Rattle.zst_objset.specs.Changes.{changed, spill_put};
 ghost use Rattle.zst_objset.specs.Damage.{IsDamagedSet};
-ghost use Rattle.zst_objset.specs.SlotPuts.{MakesDnode, PutsSlot};
+ghost use Rattle.zst_objset.specs.SlotPuts.{DatesRise, MakesDnode, PutsSlot};
 ghost use Rattle.zst_objset.specs.Sets.{SetHolds};
 ghost use Rattle.zst_objset.specs.TightSets.{IsTightDnode, IsTightSlot, SetIsTight};
 ghost use Rattle.zst_objset.specs.SetChanges.{ChangesTightSet, PutsInSet, SetHas, SetHasTight};
@@ -68,7 +69,7 @@ pub(crate) fn put_there<D: Disk>(
         → PutsSlot (blocks_of io.old) before now object (object + 1) (There dnode)
         → Changes (SetHolds (blocks_of io.new) set.new) (Ok now) result }
     ensures tight { (before now : DatedState) → IsHonest io.new → SetIsTight (blocks_of io.old) set.old before
-        → PutsSlot (blocks_of io.old) before now object (object + 1) (There dnode) → IsTightSlot now object (There dnode)
+        → PutsSlot (blocks_of io.old) before now object (object + 1) (There dnode) → IsTightSlot now object (There dnode) → DatesRise before now
         → Changes (SetIsTight (blocks_of io.new) set.new) (Ok now) result }
     ensures puts { PutsInSet (io_of io.old) (io_of io.new) set.old set.new result }
 {
@@ -93,7 +94,7 @@ pub(crate) fn put_dnode<D: Disk>(
     ensures changed { (number : ℕ) (change : Change) (state : DatedState) → IsHonest io.new → SetHolds (blocks_of io.old) set.old state
         → MakesDnode (blocks_of io.old) number object change state dnode
         → Changes (SetHolds (blocks_of io.new) set.new) (changed number (At object change) state) result }
-    ensures tight { (number : ℕ) (change : Change) (state : DatedState) → IsHonest io.new → SetIsTight (blocks_of io.old) set.old state
+    ensures tight { (number : ℕ) (change : Change) (state : DatedState) → IsHonest io.new → SetIsTight (blocks_of io.old) set.old state → DatedUpTo number state
         → MakesDnode (blocks_of io.old) number object change state dnode → IsTightDnode number object change state dnode
         → Changes (SetIsTight (blocks_of io.new) set.new) (changed number (At object change) state) result }
     ensures puts { PutsInSet (io_of io.old) (io_of io.new) set.old set.new result }

@@ -3,6 +3,7 @@ ghost use Rattle.std.specs.Prelude.{◌+◌, ◌*◌, ◌/◌, ◌<◌, ◌≤�
 ghost use Rattle.zst_block.specs.IoStates.{IsHonest, blocks_of, disk_of, io_of, IsSparedBy};
 ghost use Rattle.zst_block.specs.IoCalls.{Works, stop_of as block_stop_of};
 ghost use Rattle.zst_model.specs.declared.refusals.faults.Quantity.TheVariants as quantities;
+ghost use Rattle.zst_model.specs.pools.Soundness.{DatedUpTo};
 ghost use Rattle.zst_model.specs.states.DatedState.{DatedState};
 ghost use Rattle.zst_model.specs.states.State.{number_bound};
 ghost use Rattle.zst_tree.specs.Indices.{Delivers};
@@ -38,7 +39,7 @@ fn free_in_leaf<D: Disk>(
     requires leaf { below ≤ 16 * (first / 16) + 16 }
     ensures frees { (state : DatedState) → IsHonest io.new → SetHolds (blocks_of io.old) set state
         → Delivers (λ made. SetHolds (blocks_of io.new) made (freed number first below state)) result }
-    ensures tight { (state : DatedState) → IsHonest io.new → SetIsTight (blocks_of io.old) set state
+    ensures tight { (state : DatedState) → IsHonest io.new → SetIsTight (blocks_of io.old) set state → DatedUpTo number state
         → IfOk result (λ made. SetIsTight (blocks_of io.new) made (freed number first below state)) }
     ensures makes { MakesSet 240 (io_of io.old) (io_of io.new) set result }
     ensures levels { SetFits set → IfOk result SetFits }
@@ -63,7 +64,7 @@ fn free_leaves<D: Disk>(
     requires bound { below ≤ 2 ^ 44 }
     ensures frees { (state : DatedState) → IsHonest io.new → SetHolds (blocks_of io.old) set state
         → Delivers (λ made. SetHolds (blocks_of io.new) made (freed number (16 * first) (16 * below) state)) result }
-    ensures tight { (state : DatedState) → IsHonest io.new → SetIsTight (blocks_of io.old) set state
+    ensures tight { (state : DatedState) → IsHonest io.new → SetIsTight (blocks_of io.old) set state → DatedUpTo number state
         → IfOk result (λ made. SetIsTight (blocks_of io.new) made (freed number (16 * first) (16 * below) state)) }
     ensures makes { MakesSet 320 (io_of io.old) (io_of io.new) set result }
     ensures levels { SetFits set → IfOk result SetFits }
@@ -93,7 +94,7 @@ fn free_range<D: Disk>(
     requires bound { below ≤ 2 ^ 48 }
     ensures frees { (state : DatedState) → IsHonest io.new → SetHolds (blocks_of io.old) set state
         → Delivers (λ made. SetHolds (blocks_of io.new) made (freed number first below state)) result }
-    ensures tight { (state : DatedState) → IsHonest io.new → SetIsTight (blocks_of io.old) set state
+    ensures tight { (state : DatedState) → IsHonest io.new → SetIsTight (blocks_of io.old) set state → DatedUpTo number state
         → IfOk result (λ made. SetIsTight (blocks_of io.new) made (freed number first below state)) }
     ensures damaged { IsHonest io.new → IfDamaged result (IsDamagedSet (IsSparedBy io.old) (disk_of io.old).size set) }
     ensures works { Works 800 16 (io_of io.old) (io_of io.new) (block_stop_of result) }
@@ -121,7 +122,7 @@ pub(crate) fn free_objects<D: Disk>(
     requires first { 0 < first }
     ensures changes { ChangesSet SetHas (objects_freed number first count) (LimitOnly quantities.Object number_bound (first + count))
         (IsDamagedSet (IsSparedBy io.old) (disk_of io.old).size set.old) 1280 16 (io_of io.old) (io_of io.new) set.old set.new result }
-    ensures tight { (state : DatedState) → IsHonest io.new → SetIsTight (blocks_of io.old) set.old state
+    ensures tight { (state : DatedState) → IsHonest io.new → SetIsTight (blocks_of io.old) set.old state → DatedUpTo number state
         → Changes (SetIsTight (blocks_of io.new) set.new) (objects_freed number first count state) result }
     ensures levels { SetFits set.old → SetFits set.new }
 {

@@ -7,6 +7,7 @@ ghost use Rattle.zst_block.specs.declared.ptr.Ptr.{Ptr};
 ghost use Rattle.zst_dnode.specs.Dnode.{DnodeFits};
 ghost use Rattle.zst_dnode.specs.Slot.{SlotFits};
 ghost use Rattle.zst_model.specs.pools.Pool.{untouched};
+ghost use Rattle.zst_model.specs.pools.Soundness.{DatedUpTo};
 ghost use Rattle.zst_model.specs.states.DatedState.{DatedState};
 ghost use Rattle.zst_model.specs.declared.refusals.faults.Quantity.TheVariants as quantities;
 ghost use Rattle.zst_model.specs.states.State.{Object, IsBonus, IsHead, IsSpill, index_bound, number_bound};
@@ -37,7 +38,8 @@ pub trait Objects<D: Disk> {
     ghost holds: { Self → Blocks → DatedState → Type 0 };
 
     /// It holds the state tightly: no slot of it tells a later date than its number or one of its
-    /// indices has. Each change keeps it so, of a state that is dated up to the change's number.
+    /// indices has, and no pointer a later one than all that the state has. Each change keeps it so,
+    /// of a state that is dated up to the change's number.
     ghost tight: { Self → Blocks → DatedState → Type 0 };
 
     /// The set fits the bytes in which it is named: its levels aren't too many.
@@ -148,8 +150,7 @@ pub trait Objects<D: Disk> {
         requires first { 0 < first }
         ensures changes { ChangesSet holds (objects_freed number first count) (LimitOnly quantities.Object number_bound (first + count))
             (slot_damage (IsSparedBy io.old) (disk_of io.old).size self.old) 1280 16 (io_of io.old) (io_of io.new) self.old self.new result }
-        // The state may have any dates.
-        ensures tight { (state : DatedState) → IsHonest io.new → tight self.old (blocks_of io.old) state
+        ensures tight { (state : DatedState) → IsHonest io.new → tight self.old (blocks_of io.old) state → DatedUpTo number state
             → Changes (tight self.new (blocks_of io.new)) (objects_freed number first count state) result }
         ensures levels { fits self.old → fits self.new };
 

@@ -5,7 +5,7 @@ ghost use Rattle.zst_dnode.specs.Slot.{SlotFits};
 ghost use Rattle.zst_model.specs.states.DatedState.{DatedState};
 ghost use Rattle.zst_tree.specs.Indices.{Delivers};
 ghost use Rattle.zst_tree.specs.Sets.{SetFits};
-ghost use Rattle.zst_objset.specs.SlotPuts.{PutsSlot};
+ghost use Rattle.zst_objset.specs.SlotPuts.{DatesRise, PutsSlot};
 ghost use Rattle.zst_objset.specs.Sets.{SetHolds};
 ghost use Rattle.zst_objset.specs.TightSets.{IsTightSlot, SetIsTight};
 ghost use Rattle.zst_objset.specs.SetChanges.{MakesSet};
@@ -43,7 +43,7 @@ pub(crate) fn put_in_leaf<D: Disk>(
         → PutsSlot (blocks_of io.old) snap after first below slot.now
         → Delivers (λ made. SetHolds (blocks_of io.new) made after) result }
     ensures tight { (snap after : DatedState) → IsHonest io.new → SetIsTight (blocks_of io.old) set snap
-        → PutsSlot (blocks_of io.old) snap after first below slot.now → ((k : ℕ) → first ≤ k → k < below → IsTightSlot after k slot.now)
+        → PutsSlot (blocks_of io.old) snap after first below slot.now → ((k : ℕ) → first ≤ k → k < below → IsTightSlot after k slot.now) → DatesRise snap after
         → IfOk result (λ made. SetIsTight (blocks_of io.new) made after) }
     ensures makes { MakesSet 240 (io_of io.old) (io_of io.new) set result }
     ensures levels { IfOk result SetFits }

@@ -200,7 +200,7 @@ module _ (image : List ℕ) (space more : FreeSectors) where
   SetIsTight-kept set snap none tight =
       let holds = tight.holds in
       SetIsTight-of image more set snap holds.map (SetHolds-kept set snap none holds) (TreeIs-kept set.tree holds.map holds.tree (λ sector reached. none sector (inl reached)))
-      (λ j less bytes held there spells s small. tight.tight j less bytes held (there_before j less (holds.leaves j less) (TreeIs-lawful (Has image space) set.tree holds.map holds.tree j less) bytes there) spells s small)
+      (λ j less bytes held there spells s small. tight.tight j less bytes held (there_before j less (holds.leaves j less) (TreeIs-lawful (Has image space) set.tree holds.map holds.tree j less) bytes there) spells s small) tight.tells
     where
       there_before : (j : ℕ) → j < 2 ^ 44 → LeafIs (Has image space) snap j (tight.holds.map j) → is_lawful (tight.holds.map j) ≡ true → (bytes : List ℕ) → Has image more (tight.holds.map j) bytes → Has image space (tight.holds.map j) bytes
       there_before j less (inl hole) lawful bytes there = absurd (no_block image more (tight.holds.map j) bytes hole.kind lawful there)

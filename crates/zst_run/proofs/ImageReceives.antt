@@ -1,7 +1,7 @@
 -- What a receive into an image leaves, from what opening the pool and feeding say.
 use Rattle.std.specs.Prelude.{Result, Ok, Err, IfErr}
 use Rattle.std.specs.List.{concat}
-use Rattle.std.proofs.Common.{◌≡◌, ◌≢◌, inl, inr, ℕ, ◌<◌, ◌≤◌, Bool, false, List, [], refl, sym, ap, ◌∙◌, subst, arith}
+use Rattle.std.proofs.Common.{◌≡◌, ◌≢◌, inl, inr, ℕ, ◌<◌, ◌≤◌, Bool, true, false, List, [], refl, sym, ap, ◌∙◌, subst, arith}
 use Rattle.std.proofs.lemmas.List.{append-nil}
 use Rattle.zst_outside.specs.Causes.{Rose-earlier}
 use Rattle.zst_outside.specs.Images.{DiskState, IsSynced, Leaves, Leaves-then, Leaves-weaker, OnlyReads}
@@ -17,7 +17,7 @@ use Rattle.zst_dir.specs.Rows.{Rows}
 use Rattle.zst_image.specs.Faults.{open_refusal}
 use Rattle.zst_uber.specs.DiskCalls as disk_calls
 use Rattle.zst_image.specs.OpenAnswers.{GivesPool, OpenAnswers}
-use Rattle.zst_image.specs.Reads.{ReadsAs, Rests, kept_rows}
+use Rattle.zst_image.specs.Reads.{ReadsAs, Rests, free_by, kept_rows}
 use Rattle.zst_image.specs.declared.pool_state.PoolState.{PoolState}
 use Rattle.zst_image.specs.declared.open_fault.OpenFault.{OpenFault}
 use Rattle.zst_image.specs.declared.open_fault.OpenFault.TheVariants as opens
@@ -31,7 +31,8 @@ use Rattle.zst_recv.specs.ReceiveSteps.{Waits}
 use Rattle.zst_recv.specs.Stages.{TellsTarget}
 use Rattle.zst_recv.specs.declared.fault.RecvFault.{RecvFault}
 use Rattle.zst_recv.specs.declared.fault.RecvFault.TheVariants as faults
-use Rattle.zst_run.specs.Receives.{IsDamagedReceive, IsOnTheWay, IsReceiveRefusal, ReceiveEnds, ReceiveRan, Receiving, SaysOfPlan, Stopped, CostMore}
+use Rattle.zst_send.proofs.SetDates.{rows_tell}
+use Rattle.zst_run.specs.Receives.{DatesAreTold, IsDamagedReceive, IsOnTheWay, IsReceiveRefusal, ReceiveEnds, ReceiveRan, Receiving, SaysOfPlan, Stopped, CostMore}
 use Rattle.zst_run.specs.ReceiveTurns.{ReadsAlong, Fed, IsEnd, IsReady, told}
 use Rattle.zst_run.specs.declared.receive.Receipt.{Receipt}
 use Rattle.zst_run.proofs.CommandLemmas.{images_after, open_alive, open_disk, rests_read}
@@ -173,6 +174,11 @@ module _ (here mid here' : DiskState) (input input' : SourceState) where
   refused_in (Ok lines) later is = tt
   refused_in (Err refusal) later is = whole_refusal refusal later is
 
+-- tight sets tell the dates of their heads
+told_target : (tight : Bool) (ask : RecvAsk) (uber : Uber) (rows : Rows) (pool : Pool) (image : List ℕ) → ReadsAs tight uber rows pool image → DatesAreTold tight ask rows pool → TellsTarget ask rows pool
+told_target true ask uber rows pool image is dates = λ there. rows_tell pool.number image (free_by uber) (kept_rows rows) pool is.described.rows_are
+told_target false ask uber rows pool image is dates = dates
+
 told_err : (old now : DiskState) (input input' : SourceState) (result : Result Receipt Refusal) → IfErr result (IsEnd old now input input') → IfErr (told result) (IsEnd old now input input')
 told_err old now input input' (Ok receipt) is = tt
 told_err old now input input' (Err refusal) is = is
@@ -185,12 +191,12 @@ module _ (ask : RecvAsk) (here mid here' : DiskState) (input input' : SourceStat
     (later : here.faults ≤ mid.faults) (falls : here'.honest → mid.honest) (f : Fed (λ tight. IsReady ask tight mid kept) kept mid here' ask input input' (told result)) (plans : (text : List ℕ) → Gave input input' text → SaysOfPlan kept.dir ask text (told result))
     (damaged : (sector : ℕ) (stated found : List ℕ) → here'.honest → result ≡ Err (refusals.Damaged sector stated found) → IsDamagedReceive mid kept.body ask.target sector stated found)
     (only : (c : List ℕ) → here.left_since here.moment c → here.images c) (now_left : (t : ℕ) (c : List ℕ) → t ≤ here'.moment → here'.images c → here'.left_since t c) where
-  ready : (tight : Bool) (uber : Uber) (rows : Rows) (pool : Pool) → here'.honest → ReadsAs tight uber rows pool here.seen → TellsTarget ask rows pool → IsReady ask tight mid kept pool
+  ready : (tight : Bool) (uber : Uber) (rows : Rows) (pool : Pool) → here'.honest → ReadsAs tight uber rows pool here.seen → DatesAreTold tight ask rows pool → IsReady ask tight mid kept pool
   ready tight uber rows pool honest is dates =
       let same = (there tight uber rows pool (falls honest) is).1 in
-      (at_rest tight rows pool (stands tight uber rows pool (falls honest) is) same, subst (λ (r : Rows). TellsTarget ask r pool) (sym same) dates)
+      (at_rest tight rows pool (stands tight uber rows pool (falls honest) is) same, subst (λ (r : Rows). TellsTarget ask r pool) (sym same) (told_target tight ask uber rows pool here.seen is dates))
 
-  moments : (tight : Bool) (uber : Uber) (rows : Rows) (pool : Pool) → here'.honest → ReadsAs tight uber rows pool here.seen → TellsTarget ask rows pool → Leaves here here' (IsOnTheWay tight here ask pool f.pieces)
+  moments : (tight : Bool) (uber : Uber) (rows : Rows) (pool : Pool) → here'.honest → ReadsAs tight uber rows pool here.seen → DatesAreTold tight ask rows pool → Leaves here here' (IsOnTheWay tight here ask pool f.pieces)
   moments tight uber rows pool honest is dates =
       Leaves-then here mid here' (IsOnTheWay tight here ask pool f.pieces) (ReadsAlong tight ask pool f.pieces)
       (Leaves-weaker here mid here.images (IsOnTheWay tight here ask pool f.pieces) reads.time (λ c image. inl image)) (f.says tight pool honest (ready tight uber rows pool honest is dates)).moments (λ c along. inr along)

@@ -29,14 +29,13 @@ use Rattle.zst_send.specs.Openings.{built, is_plain}
 use Rattle.zst_send.specs.Sends.{begun_text}
 use Rattle.zst_recv.specs.Feeds.{receives}
 use Rattle.zst_recv.specs.ReceiveSteps.{left_by, pool_of}
-use Rattle.zst_recv.specs.Stages.{TellsTarget}
 use Rattle.zst_replication.specs.Histories.{ReceivesRemember, StillRemembers}
 use Rattle.zst_replication.specs.MatchingBases.{BasesMatch, OneMoreIsKept, PlainCanBeSent}
 use Rattle.zst_replication.specs.Outcomes.{HasNothing, HasOneMore, Progress, base_name, course_from}
 use Rattle.zst_replication.specs.Replicas.{AreOfStream, CutLeavesNothing, IsSendable, LeftIsKept, MatchesBase, SentIsReceived, WaitedForEach}
 use Rattle.zst_replication.specs.Replicas as replicas
 use Rattle.zst_replication.specs.Soundness.{ReceivesKeepSound}
-use Rattle.zst_run.specs.Receives.{IsOnTheWay, Keeps, ReceiveEnds, Received, Receiving, Refused, Stopped, Waited}
+use Rattle.zst_run.specs.Receives.{DatesAreTold, IsOnTheWay, Keeps, ReceiveEnds, Received, Receiving, Refused, Stopped, Waited}
 use Rattle.zst_run.specs.Replication.{IsReadOf, IsReceiver, IsSender, RefusedLeavesNothing, SentSnapshotStands, SoundStaysSound, SourcesStillRemember, StopsAreProgress}
 use Rattle.zst_run.specs.Replies.{Replied, Replies}
 use Rattle.zst_run.specs.declared.send.SendRequest.{SendRequest}
@@ -204,7 +203,7 @@ EachImage Holds tight there there' =
 
 pub each_image : (Holds : Pool → Type 0) (there there' : DiskState) (tight : Bool) (ask : RecvAsk) (uber : Uber) (rows : Rows) (into : Pool) (result : Result (Unit {0}) Refusal)
     (out out' : SinkState) (input input' : SourceState)
-    → there'.honest → ReadsAs tight uber rows into there.seen → TellsTarget ask rows into → (received : Replies (Receiving ask there there' input input') out out' result)
+    → there'.honest → ReadsAs tight uber rows into there.seen → DatesAreTold tight ask rows into → (received : Replies (Receiving ask there there' input input') out out' result)
     → ((n : ℕ) → Holds (kept_of (pool_of (receives ask into (take n received.does.pieces))))) → EachImage Holds tight there there'
 each_image Holds there there' tight ask uber rows into result out out' input input' honest reads tells received holds =
     let run = received.does in

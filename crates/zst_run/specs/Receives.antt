@@ -1,5 +1,5 @@
 -- What a receive reads, what it leaves of an image, and why it ends.
-use Rattle.std.specs.Prelude.{ℕ, ◌+◌, ◌-◌, ◌≡◌, ◌⊎◌, ◌<◌, ◌≤◌, Bool, IsTrue, IfErr, List, [], ◌∷◌, ◌++◌, length, take, codes, decimal, Result, Ok, Err}
+use Rattle.std.specs.Prelude.{ℕ, ◌+◌, ◌-◌, ◌≡◌, ◌⊎◌, ◌<◌, ◌≤◌, Bool, true, false, IsTrue, IfErr, List, [], ◌∷◌, ◌++◌, length, take, codes, decimal, Result, Ok, Err}
 use Rattle.std.specs.List.{concat}
 use Rattle.zst_outside.specs.Causes.{Rose}
 use Rattle.zst_outside.specs.Images.{DiskState, Leaves, OnlyReads}
@@ -199,19 +199,24 @@ pub record SaysOfText (pieces : List (List ℕ)) (input input' : SourceState) (a
   pub cut : (at : ℕ) → answer ≡ Err (refusals.Stream (Truncated at)) → (at ≡ length (concat pieces)) × IsTrue input'.ended × NoFault input input'
   pub whole : (lines : List (List ℕ)) → answer ≡ Ok lines → (reading (concat pieces)).outcome ≡ complete
 
+-- the sets of a pool tell the dates that a plan may look at: of tight ones nothing has to be said
+abbrev pub DatesAreTold : (tight : Bool) → RecvAsk → Rows → Pool → Type 0
+DatesAreTold true ask rows pool = Unit {0}
+DatesAreTold false ask rows pool = TellsTarget ask rows pool
+
 -- A receive of what is asked, into an image: some pieces were read of the input, each behind pieces that left the receive waiting. At every moment,
 -- and in the end, each image stood before it or reads as what stands after some of the pieces, by tight object sets where it stood so.
 pub record Receiving (ask : RecvAsk) (here here' : DiskState) (input input' : SourceState) (answer : Result (List (List ℕ)) Refusal) : Type 0 where
   pub pieces : List (List ℕ)
   pub are_pieces : ArePieces pieces
   pub consumed : Gave input input' (concat pieces)
-  pub wanted : (tight : Bool) (uber : Uber) (rows : Rows) (pool : Pool) → here'.honest → ReadsAs tight uber rows pool here.seen → TellsTarget ask rows pool
+  pub wanted : (tight : Bool) (uber : Uber) (rows : Rows) (pool : Pool) → here'.honest → ReadsAs tight uber rows pool here.seen → DatesAreTold tight ask rows pool
       → (n : ℕ) → n < length pieces → (after : Pool) × (stage : Stage) × (receives ask pool (take n pieces) ≡ Goes after stage) × IsOpen stage
-  pub moments : (tight : Bool) (uber : Uber) (rows : Rows) (pool : Pool) → here'.honest → ReadsAs tight uber rows pool here.seen → TellsTarget ask rows pool
+  pub moments : (tight : Bool) (uber : Uber) (rows : Rows) (pool : Pool) → here'.honest → ReadsAs tight uber rows pool here.seen → DatesAreTold tight ask rows pool
       → Leaves here here' (IsOnTheWay tight here ask pool pieces)
-  pub images : (tight : Bool) (uber : Uber) (rows : Rows) (pool : Pool) → here'.honest → ReadsAs tight uber rows pool here.seen → TellsTarget ask rows pool
+  pub images : (tight : Bool) (uber : Uber) (rows : Rows) (pool : Pool) → here'.honest → ReadsAs tight uber rows pool here.seen → DatesAreTold tight ask rows pool
       → (c : List ℕ) → here'.images c → IsOnTheWay tight here ask pool pieces c
-  pub ends : (tight : Bool) (uber : Uber) (rows : Rows) (pool : Pool) → here'.honest → ReadsAs tight uber rows pool here.seen → TellsTarget ask rows pool
+  pub ends : (tight : Bool) (uber : Uber) (rows : Rows) (pool : Pool) → here'.honest → ReadsAs tight uber rows pool here.seen → DatesAreTold tight ask rows pool
       → ReceiveEnds tight ask pool pieces here' input input' answer
   pub opened : here'.honest → SaysOfOpening (OnlyReads here here' × (input' ≡ input)) here (ReceiveRan ask pieces here answer) answer
   pub text : SaysOfText pieces input input' answer

@@ -14,4 +14,4 @@ mod Sizes
 mod KeptBlocks
 mod WalkSteps
 mod TouchedItems
-mod SetDates
+pub mod SetDates

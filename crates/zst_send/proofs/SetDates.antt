@@ -1,8 +1,5 @@
 -- Tight sets tell the dates of what they hold.
-use Rattle.std.proofs.Common.{◌≡◌, inl, inr, ⊎_elim, ℕ, zero, suc, ◌+◌, ◌*◌, ◌/◌, ◌%◌, ◌^◌, ◌<◌, ◌≤◌, ◌||◌, ◌&&◌, nat_lt, Bool, true, false, List, [], ◌∷◌, Some, refl, sym, ◌∙◌, subst, arith}
-use Rattle.std.specs.Prelude.{All}
-use Rattle.std.proofs.Math.Nat.{mul-le-mul_right}
-use Rattle.std.proofs.lemmas.List.Elements.{All-head, All-tail}
+use Rattle.std.proofs.Common.{◌≡◌, inl, inr, ⊎_elim, ℕ, ◌+◌, ◌*◌, ◌/◌, ◌%◌, ◌^◌, ◌<◌, ◌≤◌, ◌||◌, ◌&&◌, nat_lt, Bool, true, false, List, [], ◌∷◌, Some, refl, sym, ◌∙◌, subst, arith}
 use Rattle.std.proofs.lemmas.Bool.{and_from, and_parts, and_right, cases_lt, le-ltb, lt-ltb, ltb-true, or_from, or_left, or_right, true≢false}
 use Rattle.zst_space.specs.FreeSectors.{FreeSectors}
 use Rattle.zst_block.specs.Blocks.{Has}
@@ -21,42 +18,15 @@ use Rattle.zst_model.specs.states.DatedState.{DatedState}
 use Rattle.zst_model.specs.states.State.{index_bound, is_number, number_bound}
 use Rattle.zst_model.proofs.IndexTests.{any_passes, none_pass}
 use Rattle.zst_objset.specs.Dnodes.{SlotIs, tree_of}
-use Rattle.zst_objset.specs.Sets.{IsBounded, LeafIs, SetHolds, date_in, latest}
-use Rattle.zst_objset.specs.TightSets.{IsTightLeaf, SetIsTight}
-use Rattle.zst_objset.proofs.LeafLaws.{is_number_at}
-use Rattle.zst_objset.proofs.TightLaws.{tight_dated}
+use Rattle.zst_objset.specs.Sets.{IsBounded, LeafIs, SetHolds, date_in}
+use Rattle.zst_objset.specs.TightSets.{SetIsTight}
 use Rattle.zst_traverse.proofs.SlotDates.{latest-bounds}
 use Rattle.zst_plan.specs.Receipts.{TellsDates, TellsHead, latest_date}
 use Rattle.zst_plan.specs.RecvPlan.{is_dated_after}
 use Rattle.zst_tree.specs.Changes.{TreeDatedUpTo}
-use Rattle.zst_tree.specs.Indices.{Blocks, Map, Subtree, child, span}
+use Rattle.zst_tree.specs.Indices.{Blocks}
 use Rattle.zst_tree.specs.declared.tree.ObjSet.{ObjSet}
 use Rattle.zst_tree.proofs.TreeDates.{all_dated}
-use Rattle.zst_tree.proofs.QuietRanges.{greatest-least}
-use Rattle.zst_tree.proofs.Span.{span-pos, span-suc, span_limit, span_zero}
-
--- a pointer's number is no later than what is below it
-below_upto : (has : Blocks) (number level : ℕ) (ptr : Ptr) (base : ℕ) (map : Map) → ((i : ℕ) → base ≤ i → i < base + span level → (map i).number ≤ number) → Subtree has level ptr base map → ptr.number ≤ number
-unfolding Subtree
-below_upto has number zero ptr base map all is = subst (λ (p : Ptr). p.number ≤ number) is.1 (all base (omega arith) (omega (arith, span_zero)))
-below_upto has number (suc level) ptr base map all (inl flat) =
-    let some = span-pos (suc level) in
-    subst (λ (p : Ptr). p.number ≤ number) (flat.2.is base (omega arith) (omega (arith, some))) (all base (omega arith) (omega (arith, some)))
-below_upto has number (suc level) ptr base map all (inr (bytes, node, below)) =
-    omega (
-      arith,
-      node.number_is,
-      greatest-least bytes 128 number (λ k less.
-          below_upto has number level (child bytes k) (base + k * span level) map (λ i over under.
-          let most : (k + 1) * span level ≤ 128 * span level = mul-le-mul_right (span level) (omega arith) in
-          all i (omega arith) (omega (arith, most, span-suc level, under))) (below k less)),
-    )
-
--- the latest date of some slots is no later than a number that bounds each, and bounds each
-latest_least : (slots : ℕ → Slot) (count number : ℕ) → ((s : ℕ) → s < count → date_in (slots s) ≤ number) → latest slots count ≤ number
-unfolding latest
-latest_least slots zero number each = omega arith
-latest_least slots (suc count) number each = omega (arith, each count (omega arith), latest_least slots count number (λ s less. each s (omega arith)))
 
 module _ (number : ℕ) (snap : DatedState) where
   -- whether an index of a number is dated after this number
@@ -122,14 +92,6 @@ module _ (has : Blocks) (number : ℕ) (snap : DatedState) where
   leaf_early j ptr (inl hole) early s under is = slot_early (16 * j + s) (Absent ptr.number) (hole.absent s under is) early
   leaf_early j ptr (inr leaf) early s under is = slot_early (16 * j + s) (leaf.slots s) (leaf.slots_are.numbers s under is) (omega (arith, latest-bounds leaf.slots 16 s under, leaf.names.number, early))
 
-  -- a tight leaf's pointer is no later than the state
-  leaf_told : DatedUpTo number snap → (j : ℕ) → j < 2 ^ 44 → (ptr : Ptr) → LeafIs has snap j ptr → IsTightLeaf has snap j ptr → ptr.number ≤ number
-  leaf_told dated j less ptr (inl hole) tight =
-      let is = hole.absent 1 (omega arith) (is_number_at (16 * j + 1) (omega arith) (omega arith)) in
-      omega (arith, is.date_is, dated.numbers (16 * j + 1))
-  leaf_told dated j less ptr (inr leaf) tight =
-      omega (arith, leaf.names.number, latest_least leaf.slots 16 number (λ s under. tight_dated number snap (16 * j + s) (leaf.slots s) dated (tight leaf.bytes leaf.slots leaf.names.there leaf.names.spells s under)))
-
   -- where the tree of a set isn't dated after a number, its state isn't
   tree_early : (set : ObjSet) → SetHolds has set snap → TreeDatedUpTo number set.tree → DatedUpTo number snap
   unfolding number_bound
@@ -154,45 +116,24 @@ module _ (has : Blocks) (number : ℕ) (snap : DatedState) where
       of_index k i false e = omega (arith, holds.bounded.no_numbers_index k i e)
       of_index k i true e = ⊎_elim (λ inside. (leaf k e).1 i inside) (λ behind. omega (arith, holds.bounded.no_index k i behind)) (cases_lt i index_bound)
 
-  -- and where the state of a tight set of at most six levels isn't, its tree isn't
-  tree_told : (set : ObjSet) → SetIsTight has set snap → set.tree.levels ≤ 6 → DatedUpTo number snap → TreeDatedUpTo number set.tree
-  tree_told set is levels dated = (
-    (let end = span set.tree.levels in
-        let at = told end (omega (arith, short)) in
-        subst (λ (p : Ptr). p.number ≤ number) (holds.tree.stands.past end (omega arith)) at),
-    below_upto has number set.tree.levels set.tree.root 0 holds.tree.whole (λ i over under. told i (omega (arith, under, short))) holds.tree.stands.below,
-  )
-    where
-      holds : SetHolds has set snap
-      holds = is.holds
-
-      short : span set.tree.levels < 2 ^ 44
-      short = omega (arith, span-suc set.tree.levels, span_limit (suc set.tree.levels) (omega arith))
-
-      told : (j : ℕ) → j < 2 ^ 44 → (holds.tree.whole j).number ≤ number
-      told j less = subst (λ (p : Ptr). p.number ≤ number) (holds.tree.agrees j less) (leaf_told dated j less (holds.map j) (holds.leaves j less) (is.tight j less))
-
-  -- so the set tells whether the state is dated after the number
-  set_tells : (set : ObjSet) → SetIsTight has set snap → set.tree.levels ≤ 6 → nat_lt number (latest_date set) ≡ is_dated_after number snap
-  set_tells set is levels = go (is_dated_after number snap) refl
+  -- so a tight set, whose tree isn't where its state isn't, tells whether the state is dated after the number
+  set_tells : (set : ObjSet) → SetIsTight has set snap → nat_lt number (latest_date set) ≡ is_dated_after number snap
+  set_tells set is = go (is_dated_after number snap) refl
     where
       go : (b : Bool) → is_dated_after number snap ≡ b → nat_lt number (latest_date set) ≡ b
       go false none =
-          let told = tree_told set is levels (none_dated number snap is.holds.bounded none) in
+          let told = is.tells number (none_dated number snap is.holds.bounded none) in
           le-ltb _ _ (omega (arith, told.0, told.1))
       go true late = ⊎_elim (λ above. lt-ltb _ _ above)
           (λ early. absurd (true≢false (sym late ∙ dated_none number snap (tree_early set is.holds (omega (arith, early), omega (arith, early))))))
           (cases_lt number (latest_date set))
 
 -- and the rows of a pool of tight sets tell the dates of its heads
-pub rows_tell : (number : ℕ) (image : List ℕ) (space : FreeSectors) (rows : Rows) (pool : Pool) → RunsBy (Some number) (Has image space) rows pool → All (λ dataset. dataset.head.tree.levels ≤ 6) rows.datasets → TellsDates rows pool
-rows_tell number image space rows pool runs small = go rows.datasets pool.datasets small runs.datasets
+pub rows_tell : (number : ℕ) (image : List ℕ) (space : FreeSectors) (rows : Rows) (pool : Pool) → RunsBy (Some number) (Has image space) rows pool → TellsDates rows pool
+rows_tell number image space rows pool runs = go rows.datasets pool.datasets runs.datasets
   where
-    go : (xs : List Dataset) (ys : List plain.Dataset) → All (λ (dataset : Dataset). dataset.head.tree.levels ≤ 6) xs → Match (DatasetIs (Some number) (Has image space)) xs ys → Match TellsHead xs ys
-    go [] [] few is = is
-    go [] (y ∷ ys) few is = is
-    go (x ∷ xs) [] few is = is
-    go (x ∷ xs) (y ∷ ys) few is =
-        let levels = All-head (λ (dataset : Dataset). dataset.head.tree.levels ≤ 6) x xs few in
-        let rest = go xs ys (All-tail (λ (dataset : Dataset). dataset.head.tree.levels ≤ 6) x xs few) is.1 in
-        ((λ after. set_tells (Has image space) after y.head x.head is.0.head.0 levels), rest)
+    go : (xs : List Dataset) (ys : List plain.Dataset) → Match (DatasetIs (Some number) (Has image space)) xs ys → Match TellsHead xs ys
+    go [] [] is = is
+    go [] (y ∷ ys) is = is
+    go (x ∷ xs) [] is = is
+    go (x ∷ xs) (y ∷ ys) is = ((λ after. set_tells (Has image space) after y.head x.head is.0.head.0), go xs ys is.1)

@@ -1,5 +1,5 @@
 //! What ties sends to one another.
-ghost use Rattle.std.specs.Prelude.{◌≤◌, ℕ, List, Some, All};
+ghost use Rattle.std.specs.Prelude.{ℕ, List, Some};
 ghost use Rattle.zst_space.specs.FreeSectors.{FreeSectors};
 ghost use Rattle.zst_block.specs.Blocks.{Has};
 ghost use Rattle.zst_dir.specs.Rows.{Rows};
@@ -23,9 +23,8 @@ pub fn equal_views_are_sent_alike()
     ensures rest { SameViewsSameRest }
 {}
 
-/// Tight sets tell the dates of a pool's heads to a plan of a receive, where no head's set has more
-/// than six levels: the pointers of a seventh stand for numbers too that no object has.
+/// Tight sets tell the dates of a pool's heads to a plan of a receive.
 pub fn tight_sets_tell_dates()
     ensures { (number : ℕ) (image : List ℕ) (space : FreeSectors) (rows : Rows) (pool : Pool) → RunsBy (Some number) (Has image space) rows pool
-        → All (λ dataset. dataset.head.tree.levels ≤ 6) rows.datasets → TellsDates rows pool }
+        → TellsDates rows pool }
 {}

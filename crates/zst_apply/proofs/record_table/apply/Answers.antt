@@ -79,7 +79,7 @@ returns-in-FreeObjects g c = record {
       (set_changed_by (FreeObjects first count) (objects_freed c.args.number numbers.result.first numbers.result.count) result
       (λ index state honest holds. freed_received c.args.number index first count numbers.result.first numbers.result.count state holds.lawful within_numbers (cut_same first count numbers.result.first numbers.result.count numbers.ensures.same))
       (inside quantities.Object number_bound (numbers.result.first + numbers.result.count) result within_numbers) (slots_told _ _ c.args.set.now result)
-      freed.changes (λ state honest tight dated. freed.tight state honest tight) freed.levels)
+      freed.changes (λ state honest tight dated. freed.tight state honest tight dated) freed.levels)
       (Works-block freed.changes.keeps.works));
 }
 

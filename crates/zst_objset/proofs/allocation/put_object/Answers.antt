@@ -61,7 +61,7 @@ returns-clause-changes g c = record {
       let makes = c.made_dnode.ensures.made mid.seen c.dnode_at.new.io.space c.args.object state (is_number_at c.args.object (omega arith) (omega arith)) (c.in-Ok.ensures.found state was_honest tight.holds) in
       let change = Put c.args.head c.args.bonus.now c.args.keep_spill 0 in
       let early = c.made_dnode.ensures.dated (found_dated c.args.number state c.args.object _ dated (c.in-Ok.ensures.tight state was_honest tight)) in
-      rw (in_numbers-within (c.args.object + 1) (changed c.args.number (At c.args.object change) state) (omega arith)) (c.put_dnode.ensures.tight c.args.number change state honest grown makes (inl early));
+      rw (in_numbers-within (c.args.object + 1) (changed c.args.number (At c.args.object change) state) (omega arith)) (c.put_dnode.ensures.tight c.args.number change state honest grown dated makes (inl early));
   levels = c.put_dnode.ensures.puts.levels;
 }
 

@@ -115,7 +115,7 @@ returns g c = record {
         (c.with_tree.ensures.made ∙ ap (with_tree c.in-Ok.dnode c.in-Ok-put_data.tree) c.max-end.ensures) in
         let is = sym (one_written c.args.number c.args.object c.in-Ok.dnode.block_size c.args.index c.args.bytes.now state may.whole) ∙ ends.is in
         subst (λ (definition : Result DatedState Refusal). Changes (SetIsTight (blocks_of c.put_there.new.io) c.put_there.new.set) definition c.put_there.result) (sym is)
-        (c.put_there.ensures.tight state ends.now honest grown ends.puts (ends.tight dated was early));
+        (c.put_there.ensures.tight state ends.now honest grown ends.puts (ends.tight dated was early) (ends.rises dated));
     levels = c.put_there.ensures.puts.levels;
   };
 }

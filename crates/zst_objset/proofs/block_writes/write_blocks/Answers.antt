@@ -102,7 +102,7 @@ returns g c = record {
         (is_number_at c.args.object c.requires.object c.in-Ok.ensures.bound) (omega (arith, c.if-dnode-size.false)) c.requires.some (run_begins_over (blocks_of c.object_there.new.io) (blocks_of c.put_blocks-outcome.new.io) putting state c.args.object c.in-Ok.dnode tight.holds.lawful tight.holds.bounded there)
         (may_write c.args.size c.args.index c.args.count c.args.bytes.now c.requires.run.long_is c.requires.even c.requires.run.inside) (c.in-Ok-outcome.ensures.puts there.map was_put had) (c.with_tree.ensures.made ∙ ap (with_tree c.in-Ok.dnode c.in-Ok-outcome.tree) c.max-end.ensures) in
         subst (λ (definition : Result DatedState Refusal). Changes (SetIsTight (blocks_of c.put_there.new.io) c.put_there.new.set) definition c.put_there.result) (sym ends.is)
-        (c.put_there.ensures.tight state ends.now honest grown ends.puts (ends.tight dated was early));
+        (c.put_there.ensures.tight state ends.now honest grown ends.puts (ends.tight dated was early) (ends.rises dated));
     levels = c.put_there.ensures.puts.levels;
   };
 }

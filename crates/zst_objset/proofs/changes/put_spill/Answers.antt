@@ -84,7 +84,7 @@ returns g c = record {
         (spill_fits c.in-Ok.dnode c.in-Ok-write.ptr c.args.number c.in-Ok.ensures.ranges made.fits made.date kind size) in
         let was = tight_dated c.args.number state c.args.object (There c.in-Ok.dnode) dated (c.in-Ok.ensures.tight state (wrote.works.fills.honest was_written) tight) in
         let early = subst (λ (dnode : Dnode). date_in (There dnode) ≤ c.args.number) (sym made.made) (omega (arith, was)) in
-        c.put_dnode.ensures.tight c.args.number (Spill c.args.bytes.now) state honest grown makes (inl early);
+        c.put_dnode.ensures.tight c.args.number (Spill c.args.bytes.now) state honest grown dated makes (inl early);
     levels = c.put_dnode.ensures.puts.levels;
   };
 }

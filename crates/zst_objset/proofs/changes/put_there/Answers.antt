@@ -37,14 +37,14 @@ pub returns-in-Err-clause-changed : goal.returns-in-Err-clause-changed
 returns-in-Err-clause-changed g c = λ before now honest holds puts. stops (Ok now) now c.in-Err.fault refl (c.in-Err.ensures.put before now honest holds puts)
 
 pub returns-in-Ok-clause-tight : goal.returns-in-Ok-clause-tight
-returns-in-Ok-clause-tight g c = λ before now honest tight puts slot_tight. (
+returns-in-Ok-clause-tight g c = λ before now honest tight puts slot_tight rises. (
   now,
   refl,
-  c.in-Ok.ensures.tight before now honest tight puts (λ k from below. subst (λ (n : ℕ). IsTightSlot now n (There c.args.dnode)) (omega (arith, from, below)) slot_tight),
+  c.in-Ok.ensures.tight before now honest tight puts (λ k from below. subst (λ (n : ℕ). IsTightSlot now n (There c.args.dnode)) (omega (arith, from, below)) slot_tight) rises,
 )
 
 pub returns-in-Err-clause-tight : goal.returns-in-Err-clause-tight
-returns-in-Err-clause-tight g c = λ before now honest tight puts slot_tight. returns-in-Err-clause-changed g c before now honest tight.holds puts
+returns-in-Err-clause-tight g c = λ before now honest tight puts slot_tight rises. returns-in-Err-clause-changed g c before now honest tight.holds puts
 
 pub put_in_leaf-requires-clause-first : goal.put_in_leaf-requires-clause-first
 put_in_leaf-requires-clause-first g c = c.requires.object.0

@@ -1,6 +1,6 @@
 use Rattle.zst_block.proofs.IoCallLemmas.{Looks-none, Works-looks}
 use Rattle.zst_objset.proofs.FreeLaws.{freed_puts}
-use Rattle.zst_objset.proofs.TightLaws.{freed_tight}
+use Rattle.zst_objset.proofs.TightLaws.{freed_rises, freed_tight}
 use Rattle.std.proofs.Common.{subst, sym}
 use Rattle.zst_block.specs.IoStates.{blocks_of}
 use Rattle.zst_objset.specs.TightSets.{SetIsTight}
@@ -19,10 +19,10 @@ returns-clause-frees g c = λ state honest holds.
     c.put_in_leaf.ensures.put state _ honest holds (freed_puts c.args.number c.args.first c.args.below state _ holds.lawful holds.bounded)
 
 pub returns-clause-tight : goal.returns-clause-tight
-returns-clause-tight g c = λ state honest tight.
+returns-clause-tight g c = λ state honest tight dated.
     let puts = freed_puts c.args.number c.args.first c.args.below state _ tight.holds.lawful tight.holds.bounded in
-    c.put_in_leaf.ensures.tight state _ honest tight puts (freed_tight _ c.args.number c.args.first c.args.below state puts c.requires.first c.requires.bound)
+    c.put_in_leaf.ensures.tight state _ honest tight puts (freed_tight _ c.args.number c.args.first c.args.below state puts c.requires.first c.requires.bound) (freed_rises c.args.number c.args.first c.args.below state dated)
 
 pub returns-then-first-below-clause-tight : goal.returns-then-first-below-clause-tight
-returns-then-first-below-clause-tight g c = λ state honest tight.
+returns-then-first-below-clause-tight g c = λ state honest tight dated.
     subst (SetIsTight (blocks_of c.args.io.now) c.args.set) (sym (freed-none c.args.number c.args.first c.args.below state c.if-first-below.true)) tight

@@ -1,4 +1,4 @@
-use Rattle.std.proofs.Common.{◌*◌, arith}
+use Rattle.std.proofs.Common.{◌*◌, ◌<◌, arith}
 use Rattle.std.proofs.lemmas.Result.{err_from_is_err_and}
 use Rattle.zst_block.specs.Ptr.{hole_of}
 use Rattle.zst_block.proofs.BlocksLaws.{KeepsBlocks-fills}
@@ -7,7 +7,7 @@ use Rattle.std.proofs.Common.{refl}
 use Rattle.zst_objset.proofs.DamageLaws.{changed_within, node_told, tall_told}
 use Rattle.zst_objset.proofs.SetChangeLaws.{works_told}
 use Rattle.zst_block.proofs.IoCallLemmas.{Looks-none, Works-looks}
-use Rattle.zst_objset.proofs.TightLaws.{holes_tight}
+use Rattle.zst_objset.proofs.TightLaws.{freed_rises, holes_tight}
 use Rattle.std.proofs.Common.{subst, sym}
 use Rattle.zst_block.specs.IoStates.{blocks_of}
 use Rattle.zst_objset.specs.TightSets.{SetIsTight}
@@ -65,29 +65,31 @@ returns-clause-frees g c = λ state honest holds.
     (punched.puts holds.map (with_holes holds.map c.args.first c.args.below hole) honest holds.tree (Puts-holes holds.map c.args.first c.args.below _ hole (omega arith))))
 
 pub returns-clause-tight : goal.returns-clause-tight
-returns-clause-tight g c = λ state honest tight.
+returns-clause-tight g c = λ state honest tight dated.
     let hole = hole_of c.args.number in
     let punched = c.in_ok-punch.ensures.changes in
     let holds = tight.holds in
+    let some : c.args.first < c.args.below = omega (arith, c.if-first-below.false, c.requires.order) in
     rw c.set_over.ensures.made (holes_tight _ _ _ _ (KeepsBlocks-fills _ _ _ _ punched.works.fills) c.args.set (record { tree = c.punch.new.self }) state _ c.args.first c.args.below c.args.number
     (freed_puts c.args.number (16 * c.args.first) (16 * c.args.below) state _ holds.lawful holds.bounded) tight punched.levels
-    (punched.puts holds.map (with_holes holds.map c.args.first c.args.below hole) honest holds.tree (Puts-holes holds.map c.args.first c.args.below _ hole (omega arith))))
+    (punched.puts holds.map (with_holes holds.map c.args.first c.args.below hole) honest holds.tree (Puts-holes holds.map c.args.first c.args.below _ hole (omega arith)))
+    c.requires.first some c.requires.bound (freed_rises c.args.number (16 * c.args.first) (16 * c.args.below) state dated) (λ number early date. c.in_ok-punch.ensures.dated number holds.map honest holds.tree early (λ more. date)))
 
 pub returns-then-first-below-clause-tight : goal.returns-then-first-below-clause-tight
-returns-then-first-below-clause-tight g c = λ state honest tight.
+returns-then-first-below-clause-tight g c = λ state honest tight dated.
     subst (SetIsTight (blocks_of c.args.io.now) c.args.set) (sym (freed-none c.args.number (16 * c.args.first) (16 * c.args.below) state (omega (arith, c.if-first-below.true)))) tight
 
 pub returns-then-first-below-clause-levels : goal.returns-then-first-below-clause-levels
 returns-then-first-below-clause-levels g c = λ fits. fits
 
 pub returns-then-set-gt7-clause-tight : goal.returns-then-set-gt7-clause-tight
-returns-then-set-gt7-clause-tight g c = λ state honest tight. tt
+returns-then-set-gt7-clause-tight g c = λ state honest tight dated. tt
 
 pub returns-then-set-gt7-clause-levels : goal.returns-then-set-gt7-clause-levels
 returns-then-set-gt7-clause-levels g c = λ fits. tt
 
 pub returns-in_err-punch-clause-tight : goal.returns-in_err-punch-clause-tight
-returns-in_err-punch-clause-tight g c = λ state honest tight.
+returns-in_err-punch-clause-tight g c = λ state honest tight dated.
     let p = err_from_is_err_and c.from_residual.result c.from_residual.ensures.1 in
     rw p.1 tt
 

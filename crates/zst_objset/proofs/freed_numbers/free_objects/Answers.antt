@@ -32,14 +32,14 @@ returns-in-Err-clause-changes g c =
     tt tt c.in-Err.ensures.damaged (Works-more (omega arith) c.in-Err.ensures.works)
 
 pub returns-then-saturating_add-gt-NUMBER_BOUND-clause-tight : goal.returns-then-saturating_add-gt-NUMBER_BOUND-clause-tight
-returns-then-saturating_add-gt-NUMBER_BOUND-clause-tight g c = λ state honest tight. objects_freed_far c.args.number c.args.first c.args.count state (omega arith)
+returns-then-saturating_add-gt-NUMBER_BOUND-clause-tight g c = λ state honest tight dated. objects_freed_far c.args.number c.args.first c.args.count state (omega arith)
 
 pub returns-in-Ok-clause-tight : goal.returns-in-Ok-clause-tight
-returns-in-Ok-clause-tight g c = λ state honest tight.
-    (_, objects_freed_is c.args.number c.args.first c.args.count state (omega arith), c.in-Ok.ensures.tight state honest tight)
+returns-in-Ok-clause-tight g c = λ state honest tight dated.
+    (_, objects_freed_is c.args.number c.args.first c.args.count state (omega arith), c.in-Ok.ensures.tight state honest tight dated)
 
 pub returns-in-Err-clause-tight : goal.returns-in-Err-clause-tight
-returns-in-Err-clause-tight g c = λ state honest tight.
+returns-in-Err-clause-tight g c = λ state honest tight dated.
     stops _ _ c.in-Err.fault (objects_freed_is c.args.number c.args.first c.args.count state (omega arith)) (c.in-Err.ensures.frees state honest tight.holds)
 
 pub returns-then-saturating_add-gt-NUMBER_BOUND-clause-levels : goal.returns-then-saturating_add-gt-NUMBER_BOUND-clause-levels

@@ -7,6 +7,7 @@ use Rattle.zst_tree.specs.Indices.{Delivers}
 use Rattle.zst_objset.specs.Sets.{SetHolds}
 use Rattle.zst_objset.proofs.FreeLaws.{freed-parts}
 use Rattle.zst_objset.proofs.DamageLaws.{fault_within, result_within, set_within}
+use Rattle.zst_objset.proofs.TightLaws.{freed_dated}
 use Rattle.std.specs.Prelude.{IfOk}
 use Rattle.zst_objset.specs.TightSets.{SetIsTight}
 use Rattle.zst_objset.proofs.freed_numbers.free_range.Goals as goal
@@ -55,13 +56,15 @@ returns-clause-damaged g c = λ honest.
     result_within _ _ _ c.args.set _ c.in_ok-made.made filled.size within c.free_in_leaf-3.result (c.free_in_leaf-3.ensures.makes.damaged honest)
 
 pub returns-clause-tight : goal.returns-clause-tight
-returns-clause-tight g c = λ state honest tight.
+returns-clause-tight g c = λ state honest tight dated.
     let was_made = c.free_in_leaf-3.ensures.makes.works.fills.honest honest in
-    let begun = c.in_ok-begun.ensures.tight state (c.in_ok-made.ensures.makes.works.fills.honest was_made) tight in
-    let made = c.in_ok-made.ensures.tight _ was_made begun in
+    let begun = c.in_ok-begun.ensures.tight state (c.in_ok-made.ensures.makes.works.fills.honest was_made) tight dated in
+    let begun_dated = freed_dated c.args.number c.args.first (16 * c.div_ceil-whole.result) state dated in
+    let made = c.in_ok-made.ensures.tight _ was_made begun begun_dated in
+    let made_dated = freed_dated c.args.number (16 * c.div_ceil-whole.result) (16 * (c.args.below / 16)) _ begun_dated in
     subst (λ (after : DatedState). IfOk c.free_in_leaf-3.result (λ set. SetIsTight (blocks_of c.free_in_leaf-3.new.io) set after))
     (freed-parts c.args.number c.args.first (16 * c.div_ceil-whole.result) (16 * (c.args.below / 16)) c.args.below state (omega arith) (omega arith) (omega arith))
-    (c.free_in_leaf-3.ensures.tight _ honest made)
+    (c.free_in_leaf-3.ensures.tight _ honest made made_dated)
 
 pub free_in_leaf-requires-clause-first : goal.free_in_leaf-requires-clause-first
 free_in_leaf-requires-clause-first g c = c.requires.first
@@ -91,7 +94,7 @@ pub free_in_leaf-requires-2-clause-first : goal.free_in_leaf-requires-2-clause-f
 free_in_leaf-requires-2-clause-first g c = c.requires.first
 
 pub returns-in_err-begun-clause-tight : goal.returns-in_err-begun-clause-tight
-returns-in_err-begun-clause-tight g c = λ state honest tight.
+returns-in_err-begun-clause-tight g c = λ state honest tight dated.
     let p = err_from_is_err_and c.from_residual.result c.from_residual.ensures.1 in
     rw p.1 tt
 
@@ -111,7 +114,7 @@ returns-in_err-begun-clause-works g c =
     rw (p.1, p.2) (Works-more (omega arith) c.in_err-begun.ensures.makes.works)
 
 pub returns-in_err-made-clause-tight : goal.returns-in_err-made-clause-tight
-returns-in_err-made-clause-tight g c = λ state honest tight.
+returns-in_err-made-clause-tight g c = λ state honest tight dated.
     let p = err_from_is_err_and c.from_residual-in_err-made.result c.from_residual-in_err-made.ensures.1 in
     rw p.1 tt
 

@@ -105,7 +105,7 @@ returns g c = record {
         let grown = tight_grows c.args.set.now old.seen c.args.io.now.space new.seen c.range_changed.new.io.space state (keeps_on c.in_ok-dnode.ensures.looks.looks made.works.fills) tight in
         let was = c.in_ok-dnode.ensures.tight state (made.works.fills.honest was_made) tight in
         Changes-indices (c.args.first + c.args.count) _ _ _ c.in_ok-check_range.ensures.inside
-        (c.put_dnode.ensures.tight c.args.number (change_of c.args.change c.args.first c.args.count (state.state c.args.object)) state honest grown (made.made c.args.object state was_made number tight.holds.lawful there)
+        (c.put_dnode.ensures.tight c.args.number (change_of c.args.change c.args.first c.args.count (state.state c.args.object)) state honest grown dated (made.made c.args.object state was_made number tight.holds.lawful there)
         (made.tight c.args.object state was_made number tight.holds.lawful there dated was));
     levels = c.put_dnode.ensures.puts.levels;
   };

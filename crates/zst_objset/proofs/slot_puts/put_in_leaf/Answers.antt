@@ -113,7 +113,7 @@ returns-clause-put g c = λ snap after honest holds puts.
     at is puts holds (c.in_ok-was.ensures.slots snap was_found holds) c.in_ok-ptr.ensures.names (λ map other tree put. c.in_ok-set.ensures.changes.puts map other honest tree put) c.in_ok-set.ensures.changes.levels)
 
 pub returns-clause-tight : goal.returns-clause-tight
-returns-clause-tight g c = λ snap after honest tight puts each.
+returns-clause-tight g c = λ snap after honest tight puts each rises.
     let was_saved = c.in_ok-set.ensures.changes.works.fills.honest honest in
     let was_found = c.in_ok-ptr.ensures.works.fills.honest was_saved in
     let found = c.in_ok-was.ensures in
@@ -122,10 +122,11 @@ returns-clause-tight g c = λ snap after honest tight puts each.
     let is : IsPut c.args.slot.now (c.args.first - 16 * (c.args.first / 16)) (c.args.below - 16 * (c.args.first / 16)) c.find_slots.new.io.node c.put_slots.new.node = record { fits = c.requires.slot; long = all.long at.some; put = all.put; kept = all.kept } in
     let saving = keeps_on found.looks.looks c.in_ok-ptr.ensures.works.fills in
     rw c.set_over.ensures.made (put_leaf_tight _ _ _ _ _ _ saving (KeepsBlocks-fills _ _ _ _ c.in_ok-set.ensures.changes.works.fills) c.args.set c.set.new.self snap after c.args.first c.args.below (c.args.first / 16) _ _ c.args.slot.now c.in_ok-ptr.ptr _ _
-    at is puts tight (found.slots snap was_found tight.holds) (found.tight snap was_found tight) each c.in_ok-ptr.ensures.names (λ map other tree put. c.in_ok-set.ensures.changes.puts map other honest tree put) c.in_ok-set.ensures.changes.levels)
+    at is puts tight (found.slots snap was_found tight.holds) (found.tight snap was_found tight) each c.in_ok-ptr.ensures.names (λ map other tree put. c.in_ok-set.ensures.changes.puts map other honest tree put) c.in_ok-set.ensures.changes.levels
+    rises (λ number map tree dated early. c.in_ok-set.ensures.dated number map honest tree dated early))
 
 pub returns-in_err-was-clause-tight : goal.returns-in_err-was-clause-tight
-returns-in_err-was-clause-tight g c = λ snap after honest tight puts each.
+returns-in_err-was-clause-tight g c = λ snap after honest tight puts each rises.
     let p = err_from_is_err_and c.from_residual.result c.from_residual.ensures.1 in
     rw p.1 tt
 
@@ -138,7 +139,7 @@ pub put_slots-requires-clause-fits : goal.put_slots-requires-clause-fits
 put_slots-requires-clause-fits g c = c.requires.slot
 
 pub returns-in_err-ptr-clause-tight : goal.returns-in_err-ptr-clause-tight
-returns-in_err-ptr-clause-tight g c = λ snap after honest tight puts each.
+returns-in_err-ptr-clause-tight g c = λ snap after honest tight puts each rises.
     let p = err_from_is_err_and c.from_residual-in_err-ptr.result c.from_residual-in_err-ptr.ensures.1 in
     rw p.1 tt
 
@@ -154,7 +155,7 @@ pub set-requires-clause-lawful : goal.set-requires-clause-lawful
 set-requires-clause-lawful g c = c.in_ok-ptr.ensures.lawful
 
 pub returns-in_err-set-clause-tight : goal.returns-in_err-set-clause-tight
-returns-in_err-set-clause-tight g c = λ snap after honest tight puts each.
+returns-in_err-set-clause-tight g c = λ snap after honest tight puts each rises.
     let p = err_from_is_err_and c.from_residual-in_err-set.result c.from_residual-in_err-set.ensures.1 in
     rw p.1 tt
 

@@ -21,7 +21,7 @@ returns-clause-changed g c = λ tight pool head told number holds.
     let same = ap (λ (n : ℕ). objects_freed n c.args.first c.args.count head) (sym number) ∙ c.changes_are_commands.ensures.free pool c.args.first c.args.count head in
     let old = Has (g.D.Disk.state c.args.io.now.disk.now).seen c.args.io.now.space in
     let known = changes_known tight c.args.number old has c.args.set.now set head (objects_freed c.args.number c.args.first c.args.count head) c.free_objects.result
-    (c.free_objects.ensures.changes.changed head told) (λ is dated. c.free_objects.ensures.tight head told is) (freed_dated c.args.number c.args.first c.args.count head) holds in
+    (c.free_objects.ensures.changes.changed head told) (λ is dated. c.free_objects.ensures.tight head told is dated) (freed_dated c.args.number c.args.first c.args.count head) holds in
     let is = subst (λ (r : Result DatedState Refusal). Changes (SetIs (bound_of tight c.args.number) has set) r c.free_objects.result) same known in
     call_changes c.free_objects.result c.answer.result c.answer.ensures (bound_of tight c.args.number) has set _ is
 
