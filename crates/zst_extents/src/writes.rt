@@ -4,15 +4,17 @@ ghost use Rattle.zst_space.specs.FreeSectors.{IsFree, IsSpaceFrom};
 ghost use Rattle.zst_space.specs.TakenExtents.{without_blocks};
 ghost use Rattle.zst_block.specs.IoCalls.{IsFull, TakesAtMost, Works};
 ghost use Rattle.zst_block.specs.IoStates.{blocks_of, io_of};
-ghost use Rattle.zst_leaves.specs.Leaves.{Numbered, TellsNone, stop_of_leaves};
+ghost use Rattle.zst_leaves.specs.Leaves.{Numbered, TellsNone};
+ghost use Rattle.zst_tree.specs.Faults.{fault_of};
 ghost use Rattle.zst_extents.specs.StoredExtents.{HasExtents, extent_blocks};
 
 use crate::spelling::spell;
 use std::alloc::Global;
 use zst_block::{BlockFault, Io, Ptr};
-use zst_leaves::{LeavesFault, write_leaves};
+use zst_leaves::write_leaves;
 use zst_outside::Disk;
 use zst_space::{Space, SpaceFault};
+use zst_tree::OrMemory;
 
 /// Where free extents stand.
 #[derive(Clone, Copy, Debug, PartialEq, Eq)]
@@ -63,7 +65,7 @@ pub fn write_extents<D: Disk>(
     io: &mut Io<'_, D>,
     alloc: Global,
     number: u64,
-) -> Result<StoredExtents, LeavesFault>
+) -> Result<StoredExtents, OrMemory<BlockFault>>
     requires few { length io.old.space.free < 2 ^ 30 }
 
     // What stands there afterwards, by pointers with the number, are the extents that are left once so
@@ -71,7 +73,7 @@ pub fn write_extents<D: Disk>(
     ensures there { IfOk result (λ stored. HasExtents (Numbered number (blocks_of io.new)) stored.levels stored.root stored.count io.new.space.free) }
     ensures after { OnOk result (io.new.space ≡ without_blocks (extent_blocks (length io.old.space.free)) io.old.space) }
     // Free sectors alone are written: those of these blocks.
-    ensures works { Works (16 * extent_blocks (length io.old.space.free)) 16 (io_of io.old) (io_of io.new) (stop_of_leaves result) }
+    ensures works { Works (16 * extent_blocks (length io.old.space.free)) 16 (io_of io.old) (io_of io.new) (fault_of result) }
     ensures never_damaged { TellsNone result }
 {
     let blocks = blocks_for(io.space.extents().len());
@@ -80,7 +82,7 @@ pub fn write_extents<D: Disk>(
         Ok(()) => {}
         Err(full) => {
             io.space = left;
-            return Err(LeavesFault::Block(BlockFault::from(full)));
+            return Err(OrMemory::Fault(BlockFault::from(full)));
         }
     }
     let bytes = spell(alloc, left.extents())?;

@@ -8,9 +8,11 @@ use Rattle.zst_outside.specs.Images.{DiskState}
 use Rattle.zst_uber.specs.DiskCalls.{HasDiskCause}
 use Rattle.zst_uber.specs.declared.uber.Uber.{Uber}
 use Rattle.zst_leaves.specs.Damage.{TellsText}
-use Rattle.zst_leaves.specs.Leaves.{GivesText, stop_of_leaves}
-use Rattle.zst_leaves.specs.declared.fault.LeavesFault.{LeavesFault}
-use Rattle.zst_leaves.specs.declared.fault.LeavesFault.TheVariants.{Block, Memory}
+use Rattle.zst_leaves.specs.Leaves.{GivesText}
+use Rattle.zst_tree.specs.Faults.{fault_of}
+use Rattle.zst_tree.specs.declared.or_memory.OrMemory.{OrMemory}
+use Rattle.zst_block.specs.declared.fault.BlockFault.{BlockFault}
+use Rattle.zst_tree.specs.declared.or_memory.OrMemory.TheVariants.{Fault, Memory}
 use Rattle.zst_image.specs.Faults.{stop_of_commit}
 use Rattle.zst_image.specs.OpenAnswers.{IsOpenFault, LoadFault, ReadFault, TellsFault}
 use Rattle.zst_image.specs.declared.open_fault.OpenFault.{OpenFault}
@@ -19,24 +21,24 @@ use Rattle.zst_image.specs.declared.commit_fault.CommitFault.{CommitFault}
 use Rattle.zst_image.specs.declared.commit_fault.CommitFault.TheVariants as commits
 
 -- a call that read leaves fell by the disk only where its count of faults rose
-pub leaves_cause : (T U : Type 0) (before now : ℕ) (fault : LeavesFault) (answer : OpenFault) → IsOpenFault fault answer → blocks.HasCause before now (stop_of_leaves {T = T} (Err fault))
+pub leaves_cause : (T U : Type 0) (before now : ℕ) (fault : OrMemory BlockFault) (answer : OpenFault) → IsOpenFault fault answer → blocks.HasCause before now (fault_of {T = T} (Err fault))
     → HasDiskCause {T = U} opens.DiskFault before now (Err answer)
-leaves_cause T U before now (Block (block_faults.Full need largest)) answer is cause = absurd is
-leaves_cause T U before now (Block (block_faults.Damaged sector stated found)) answer is cause = record { later = cause.later; fault = λ fell. absurd (cc (is, fell)) }
-leaves_cause T U before now (Block block_faults.DiskFault) answer is cause = record { later = cause.later; fault = λ fell. cause.fault refl }
+leaves_cause T U before now (Fault (block_faults.Full need largest)) answer is cause = absurd is
+leaves_cause T U before now (Fault (block_faults.Damaged sector stated found)) answer is cause = record { later = cause.later; fault = λ fell. absurd (cc (is, fell)) }
+leaves_cause T U before now (Fault block_faults.DiskFault) answer is cause = record { later = cause.later; fault = λ fell. cause.fault refl }
 leaves_cause T U before now Memory answer is cause = record { later = cause.later; fault = λ fell. absurd (cc (is, fell)) }
 
-pub leaves_load : (fault : LeavesFault) (answer : OpenFault) → IsOpenFault fault answer → LoadFault answer
-leaves_load (Block (block_faults.Full need largest)) answer is = absurd is
-leaves_load (Block (block_faults.Damaged sector stated found)) answer is = subst LoadFault (sym is) tt
-leaves_load (Block block_faults.DiskFault) answer is = subst LoadFault (sym is) tt
+pub leaves_load : (fault : OrMemory BlockFault) (answer : OpenFault) → IsOpenFault fault answer → LoadFault answer
+leaves_load (Fault (block_faults.Full need largest)) answer is = absurd is
+leaves_load (Fault (block_faults.Damaged sector stated found)) answer is = subst LoadFault (sym is) tt
+leaves_load (Fault block_faults.DiskFault) answer is = subst LoadFault (sym is) tt
 leaves_load Memory answer is = subst LoadFault (sym is) tt
 
 -- where the leaves were there, the disk or the memory failed
-pub leaves_read : (T : Type 0) (text : List ℕ) (items : T → List ℕ) (fault : LeavesFault) (answer : OpenFault) → IsOpenFault fault answer → GivesText text items (Err fault) → ReadFault answer
-leaves_read T text items (Block (block_faults.Full need largest)) answer is gives = absurd is
-leaves_read T text items (Block (block_faults.Damaged sector stated found)) answer is gives = absurd gives
-leaves_read T text items (Block block_faults.DiskFault) answer is gives = subst ReadFault (sym is) tt
+pub leaves_read : (T : Type 0) (text : List ℕ) (items : T → List ℕ) (fault : OrMemory BlockFault) (answer : OpenFault) → IsOpenFault fault answer → GivesText text items (Err fault) → ReadFault answer
+leaves_read T text items (Fault (block_faults.Full need largest)) answer is gives = absurd is
+leaves_read T text items (Fault (block_faults.Damaged sector stated found)) answer is gives = absurd gives
+leaves_read T text items (Fault block_faults.DiskFault) answer is gives = subst ReadFault (sym is) tt
 leaves_read T text items Memory answer is gives = subst ReadFault (sym is) tt
 
 -- and so did a commit
@@ -48,9 +50,9 @@ pub tells_root : (disk : DiskState) (uber : Uber) (answer : OpenFault) → answe
 tells_root disk uber answer is = subst (TellsFault disk uber) (sym is) (inr (refl, refl, refl))
 
 -- and E25 of its leaves what their read tells
-pub tells_leaves : (T : Type 0) (disk : DiskState) (uber : Uber) (fault : LeavesFault) (answer : OpenFault) → IsOpenFault fault answer
+pub tells_leaves : (T : Type 0) (disk : DiskState) (uber : Uber) (fault : OrMemory BlockFault) (answer : OpenFault) → IsOpenFault fault answer
     → TellsText {T = T} uber.end disk.seen disk.size uber.dir_levels uber.dir_root uber.dir_bytes (Err fault) → TellsFault disk uber answer
-tells_leaves T disk uber (Block (block_faults.Full need largest)) answer is tells = absurd is
-tells_leaves T disk uber (Block (block_faults.Damaged sector stated found)) answer is tells = subst (TellsFault disk uber) (sym is) (inl tells)
-tells_leaves T disk uber (Block block_faults.DiskFault) answer is tells = subst (TellsFault disk uber) (sym is) tt
+tells_leaves T disk uber (Fault (block_faults.Full need largest)) answer is tells = absurd is
+tells_leaves T disk uber (Fault (block_faults.Damaged sector stated found)) answer is tells = subst (TellsFault disk uber) (sym is) (inl tells)
+tells_leaves T disk uber (Fault block_faults.DiskFault) answer is tells = subst (TellsFault disk uber) (sym is) tt
 tells_leaves T disk uber Memory answer is tells = subst (TellsFault disk uber) (sym is) tt

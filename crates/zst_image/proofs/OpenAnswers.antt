@@ -6,8 +6,9 @@ use Rattle.zst_outside.specs.Images.{DiskState, IsSynced, OnlyReads}
 use Rattle.zst_block.specs.Blocks.{Has}
 use Rattle.zst_block.specs.declared.fault.BlockFault.TheVariants as block_faults
 use Rattle.zst_leaves.specs.Damage.{TellsText}
-use Rattle.zst_leaves.specs.declared.fault.LeavesFault.{LeavesFault}
-use Rattle.zst_leaves.specs.declared.fault.LeavesFault.TheVariants.{Block}
+use Rattle.zst_tree.specs.declared.or_memory.OrMemory.{OrMemory}
+use Rattle.zst_block.specs.declared.fault.BlockFault.{BlockFault}
+use Rattle.zst_tree.specs.declared.or_memory.OrMemory.TheVariants.{Fault}
 use Rattle.zst_uber.specs.Body.{IsBody, InRange, body_bytes}
 use Rattle.zst_uber.specs.OpenAnswers.{Answers, Opens, IsLatest}
 use Rattle.zst_uber.specs.Slots.{latest}
@@ -43,7 +44,7 @@ IsBody-latest size uber image is = record { spelled = refl; fits = is.fits; in_r
 -- what is told of the blocks of a disk is told of those of an equal one
 TellsBlock-same : (old new : DiskState) (uber : Uber) (sector : ℕ) (stated found : List ℕ) → new.seen ≡ old.seen → new.size ≡ old.size → TellsBlock new uber sector stated found → TellsBlock old uber sector stated found
 TellsBlock-same old new uber sector stated found seen size tells =
-    let fault : Result (Unit {0}) LeavesFault = Err (Block (block_faults.Damaged sector stated found)) in
+    let fault : Result (Unit {0}) (OrMemory BlockFault) = Err (Fault (block_faults.Damaged sector stated found)) in
     ⊎_elim
     (λ text. inl (subst (λ (n : ℕ). TellsText uber.end old.seen n uber.dir_levels uber.dir_root uber.dir_bytes fault) size (subst (λ (l : List ℕ). TellsText uber.end l new.size uber.dir_levels uber.dir_root uber.dir_bytes fault) seen text)))
     (λ root. inr root) tells

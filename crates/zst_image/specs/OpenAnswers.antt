@@ -12,8 +12,9 @@ use Rattle.zst_uber.specs.declared.TheConstants.{VERSION}
 use Rattle.zst_uber.specs.declared.uber.Uber.{Uber}
 use Rattle.zst_dir.specs.Rows.{Rows}
 use Rattle.zst_leaves.specs.Damage.{TellsText}
-use Rattle.zst_leaves.specs.declared.fault.LeavesFault.{LeavesFault}
-use Rattle.zst_leaves.specs.declared.fault.LeavesFault.TheVariants as leaves
+use Rattle.zst_tree.specs.declared.or_memory.OrMemory.{OrMemory}
+use Rattle.zst_block.specs.declared.fault.BlockFault.{BlockFault}
+use Rattle.zst_tree.specs.declared.or_memory.OrMemory.TheVariants.{Fault, Memory}
 use Rattle.zst_image.specs.Reads.{free_by, kept_rows, HasDir}
 use Rattle.zst_image.specs.declared.open_fault.OpenFault.{OpenFault}
 use Rattle.zst_image.specs.declared.open_fault.OpenFault.TheVariants.{Damaged, NoPool, BadVersion, DiskFault, OutOfMemory}
@@ -36,11 +37,11 @@ LoadFault DiskFault = Unit {0}
 LoadFault OutOfMemory = Unit {0}
 
 -- what is wrong with the leaves of a directory, as a fault of opening; a read never finds the disk full
-abbrev pub IsOpenFault : LeavesFault → OpenFault → Type 0
-IsOpenFault (leaves.Block (blocks.Full need largest)) fault = ⊥
-IsOpenFault (leaves.Block (blocks.Damaged sector stated found)) fault = fault ≡ Damaged sector stated found
-IsOpenFault (leaves.Block blocks.DiskFault) fault = fault ≡ DiskFault
-IsOpenFault leaves.Memory fault = fault ≡ OutOfMemory
+abbrev pub IsOpenFault : OrMemory BlockFault → OpenFault → Type 0
+IsOpenFault (Fault (blocks.Full need largest)) fault = ⊥
+IsOpenFault (Fault (blocks.Damaged sector stated found)) fault = fault ≡ Damaged sector stated found
+IsOpenFault (Fault blocks.DiskFault) fault = fault ≡ DiskFault
+IsOpenFault Memory fault = fault ≡ OutOfMemory
 
 -- a read of what is there gives it, or the disk or the memory failed
 abbrev pub ReadAnswer : {T : Type 0} → (T → Type 0) → Result T OpenFault → Type 0
@@ -70,7 +71,7 @@ pub record TellsBody (disk : DiskState) (sector : ℕ) (stated found : List ℕ)
 -- a block of the directory is told as the read of its leaves tells it, or, where these are a text, the root with both sums alike
 abbrev pub TellsBlock : DiskState → Uber → ℕ → List ℕ → List ℕ → Type 0
 TellsBlock disk uber sector stated found =
-    TellsText {T = Unit {0}} uber.end disk.seen disk.size uber.dir_levels uber.dir_root uber.dir_bytes (Err (leaves.Block (blocks.Damaged sector stated found)))
+    TellsText {T = Unit {0}} uber.end disk.seen disk.size uber.dir_levels uber.dir_root uber.dir_bytes (Err (Fault (blocks.Damaged sector stated found)))
     ⊎ ((sector ≡ uber.dir_root.sector) × (stated ≡ parts_of uber.dir_root.sum) × (found ≡ stated))
 
 -- E25 of the directory: the latest body is of the layout, but no directory of the layout is there by it

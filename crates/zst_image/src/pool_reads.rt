@@ -17,9 +17,10 @@ use crate::pool_state::PoolState;
 use std::alloc::Global;
 use zst_block::{BlockFault, Io};
 use zst_dir::Dir;
-use zst_leaves::{LeavesFault, read_leaves};
+use zst_leaves::read_leaves;
 use zst_outside::Disk;
 use zst_space::Space;
+use zst_tree::OrMemory;
 use zst_uber::{Uber, latest};
 
 impl PoolState {
@@ -47,12 +48,12 @@ impl PoolState {
 }
 
 // What is wrong with the leaves of a directory; none is written, so the disk is never full.
-fn of_leaves(fault: LeavesFault) -> OpenFault
-    requires { (need largest : ℕ) → ¬ (fault ≡ LeavesFault.Block (BlockFault.Full need largest)) }
+fn of_leaves(fault: OrMemory<BlockFault>) -> OpenFault
+    requires { (need largest : ℕ) → ¬ (fault ≡ OrMemory.Fault (BlockFault.Full need largest)) }
     ensures { IsOpenFault fault result }
 {
     match fault {
-        LeavesFault::Block(
+        OrMemory::Fault(
             BlockFault::Damaged {
                 sector,
                 stated,
@@ -63,9 +64,9 @@ fn of_leaves(fault: LeavesFault) -> OpenFault
             stated,
             found,
         },
-        LeavesFault::Block(BlockFault::DiskFault) => OpenFault::DiskFault,
-        LeavesFault::Block(BlockFault::Full { .. }) => unreachable!(),
-        LeavesFault::Memory => OpenFault::OutOfMemory,
+        OrMemory::Fault(BlockFault::DiskFault) => OpenFault::DiskFault,
+        OrMemory::Fault(BlockFault::Full { .. }) => unreachable!(),
+        OrMemory::Memory => OpenFault::OutOfMemory,
     }
 }
 

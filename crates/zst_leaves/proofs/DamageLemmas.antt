@@ -12,8 +12,8 @@ use Rattle.zst_block.specs.declared.ptr.Ptr.{Ptr}
 use Rattle.zst_tree.specs.Indices.{child}
 use Rattle.zst_leaves.specs.Damage.{IsDamagedBelow, IsWrong, LeadsTo, Names, TellsBelow, TellsPtr, TellsText}
 use Rattle.zst_leaves.specs.Leaves.{bytes_below, part_length}
-use Rattle.zst_leaves.specs.declared.fault.LeavesFault.{LeavesFault}
-use Rattle.zst_leaves.specs.declared.fault.LeavesFault.TheVariants.{Block, Memory}
+use Rattle.zst_tree.specs.declared.or_memory.OrMemory.{OrMemory}
+use Rattle.zst_tree.specs.declared.or_memory.OrMemory.TheVariants.{Fault, Memory}
 
 leads_here : (image : List ℕ) (level : ℕ) (ptr : Ptr) (count : ℕ) → LeadsTo image level ptr count level ptr count
 unfolding LeadsTo
@@ -63,10 +63,10 @@ pub told_here : (end : ℕ) (image : List ℕ) (size level : ℕ) (ptr : Ptr) (c
 told_here end image size level ptr count fault told = record { at = level; ptr = ptr; part = count; leads = leads_here image level ptr count; told = told }
 
 -- damage below one of its children
-pub told_below : (end last : ℕ) (image seen : List ℕ) (size now level : ℕ) (ptr : Ptr) (node : List ℕ) (k : ℕ) (under : Ptr) (count piece : ℕ) (fault : LeavesFault) → 0 < level → last ≡ end → seen ≡ image → now ≡ size → under ≡ child node k
+pub told_below : (end last : ℕ) (image seen : List ℕ) (size now level : ℕ) (ptr : Ptr) (node : List ℕ) (k : ℕ) (under : Ptr) (count piece : ℕ) (fault : OrMemory BlockFault) → 0 < level → last ≡ end → seen ≡ image → now ≡ size → under ≡ child node k
     → piece ≡ part_length (bytes_below (level - 1)) count k → IsBlock image ptr node → k < 128 → TellsBelow {T = Unit {0}} last seen now (level - 1) under piece (Err fault) → TellsBelow {T = Unit {0}} end image size level ptr count (Err fault)
 told_below end last image seen size now level ptr node k under count piece Memory inner end_is same as_long is piece_is block less told = tt
-told_below end last image seen size now level ptr node k under count piece (Block fault) inner end_is same as_long is piece_is block less told =
+told_below end last image seen size now level ptr node k under count piece (Fault fault) inner end_is same as_long is piece_is block less told =
     let whole = part_length (bytes_below (level - 1)) count k in
     let there : IsDamagedBelow end image size (level - 1) (child node k) whole fault =
     subst (λ (n : ℕ). IsDamagedBelow n image size (level - 1) (child node k) whole fault) end_is
@@ -77,7 +77,7 @@ told_below end last image seen size now level ptr node k under count piece (Bloc
     record { at = there.at; ptr = there.ptr; part = there.part; leads = leads_down image level ptr node k count there.at there.ptr there.part inner block less there.leads; told = there.told }
 
 -- what is told below the root is told of the text
-pub text_told : (end : ℕ) (image : List ℕ) (size levels : ℕ) (root : Ptr) (count : ℕ) {U : Type 0} → (result : Result U LeavesFault) (made fault : LeavesFault) → result ≡ Err made → made ≡ fault
+pub text_told : (end : ℕ) (image : List ℕ) (size levels : ℕ) (root : Ptr) (count : ℕ) {U : Type 0} → (result : Result U (OrMemory BlockFault)) (made fault : OrMemory BlockFault) → result ≡ Err made → made ≡ fault
     → TellsBelow {T = Unit {0}} end image size levels root count (Err fault) → TellsText end image size levels root count result
-text_told end image size levels root count {U} result made (Block fault) is same told = rw (is, same) (inr told)
+text_told end image size levels root count {U} result made (Fault fault) is same told = rw (is, same) (inr told)
 text_told end image size levels root count {U} result made Memory is same told = rw (is, same) tt

@@ -1,5 +1,5 @@
 -- Which block of a text in leaves a read tells as damaged.
-use Rattle.std.specs.Prelude.{◌≡◌, ◌≢◌, ◌⊎◌, ℕ, zero, suc, ◌<◌, List, All, drop, Result, Ok, Err}
+use Rattle.std.specs.Prelude.{◌≡◌, ◌≢◌, ◌⊎◌, ℕ, zero, suc, ◌<◌, List, All, drop, Result}
 use Rattle.zst_fletcher.specs.WeightSum.{parts_of}
 use Rattle.zst_block.specs.Blocks.{IsBlock}
 use Rattle.zst_block.specs.Ptr.{hole_of}
@@ -9,8 +9,8 @@ use Rattle.zst_block.specs.declared.fault.BlockFault.TheVariants.{Full, Damaged,
 use Rattle.zst_block.specs.declared.ptr.Ptr.{Ptr}
 use Rattle.zst_tree.specs.Indices.{child}
 use Rattle.zst_leaves.specs.Leaves.{IsLeast, StandsBefore, bytes_below, part_length}
-use Rattle.zst_leaves.specs.declared.fault.LeavesFault.{LeavesFault}
-use Rattle.zst_leaves.specs.declared.fault.LeavesFault.TheVariants.{Block, Memory}
+use Rattle.zst_tree.specs.Faults.{IfFault}
+use Rattle.zst_tree.specs.declared.or_memory.OrMemory.{OrMemory}
 
 -- a pointer names a block of 8,192 bytes, by its kind and its level, which stands before this sector
 pub record Names (kind level end : ℕ) (ptr : Ptr) : Type 0 where
@@ -53,14 +53,10 @@ pub record IsDamagedBelow (end : ℕ) (image : List ℕ) (size level : ℕ) (roo
   pub told : TellsPtr image size (IsWrong end image at part ptr) ptr fault
 
 -- so does a refusal
-abbrev pub TellsBelow : {T : Type 0} → ℕ → List ℕ → ℕ → ℕ → Ptr → ℕ → Result T LeavesFault → Type 0
-TellsBelow end image size level root count (Ok value) = Unit {0}
-TellsBelow end image size level root count (Err (Block fault)) = IsDamagedBelow end image size level root count fault
-TellsBelow end image size level root count (Err Memory) = Unit {0}
+abbrev pub TellsBelow : {T : Type 0} → ℕ → List ℕ → ℕ → ℕ → Ptr → ℕ → Result T (OrMemory BlockFault) → Type 0
+TellsBelow end image size level root count result = IfFault result (IsDamagedBelow end image size level root count)
 
 -- or, of a whole text, that of a root with other levels than the fewest that have room for so many bytes
-abbrev pub TellsText : {T : Type 0} → ℕ → List ℕ → ℕ → ℕ → Ptr → ℕ → Result T LeavesFault → Type 0
-TellsText end image size levels root count (Ok value) = Unit {0}
-TellsText end image size levels root count (Err (Block fault)) =
-    TellsPtr image size (¬ ((0 < count) × IsLeast levels count)) root fault ⊎ IsDamagedBelow end image size levels root count fault
-TellsText end image size levels root count (Err Memory) = Unit {0}
+abbrev pub TellsText : {T : Type 0} → ℕ → List ℕ → ℕ → ℕ → Ptr → ℕ → Result T (OrMemory BlockFault) → Type 0
+TellsText end image size levels root count result =
+    IfFault result (λ fault. TellsPtr image size (¬ ((0 < count) × IsLeast levels count)) root fault ⊎ IsDamagedBelow end image size levels root count fault)

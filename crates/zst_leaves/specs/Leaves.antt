@@ -1,5 +1,5 @@
 -- A text in leaves of 8,192 bytes below a pointer: each leaf is full but the last, which is filled with zeros.
-use Rattle.std.specs.Prelude.{◌≡◌, ◌⊎◌, ℕ, zero, suc, ◌+◌, ◌-◌, ◌*◌, ◌/◌, ◌<◌, ◌≤◌, min, List, [], ◌++◌, length, Option, Some, None, Result, Ok, Err}
+use Rattle.std.specs.Prelude.{◌≡◌, ◌⊎◌, ℕ, zero, suc, ◌+◌, ◌-◌, ◌*◌, ◌/◌, ◌<◌, ◌≤◌, min, List, [], ◌++◌, length, Result}
 use Rattle.zst_bytes.specs.Bytes.{bytes_at}
 use Rattle.zst_bytes.specs.Fields.{zeros}
 use Rattle.zst_block.specs.Blocks.{IsBlock}
@@ -7,8 +7,8 @@ use Rattle.zst_block.specs.Ptr.{hole_of}
 use Rattle.zst_block.specs.declared.fault.BlockFault.{BlockFault}
 use Rattle.zst_block.specs.declared.ptr.Ptr.{Ptr}
 use Rattle.zst_tree.specs.Indices.{Blocks, IsNoDamage, child, span}
-use Rattle.zst_leaves.specs.declared.fault.LeavesFault.{LeavesFault}
-use Rattle.zst_leaves.specs.declared.fault.LeavesFault.TheVariants.{Block, Memory}
+use Rattle.zst_tree.specs.Faults.{GivesOrTells, IfFault}
+use Rattle.zst_tree.specs.declared.or_memory.OrMemory.{OrMemory}
 
 -- how many bytes have room in the leaves below a pointer at this level
 abbrev pub bytes_below : ℕ → ℕ
@@ -86,17 +86,9 @@ blocks_for (suc level) (suc long) = sum_below (λ k. blocks_for level (part_leng
 abbrev pub leaves_for : ℕ → ℕ
 leaves_for long = (long + 8191) / 8192
 
--- the fault of a block at which a call stopped
-abbrev pub stop_of_leaves : {T : Type 0} → Result T LeavesFault → Option BlockFault
-stop_of_leaves (Ok value) = None
-stop_of_leaves (Err (Block fault)) = Some fault
-stop_of_leaves (Err Memory) = None
-
 -- no block is told as damaged
-abbrev pub TellsNone : {T : Type 0} → Result T LeavesFault → Type 0
-TellsNone (Ok value) = Unit {0}
-TellsNone (Err (Block fault)) = IsNoDamage fault
-TellsNone (Err Memory) = Unit {0}
+abbrev pub TellsNone : {T : Type 0} → Result T (OrMemory BlockFault) → Type 0
+TellsNone result = IfFault result IsNoDamage
 
 -- a text of so many bytes that stands below the pointer was appended
 pub record Appends (has : Blocks) (level : ℕ) (ptr : Ptr) (long : ℕ) (old new : List ℕ) : Type 0 where
@@ -106,7 +98,5 @@ pub record Appends (has : Blocks) (level : ℕ) (ptr : Ptr) (long : ℕ) (old ne
   pub below : LeavesBelow has level ptr text
 
 -- what was read is the text, and no block is told as damaged
-abbrev pub GivesText : List ℕ → {T : Type 0} → (T → List ℕ) → Result T LeavesFault → Type 0
-GivesText text items (Ok value) = items value ≡ text
-GivesText text items (Err (Block fault)) = IsNoDamage fault
-GivesText text items (Err Memory) = Unit {0}
+abbrev pub GivesText : List ℕ → {T : Type 0} → (T → List ℕ) → Result T (OrMemory BlockFault) → Type 0
+GivesText text items result = GivesOrTells (λ value. items value ≡ text) IsNoDamage result

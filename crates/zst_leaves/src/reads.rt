@@ -5,15 +5,15 @@ ghost use Rattle.zst_block.specs.IoStates.{IsHonest, blocks_of, disk_of, io_of};
 ghost use Rattle.zst_block.specs.IoCalls.{stop_of};
 ghost use Rattle.zst_tree.specs.Steps.{LooksAtMost};
 ghost use Rattle.zst_leaves.specs.Damage.{Names, TellsBelow, TellsPtr, TellsText};
-ghost use Rattle.zst_leaves.specs.Leaves.{Appends, BlocksBefore, GivesText, HasLeaves, LeavesBelow, StandsBefore, TellsNone, blocks_for, bytes_below, leaves_for, stop_of_leaves};
+ghost use Rattle.zst_leaves.specs.Leaves.{Appends, BlocksBefore, GivesText, HasLeaves, LeavesBelow, StandsBefore, TellsNone, blocks_for, bytes_below, leaves_for};
+ghost use Rattle.zst_tree.specs.Faults.{fault_of};
 
-use crate::fault::LeavesFault;
 use crate::sizes::{is_least, length_of};
 use std::alloc::Global;
 use std::mem;
 use zst_block::{BlockFault, Io, Node, Ptr, load};
 use zst_outside::Disk;
-use zst_tree::child_at;
+use zst_tree::{OrMemory, child_at};
 
 // Whether what a pointer names stands behind sectors 0 to 7, and before this sector.
 fn stands_before(ptr: &Ptr, end: u64) -> bool
@@ -52,19 +52,19 @@ fn read_leaf<D: Disk>(
     text: &mut Vec<u8>,
     ptr: Ptr,
     count: u64,
-) -> Result<(), LeavesFault>
+) -> Result<(), OrMemory<BlockFault>>
     requires some { 0 < count }
     requires room { count ≤ 8192 }
     ensures there { (leaf : List ℕ) → IsHonest io.new → LeavesBelow (blocks_of io.old) 0 ptr leaf → length leaf ≡ count → TellsNone result }
     ensures only { IsHonest io.new → OnOk result (Appends (BlocksBefore io.old.space.end (disk_of io.old).seen) 0 ptr count text.old.items text.new.items) }
     ensures damaged { IsHonest io.new → TellsBelow io.old.space.end (disk_of io.old).seen (disk_of io.old).size 0 ptr count result }
     ensures long { OnOk result (length text.new.items ≡ length text.old.items + count) }
-    ensures looks { LooksAtMost 1 (io_of io.old) (io_of io.new) (stop_of_leaves result) }
+    ensures looks { LooksAtMost 1 (io_of io.old) (io_of io.new) (fault_of result) }
 {
     load_named(io, 1, 0, ptr)?;
     let (front, rest) = io.node.as_slice().split_at(count as usize);
     if !are_zeros(rest) {
-        return Err(LeavesFault::Block(BlockFault::of_layout(&ptr)));
+        return Err(OrMemory::Fault(BlockFault::of_layout(&ptr)));
     }
     text.extend_from_slice(front)?;
     Ok(())
@@ -77,20 +77,20 @@ fn read_below<D: Disk>(
     level: u8,
     ptr: Ptr,
     count: u64,
-) -> Result<(), LeavesFault>
+) -> Result<(), OrMemory<BlockFault>>
     requires level { level ≤ 3 }
     requires room { count ≤ bytes_below level }
     ensures there { (leaves : List ℕ) → IsHonest io.new → LeavesBelow (blocks_of io.old) level ptr leaves → length leaves ≡ count → TellsNone result }
     ensures only { IsHonest io.new → OnOk result (Appends (BlocksBefore io.old.space.end (disk_of io.old).seen) level ptr count text.old.items text.new.items) }
     ensures damaged { IsHonest io.new → TellsBelow io.old.space.end (disk_of io.old).seen (disk_of io.old).size level ptr count result }
     ensures long { OnOk result (length text.new.items ≡ length text.old.items + count) }
-    ensures looks { LooksAtMost (blocks_for level count) (io_of io.old) (io_of io.new) (stop_of_leaves result) }
+    ensures looks { LooksAtMost (blocks_for level count) (io_of io.old) (io_of io.new) (fault_of result) }
 {
     if count == 0 {
         return if ptr == Ptr::hole(0) {
             Ok(())
         } else {
-            Err(LeavesFault::Block(BlockFault::of_layout(&ptr)))
+            Err(OrMemory::Fault(BlockFault::of_layout(&ptr)))
         };
     }
     if level == 0 {
@@ -116,7 +116,7 @@ pub fn read_leaves<D: Disk>(
     levels: u8,
     root: Ptr,
     count: u64,
-) -> Result<Vec<u8>, LeavesFault>
+) -> Result<Vec<u8>, OrMemory<BlockFault>>
     // A text that is there is read, unless the disk or the memory fails, and what is read is there.
     // What is damaged is a block to which the root leads: with other sums, or of a pointer that is wrong.
     ensures there { (text : List ℕ) → IsHonest io.new → HasLeaves (blocks_of io.old) levels root text → length text ≡ count → GivesText text (λ read. read.items) result }
@@ -126,10 +126,10 @@ pub fn read_leaves<D: Disk>(
     ensures damaged { IsHonest io.new → TellsText io.old.space.end (disk_of io.old).seen (disk_of io.old).size levels root count result }
 
     // It only reads, each block once.
-    ensures looks { LooksAtMost (leaves_for count + leaves_for count / 127 + 3) (io_of io.old) (io_of io.new) (stop_of_leaves result) }
+    ensures looks { LooksAtMost (leaves_for count + leaves_for count / 127 + 3) (io_of io.old) (io_of io.new) (fault_of result) }
 {
     if !is_least(levels, count) {
-        return Err(LeavesFault::Block(BlockFault::of_layout(&root)));
+        return Err(OrMemory::Fault(BlockFault::of_layout(&root)));
     }
     let mut text = Vec::new(alloc);
     read_below(io, &mut text, levels, root, count)?;

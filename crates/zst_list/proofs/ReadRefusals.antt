@@ -9,29 +9,30 @@ use Rattle.zst_model.specs.fields.Lists.{Runs}
 use Rattle.zst_tree.specs.Indices.{Blocks}
 use Rattle.zst_leaves.specs.Damage.{TellsText}
 use Rattle.zst_leaves.specs.Leaves.{GivesText, HasLeaves}
-use Rattle.zst_leaves.specs.declared.fault.LeavesFault.{LeavesFault}
-use Rattle.zst_leaves.specs.declared.fault.LeavesFault.TheVariants.{Block, Memory}
+use Rattle.zst_tree.specs.declared.or_memory.OrMemory.{OrMemory}
+use Rattle.zst_block.specs.declared.fault.BlockFault.{BlockFault}
+use Rattle.zst_tree.specs.declared.or_memory.OrMemory.TheVariants.{Fault, Memory}
 use Rattle.zst_leaves.proofs.LevelCounts.{span_le, span_three}
 use Rattle.zst_list.specs.Spelling.{list_bytes}
 use Rattle.zst_list.specs.StoredLists.{GivesList, TellsList, list_length}
 use Rattle.zst_list.proofs.Sizes.{length-list}
 
 -- where the text is there, no damage is told of the list
-pub none_told : (runs : Runs) (text : List ℕ) (T : Type 0) (items : T → List ℕ) (result : Result Runs LeavesFault) (fault : LeavesFault) → IsErrAnd result (λ made. made ≡ fault)
+pub none_told : (runs : Runs) (text : List ℕ) (T : Type 0) (items : T → List ℕ) (result : Result Runs (OrMemory BlockFault)) (fault : OrMemory BlockFault) → IsErrAnd result (λ made. made ≡ fault)
     → GivesText text items (Err fault) → GivesList runs (λ list. list) result
 none_told runs text T items (Ok value) fault is given = absurd is
-none_told runs text T items (Err made) (Block fault) is given = rw is given
+none_told runs text T items (Err made) (Fault fault) is given = rw is given
 none_told runs text T items (Err made) Memory is given = rw is tt
 
 -- what the read of the leaves tells
-pub leaves_told : (end : ℕ) (image : List ℕ) (size levels : ℕ) (root : Ptr) (count long : ℕ) (T : Type 0) (result : Result Runs LeavesFault) (fault : LeavesFault) → IsErrAnd result (λ made. made ≡ fault)
+pub leaves_told : (end : ℕ) (image : List ℕ) (size levels : ℕ) (root : Ptr) (count long : ℕ) (T : Type 0) (result : Result Runs (OrMemory BlockFault)) (fault : OrMemory BlockFault) → IsErrAnd result (λ made. made ≡ fault)
     → long ≡ list_length count → TellsText {T = T} end image size levels root long (Err fault) → TellsList end image size levels root count result
 leaves_told end image size levels root count long T (Ok value) fault is same told = absurd is
-leaves_told end image size levels root count long T (Err made) (Block fault) is same told = rw (is, sym same) (inl told)
+leaves_told end image size levels root count long T (Err made) (Fault fault) is same told = rw (is, sym same) (inl told)
 leaves_told end image size levels root count long T (Err made) Memory is same told = rw is tt
 
 -- the root is told
-pub root_told : (end : ℕ) (image : List ℕ) (size levels : ℕ) (root : Ptr) (count : ℕ) (fault : LeavesFault) → fault ≡ Block (Damaged root.sector (parts_of root.sum) (parts_of root.sum))
+pub root_told : (end : ℕ) (image : List ℕ) (size levels : ℕ) (root : Ptr) (count : ℕ) (fault : OrMemory BlockFault) → fault ≡ Fault (Damaged root.sector (parts_of root.sum) (parts_of root.sum))
     → TellsList {T = Runs} end image size levels root count (Err fault)
 root_told end image size levels root count fault is = rw is (inr (refl, refl, refl))
 

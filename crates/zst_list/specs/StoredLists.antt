@@ -1,5 +1,5 @@
 -- A list of redacted blocks in the leaves of a tree.
-use Rattle.std.specs.Prelude.{◌≡◌, ◌⊎◌, ℕ, ◌+◌, ◌*◌, ◌/◌, ◌<◌, List, length, Result, Ok, Err}
+use Rattle.std.specs.Prelude.{◌≡◌, ◌⊎◌, ℕ, ◌+◌, ◌*◌, ◌/◌, ◌<◌, List, length, Result, Err}
 use Rattle.zst_fletcher.specs.WeightSum.{parts_of}
 use Rattle.zst_block.specs.declared.fault.BlockFault.{BlockFault}
 use Rattle.zst_block.specs.declared.fault.BlockFault.TheVariants.{Full, Damaged, DiskFault}
@@ -8,8 +8,9 @@ use Rattle.zst_model.specs.fields.Lists.{Runs, IsRunList}
 use Rattle.zst_tree.specs.Indices.{Blocks, IsNoDamage}
 use Rattle.zst_leaves.specs.Damage.{TellsText}
 use Rattle.zst_leaves.specs.Leaves.{HasLeaves}
-use Rattle.zst_leaves.specs.declared.fault.LeavesFault.{LeavesFault}
-use Rattle.zst_leaves.specs.declared.fault.LeavesFault.TheVariants.{Block, Memory}
+use Rattle.zst_tree.specs.Faults.{GivesOrTells, IfFault}
+use Rattle.zst_tree.specs.declared.or_memory.OrMemory.{OrMemory}
+use Rattle.zst_tree.specs.declared.or_memory.OrMemory.TheVariants.{Fault}
 use Rattle.zst_list.specs.Spelling.{list_bytes}
 
 -- how many bytes a list of so many runs has
@@ -23,10 +24,8 @@ pub record HasList (has : Blocks) (levels : ℕ) (root : Ptr) (count : ℕ) (run
   pub leaves : 0 < count → HasLeaves has levels root (list_bytes runs)
 
 -- what was read is the list, and no block is told as damaged
-abbrev pub GivesList : Runs → {T : Type 0} → (T → Runs) → Result T LeavesFault → Type 0
-GivesList runs read (Ok value) = read value ≡ runs
-GivesList runs read (Err (Block fault)) = IsNoDamage fault
-GivesList runs read (Err Memory) = Unit {0}
+abbrev pub GivesList : Runs → {T : Type 0} → (T → Runs) → Result T (OrMemory BlockFault) → Type 0
+GivesList runs read result = GivesOrTells (λ value. read value ≡ runs) IsNoDamage result
 
 -- the damage of a root below which stands no list: both sums are told alike
 abbrev pub TellsRoot : Ptr → BlockFault → Type 0
@@ -35,8 +34,6 @@ TellsRoot root (Full need largest) = ⊥
 TellsRoot root DiskFault = ⊥
 
 -- a refusal tells a block of the list as the read of its leaves tells it, or, where these are a text, its root
-abbrev pub TellsList : {T : Type 0} → ℕ → List ℕ → ℕ → ℕ → Ptr → ℕ → Result T LeavesFault → Type 0
-TellsList end image size levels root count (Ok value) = Unit {0}
-TellsList end image size levels root count (Err (Block fault)) =
-    TellsText {T = Unit {0}} end image size levels root (list_length count) (Err (Block fault)) ⊎ TellsRoot root fault
-TellsList end image size levels root count (Err Memory) = Unit {0}
+abbrev pub TellsList : {T : Type 0} → ℕ → List ℕ → ℕ → ℕ → Ptr → ℕ → Result T (OrMemory BlockFault) → Type 0
+TellsList end image size levels root count result =
+    IfFault result (λ fault. TellsText {T = Unit {0}} end image size levels root (list_length count) (Err (Fault fault)) ⊎ TellsRoot root fault)

@@ -4,8 +4,8 @@ ghost use Rattle.zst_fletcher.specs.WeightSum.{parts_of};
 ghost use Rattle.zst_block.specs.IoCalls.{Looks};
 ghost use Rattle.zst_block.specs.IoStates.{IsHonest, blocks_of, disk_of, io_of};
 ghost use Rattle.zst_block.specs.declared.fault.BlockFault.TheVariants.{Damaged};
-ghost use Rattle.zst_leaves.specs.Leaves.{stop_of_leaves};
-ghost use Rattle.zst_leaves.specs.declared.fault.LeavesFault.TheVariants.{Block};
+ghost use Rattle.zst_tree.specs.Faults.{fault_of};
+ghost use Rattle.zst_tree.specs.declared.or_memory.OrMemory.TheVariants.{Fault};
 ghost use Rattle.zst_model.specs.fields.Lists.{Runs};
 ghost use Rattle.zst_list.specs.declared.reads.TheConstants.{MOST_RUNS};
 ghost use Rattle.zst_list.specs.StoredLists.{GivesList, HasList, TellsList, list_length};
@@ -13,9 +13,10 @@ ghost use Rattle.zst_list.specs.StoredLists.{GivesList, HasList, TellsList, list
 use crate::coding::{RUNS_IN_LEAF, decode_list};
 use std::alloc::Global;
 use zst_block::{BlockFault, Io, Ptr};
-use zst_leaves::{LeavesFault, MOST_BYTES, read_leaves};
+use zst_leaves::{MOST_BYTES, read_leaves};
 use zst_model::List;
 use zst_outside::Disk;
+use zst_tree::OrMemory;
 
 /// A list whose bytes fit leaves has at most so many runs.
 const MOST_RUNS: u64 = MOST_BYTES / 24;
@@ -29,10 +30,10 @@ fn length_of(count: u64) -> u64
 }
 
 // What is below the root isn't a list.
-fn no_list(root: &Ptr) -> LeavesFault
-    ensures { result ≡ Block (Damaged root.now.sector (parts_of root.now.sum) (parts_of root.now.sum)) }
+fn no_list(root: &Ptr) -> OrMemory<BlockFault>
+    ensures { result ≡ Fault (Damaged root.now.sector (parts_of root.now.sum) (parts_of root.now.sum)) }
 {
-    LeavesFault::Block(BlockFault::of_layout(root))
+    OrMemory::Fault(BlockFault::of_layout(root))
 }
 
 /// Reads a list of so many runs from the leaves below the root of a tree. One of none stands nowhere.
@@ -44,7 +45,7 @@ pub fn read_list<D: Disk>(
     levels: u8,
     root: Ptr,
     count: u64,
-) -> Result<List, LeavesFault>
+) -> Result<List, OrMemory<BlockFault>>
     // A list that is there is read, unless the disk or the memory fails, and what is read is there.
     ensures there { (runs : Runs) → IsHonest io.new → HasList (blocks_of io.old) levels root count runs → GivesList runs (λ list. list) result }
     ensures stands { IsHonest io.new → io.old.space.free ≡ [] → IfOk result (λ list. HasList (blocks_of io.old) levels root count list) }
@@ -53,7 +54,7 @@ pub fn read_list<D: Disk>(
     ensures damaged { IsHonest io.new → TellsList io.old.space.end (disk_of io.old).seen (disk_of io.old).size levels root count result }
 
     // It only reads.
-    ensures looks { Looks (io_of io.old) (io_of io.new) (stop_of_leaves result) }
+    ensures looks { Looks (io_of io.old) (io_of io.new) (fault_of result) }
 {
     if count == 0 {
         return Ok(List::empty(alloc));

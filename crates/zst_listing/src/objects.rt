@@ -1,21 +1,23 @@
 //! The lines of the objects of a set.
-ghost use Rattle.std.specs.Prelude.{◌≡◌, [], ◌∷◌, ◌++◌, IfErr, IfOk, OnOk, string_bytes};
+ghost use Rattle.std.specs.Prelude.{◌≡◌, [], ◌∷◌, ◌++◌, IfOk, OnOk, string_bytes};
 ghost use Rattle.zst_block.specs.IoCalls.{Looks};
 ghost use Rattle.zst_block.specs.IoStates.{IsHonest, blocks_of, disk_of, io_of};
-ghost use Rattle.zst_listing.specs.Listing.{IfListDamaged, IsOfBlock, ListsObjects, dnode_line, pointer_word, stop_of};
+ghost use Rattle.zst_listing.specs.Listing.{ListsObjects, dnode_line, pointer_word};
 ghost use Rattle.zst_model.specs.states.DatedState.{DatedState};
+ghost use Rattle.zst_objset.specs.Answers.{IsOfBlock};
 ghost use Rattle.zst_objset.specs.Damage.{IsDamagedSet};
+ghost use Rattle.zst_objset.specs.OrMemory.{IfTold, stop_of};
 ghost use Rattle.zst_objset.specs.Sets.{SetHolds};
 ghost use Rattle.zst_tree.specs.Damage.{IsSeen};
+ghost use Rattle.zst_tree.specs.Faults.{IfFault};
 
-use crate::fault::ListFault;
 use std::alloc::{AllocError, Global};
 use zst_block::{Io, Ptr};
 use zst_dnode::Dnode;
 use zst_model::{Bytes, Reply};
-use zst_objset::Objects;
+use zst_objset::{ObjFault, Objects};
 use zst_outside::Disk;
-use zst_tree::ObjSet;
+use zst_tree::{ObjSet, OrMemory};
 
 // The length of the block that a spill pointer names, or none, after a blank.
 fn pointer_word(alloc: Global, spill: &Ptr) -> Result<String, AllocError>
@@ -59,10 +61,10 @@ pub fn list_objects<D: Disk>(
     io: &mut Io<'_, D>,
     alloc: Global,
     set: &ObjSet,
-) -> Result<Reply, ListFault>
+) -> Result<Reply, OrMemory<ObjFault>>
     ensures told { (state : DatedState) → IsHonest io.new → SetHolds (blocks_of io.old) set.now state → ListsObjects state result }
-    ensures known { IfErr result IsOfBlock }
-    ensures damaged { IsHonest io.new → IfListDamaged result (IsDamagedSet (IsSeen (disk_of io.old).seen) (disk_of io.old).size set.now) }
+    ensures known { IfFault result IsOfBlock }
+    ensures damaged { IsHonest io.new → IfTold result (IsDamagedSet (IsSeen (disk_of io.old).seen) (disk_of io.old).size set.now) }
     ensures looks { Looks (io_of io.old) (io_of io.new) (stop_of result) }
 {
     let mut lines = Vec::new(alloc);

@@ -4,6 +4,7 @@ pub mod Changes
 pub mod Damage
 pub mod Dnodes
 pub mod FreedNumbers
+pub mod OrMemory
 pub mod SlotPuts
 pub mod Ranges
 pub mod Searches

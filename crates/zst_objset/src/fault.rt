@@ -1,5 +1,6 @@
 use zst_block::BlockFault;
 use zst_model::{ApplyFault, Quantity};
+use zst_tree::OrMemory;
 
 /// Why a call on an object set is refused.
 #[derive(Clone, Copy, Debug, PartialEq, Eq)]
@@ -33,5 +34,16 @@ impl From<BlockFault> for ObjFault {
 
     fn from(block: BlockFault) -> Self {
         ObjFault::Block(block)
+    }
+}
+
+impl From<ObjFault> for OrMemory<ObjFault> {
+    ghost use Rattle.std.specs.Prelude.{◌≡◌};
+    ghost use Rattle.zst_tree.specs.declared.or_memory.OrMemory.TheVariants.{Fault};
+
+    ghost from_gives = { λ fault made. made ≡ Fault fault };
+
+    fn from(fault: ObjFault) -> Self {
+        OrMemory::Fault(fault)
     }
 }

@@ -5,8 +5,8 @@ use Rattle.std.specs.Result.{IsErrAnd}
 use Rattle.std.specs.Str.{bytes_eq}
 use Rattle.zst_block.specs.declared.fault.BlockFault.{BlockFault}
 use Rattle.zst_block.specs.declared.fault.BlockFault.TheVariants.{Full, Damaged, DiskFault}
-use Rattle.zst_leaves.specs.declared.fault.LeavesFault.{LeavesFault}
-use Rattle.zst_leaves.specs.declared.fault.LeavesFault.TheVariants.{Block, Memory}
+use Rattle.zst_tree.specs.declared.or_memory.OrMemory.{OrMemory}
+use Rattle.zst_tree.specs.declared.or_memory.OrMemory.TheVariants.{Fault, Memory}
 use Rattle.zst_list.specs.StoredLists.{HasList, TellsList}
 use Rattle.zst_model.specs.fields.Lists.{Runs}
 use Rattle.zst_model.specs.declared.refusals.subjects.AbsentSubject.TheVariants as missing
@@ -18,7 +18,7 @@ use Rattle.zst_tree.specs.Indices.{Blocks}
 use Rattle.zst_dir.specs.Rows.{Rows}
 use Rattle.zst_dir.specs.declared.rows.Bookmark.{Bookmark}
 use Rattle.zst_image.specs.Reads.{BookmarkIs, RunsBy}
-use Rattle.zst_pool.specs.Faults.{of_leaves}
+use Rattle.zst_pool.specs.Faults.{of_block, or_memory}
 use Rattle.zst_pool.specs.Lists.{GivesList, GivesListed, TellsRow, list_by, row_named}
 use Rattle.zst_pool.specs.declared.fault.PoolFault.{PoolFault}
 use Rattle.zst_pool.specs.declared.fault.PoolFault.TheVariants as faults
@@ -29,14 +29,14 @@ option_map-same None = refl
 option_map-same (Some x) = refl
 
 -- what the read of a list tells as damaged, the pool tells of its row
-pub row_told : (end : ℕ) (image : List ℕ) (size : ℕ) (row : Bookmark) (result : Result (Option Runs) PoolFault) (fault : LeavesFault) → IsErrAnd result (λ made. made ≡ of_leaves fault)
+pub row_told : (end : ℕ) (image : List ℕ) (size : ℕ) (row : Bookmark) (result : Result (Option Runs) PoolFault) (fault : OrMemory BlockFault) → IsErrAnd result (λ made. made ≡ or_memory of_block fault)
     → TellsList {T = Runs} end image size row.levels row.root row.runs (Err fault) → IfErr result (TellsRow end image size row)
 row_told end image size row (Ok list) fault is told = tt
-row_told end image size row (Err made) (Block (Damaged at was are)) is told = λ sector stated found same.
+row_told end image size row (Err made) (Fault (Damaged at was are)) is told = λ sector stated found same.
     let one : Damaged at was are ≡ Damaged sector stated found = cc (is, same) in
-    subst (λ (f : BlockFault). TellsList {T = Runs} end image size row.levels row.root row.runs (Err (Block f))) one told
-row_told end image size row (Err made) (Block (Full need largest)) is told = λ sector stated found same. absurd (cc (is, same))
-row_told end image size row (Err made) (Block DiskFault) is told = λ sector stated found same. absurd (cc (is, same))
+    subst (λ (f : BlockFault). TellsList {T = Runs} end image size row.levels row.root row.runs (Err (Fault f))) one told
+row_told end image size row (Err made) (Fault (Full need largest)) is told = λ sector stated found same. absurd (cc (is, same))
+row_told end image size row (Err made) (Fault DiskFault) is told = λ sector stated found same. absurd (cc (is, same))
 row_told end image size row (Err made) Memory is told = λ sector stated found same. absurd (cc (is, same))
 
 module _ (has : Blocks) where

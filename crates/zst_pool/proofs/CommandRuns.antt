@@ -27,18 +27,20 @@ use Rattle.zst_model.specs.declared.refusals.plan_fault.PlanFault.{PlanFault}
 use Rattle.zst_model.specs.refusals.Refusal.{refusal_of}
 use Rattle.zst_pool.specs.Calls.{IsAtRest}
 use Rattle.zst_pool.specs.Cost.{Cost, HasNoRoom, Spends}
-use Rattle.zst_pool.specs.Damage.{HasHead, IfHeadDamaged, IsOf, OfHead}
-use Rattle.zst_pool.specs.declared.head_fault.HeadFault.TheVariants.{Set}
+use Rattle.zst_pool.specs.Damage.{HasHead, IsOf, OfHead}
+use Rattle.zst_tree.specs.declared.or_memory.OrMemory.TheVariants.{Fault}
 use Rattle.zst_pool.proofs.HeadAnswers.{memory_stops, plan_stops}
 use Rattle.zst_pool.specs.Faults.{StepFault, is_disk_fault, of_committed}
-use Rattle.zst_pool.specs.Heads.{ChangedHead, ChangesHead, Stops, Works, rested, stop_of}
+use Rattle.zst_pool.specs.Heads.{ChangedHead, ChangesHead, Stops, Works, rested}
+use Rattle.zst_objset.specs.OrMemory.{IfTold, stop_of}
 use Rattle.zst_dir.specs.RowNames.{AreNamed}
 use Rattle.zst_image.specs.Reads.{DatasetIs, RunsBy, SetIs, bound_of, free_by}
 use Rattle.zst_pool.specs.CommandRuns.{Did, Ran, Runs, as_kept}
 use Rattle.zst_image.specs.Commits.{CommittedDir, KeepsDisk, Ready, RefusedDir, TakesForDir}
 use Rattle.zst_pool.specs.declared.fault.PoolFault.{PoolFault}
 use Rattle.zst_pool.specs.declared.fault.PoolFault.TheVariants.{Damaged, DiskFault, OutOfMemory, Plan}
-use Rattle.zst_pool.specs.declared.head_fault.HeadFault.{HeadFault}
+use Rattle.zst_tree.specs.declared.or_memory.OrMemory.{OrMemory}
+use Rattle.zst_objset.specs.declared.fault.ObjFault.{ObjFault}
 use Rattle.zst_image.specs.Faults.{stop_of_commit}
 use Rattle.zst_uber.specs.DiskCalls.{HasDiskCause}
 use Rattle.zst_image.specs.declared.commit_fault.CommitFault.{CommitFault}
@@ -180,15 +182,15 @@ module _ (definition : Pool → Result Stepped Refusal) (cost : Cost) (damage : 
       runs_sound answer (λ sector stated found is. cc) (runs_idle definition cost kept {io = io} OutOfMemory same free ready (memory_stops None refl) (λ running rested. tt))
 
 -- one that changed the head of a dataset, or fell as that did
-pub runs_head : (definition : Pool → Result Stepped Refusal) (cost : Cost) (kept : PoolState) (name : List ℕ) (Is : FreeSectors → ObjSet → DamageFact) (old mid : IoState) {new : IoState} (set : ObjSet) (changed : Result (Unit {0}) HeadFault) (answer : Result PoolState PoolFault)
-    → old.space ≡ free_by kept.body → HasHead kept.dir name set → (mid.disk.honest → IfHeadDamaged changed (Is old.space set)) → (new.disk.honest → mid.disk.honest)
-    → ((sector : ℕ) (stated found : List ℕ) → answer ≡ Err (Damaged sector stated found) → changed ≡ Err (Set (set_faults.Block (block_faults.Damaged sector stated found))))
+pub runs_head : (definition : Pool → Result Stepped Refusal) (cost : Cost) (kept : PoolState) (name : List ℕ) (Is : FreeSectors → ObjSet → DamageFact) (old mid : IoState) {new : IoState} (set : ObjSet) (changed : Result (Unit {0}) (OrMemory ObjFault)) (answer : Result PoolState PoolFault)
+    → old.space ≡ free_by kept.body → HasHead kept.dir name set → (mid.disk.honest → IfTold changed (Is old.space set)) → (new.disk.honest → mid.disk.honest)
+    → ((sector : ℕ) (stated found : List ℕ) → answer ≡ Err (Damaged sector stated found) → changed ≡ Err (Fault (set_faults.Block (block_faults.Damaged sector stated found))))
     → Ran definition cost kept (rested old.disk old.failed old.reference kept) new answer → Runs definition cost (OfHead kept.dir name (Is (free_by kept.body))) kept old new answer
 runs_head definition cost kept name Is old mid {new = new} set changed answer free there tells falls same ran = record {
   ran = subst (λ (space : FreeSectors). Ran definition cost kept (record old { space = space }) new answer) (sym free) ran;
   damaged = λ told. told_of (OfHead kept.dir name (Is (free_by kept.body))) answer (λ sector stated found is.
-      let over = subst (λ (s : FreeSectors). IfHeadDamaged changed (Is s set)) free (tells (falls told)) in
-      (set, there, subst (λ (r : Result (Unit {0}) HeadFault). IfHeadDamaged r (Is (free_by kept.body) set)) (same sector stated found is) over));
+      let over = subst (λ (s : FreeSectors). IfTold changed (Is s set)) free (tells (falls told)) in
+      (set, there, subst (λ (r : Result (Unit {0}) (OrMemory ObjFault)). IfTold r (Is (free_by kept.body) set)) (same sector stated found is) over));
 }
 
 -- the number of the next commit, of a pool
@@ -205,7 +207,7 @@ head_there {bound = bound} kept name io was pool runs_by there =
     (there.1.head, subst (λ (set : ObjSet). SetIs bound has set there.1.head) there.3 stands.head, there.4)
 
 -- a head that was opened and changed
-pub changed_head : (kept : PoolState) (name : List ℕ) (make : Pool → DatedState → Result DatedState Refusal) (cost : Cost) (old new : IoState) {number : ℕ} {was set : ObjSet} {changed : Result (Unit {0}) HeadFault}
+pub changed_head : (kept : PoolState) (name : List ℕ) (make : Pool → DatedState → Result DatedState Refusal) (cost : Cost) (old new : IoState) {number : ℕ} {was set : ObjSet} {changed : Result (Unit {0}) (OrMemory ObjFault)}
     → old.space ≡ free_by kept.body → (kept.body.number ≤ 2 ^ 63 → number ≡ kept.body.number + 1)
     → ((pool : Pool) → AreNamed kept.dir pool → FindsHead kept.dir name pool (Ok was))
     → ((tight : Bool) (pool : Pool) (head : DatedState) → new.disk.honest → pool.number + 1 ≡ number → SetIs (bound_of tight number) (Has old.disk.seen old.space) was head

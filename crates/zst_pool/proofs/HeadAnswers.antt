@@ -15,19 +15,21 @@ use Rattle.zst_tree.specs.Indices.{Blocks}
 use Rattle.zst_tree.specs.declared.tree.ObjSet.{ObjSet}
 use Rattle.zst_objset.specs.declared.fault.ObjFault.TheVariants.{CannotApply, Redacted, Limit, Block}
 use Rattle.zst_pool.specs.Checks.{next_of, with_head_of}
-use Rattle.zst_pool.specs.Faults.{StepFault}
-use Rattle.zst_pool.specs.Heads.{ChangeFault, ChangesHead, JudgesHead, Stops, is_accepted, of_change, of_head, stop_of}
+use Rattle.zst_pool.specs.Faults.{StepFault, of_set, or_memory}
+use Rattle.zst_pool.specs.Heads.{ChangeFault, ChangesHead, JudgesHead, Stops, is_accepted, of_change}
+use Rattle.zst_objset.specs.OrMemory.{stop_of}
 use Rattle.zst_pool.specs.declared.fault.PoolFault.{PoolFault}
 use Rattle.zst_pool.specs.declared.fault.PoolFault.TheVariants as faults
-use Rattle.zst_pool.specs.declared.head_fault.HeadFault.{HeadFault}
-use Rattle.zst_pool.specs.declared.head_fault.HeadFault.TheVariants.{Set, Memory}
+use Rattle.zst_tree.specs.declared.or_memory.OrMemory.{OrMemory}
+use Rattle.zst_objset.specs.declared.fault.ObjFault.{ObjFault}
+use Rattle.zst_tree.specs.declared.or_memory.OrMemory.TheVariants.{Fault, Memory}
 
 -- a command stops as the change of its head did
-pub stops_of : (fault : HeadFault) → Stops (stop_of {T = Unit {0}} (Err fault)) (of_head fault)
-stops_of (Set (CannotApply fault)) = record { fails = refl; disk = λ is. absurd (cc); full = λ need largest is. absurd (cc); open_still = λ is. cc }
-stops_of (Set (Redacted object block)) = record { fails = refl; disk = λ is. absurd (cc); full = λ need largest is. absurd (cc); open_still = λ is. cc }
-stops_of (Set (Limit which number)) = record { fails = refl; disk = λ is. absurd (cc); full = λ need largest is. absurd (cc); open_still = λ is. cc }
-stops_of (Set (Block (Full n l))) = record {
+pub stops_of : (fault : OrMemory ObjFault) → Stops (stop_of {T = Unit {0}} (Err fault)) (or_memory of_set fault)
+stops_of (Fault (CannotApply fault)) = record { fails = refl; disk = λ is. absurd (cc); full = λ need largest is. absurd (cc); open_still = λ is. cc }
+stops_of (Fault (Redacted object block)) = record { fails = refl; disk = λ is. absurd (cc); full = λ need largest is. absurd (cc); open_still = λ is. cc }
+stops_of (Fault (Limit which number)) = record { fails = refl; disk = λ is. absurd (cc); full = λ need largest is. absurd (cc); open_still = λ is. cc }
+stops_of (Fault (Block (Full n l))) = record {
   fails = refl;
   disk = λ is. absurd (cc);
   full = λ need largest is.
@@ -36,8 +38,8 @@ stops_of (Set (Block (Full n l))) = record {
       ap (λ (m : ℕ). Some (Full m l)) needed ∙ ap (λ (m : ℕ). Some (Full need m)) left;
   open_still = λ is. cc;
 }
-stops_of (Set (Block (Damaged sector stated found))) = record { fails = refl; disk = λ is. absurd (cc); full = λ need largest is. absurd (cc); open_still = λ is. cc }
-stops_of (Set (Block DiskFault)) = record { fails = refl; disk = λ is. refl; full = λ need largest is. absurd (cc); open_still = λ is. cc }
+stops_of (Fault (Block (Damaged sector stated found))) = record { fails = refl; disk = λ is. absurd (cc); full = λ need largest is. absurd (cc); open_still = λ is. cc }
+stops_of (Fault (Block DiskFault)) = record { fails = refl; disk = λ is. refl; full = λ need largest is. absurd (cc); open_still = λ is. cc }
 stops_of Memory = record { fails = refl; disk = λ is. absurd (cc); full = λ need largest is. absurd (cc); open_still = λ is. cc }
 
 -- or is refused by the number of the commit, and by memory, where the disk didn't fail
@@ -48,28 +50,28 @@ pub memory_stops : (stop : Option BlockFault) → blocks.fails stop ≡ false �
 memory_stops stop apart = record { fails = apart; disk = λ is. absurd (cc); full = λ need largest is. absurd (cc); open_still = λ is. cc }
 
 -- where the definition accepts, the disk didn't fail
-pub accepted_fails : (changed : Result (Unit {0}) HeadFault) → is_accepted changed ≡ true → blocks.fails (stop_of changed) ≡ false
+pub accepted_fails : (changed : Result (Unit {0}) (OrMemory ObjFault)) → is_accepted changed ≡ true → blocks.fails (stop_of changed) ≡ false
 accepted_fails (Ok done) is = refl
-accepted_fails (Err (Set (CannotApply fault))) is = absurd (cc)
-accepted_fails (Err (Set (Redacted object block))) is = absurd (cc)
-accepted_fails (Err (Set (Limit which number))) is = absurd (cc)
-accepted_fails (Err (Set (Block (Full need largest)))) is = refl
-accepted_fails (Err (Set (Block (Damaged sector stated found)))) is = absurd (cc)
-accepted_fails (Err (Set (Block DiskFault))) is = absurd (cc)
+accepted_fails (Err (Fault (CannotApply fault))) is = absurd (cc)
+accepted_fails (Err (Fault (Redacted object block))) is = absurd (cc)
+accepted_fails (Err (Fault (Limit which number))) is = absurd (cc)
+accepted_fails (Err (Fault (Block (Full need largest)))) is = refl
+accepted_fails (Err (Fault (Block (Damaged sector stated found)))) is = absurd (cc)
+accepted_fails (Err (Fault (Block DiskFault))) is = absurd (cc)
 accepted_fails (Err Memory) is = absurd (cc)
 
 -- the answer of a change stops where it did
-pub answer_stops : (changed : Result (Unit {0}) HeadFault) (answer : Result (Unit {0}) PoolFault) → answer ≡ of_change changed → IfErr answer (Stops (stop_of changed))
+pub answer_stops : (changed : Result (Unit {0}) (OrMemory ObjFault)) (answer : Result (Unit {0}) PoolFault) → answer ≡ of_change changed → IfErr answer (Stops (stop_of changed))
 answer_stops changed answer same = subst (λ (r : Result (Unit {0}) PoolFault). IfErr r (Stops (stop_of changed))) (sym same) (go changed)
   where
-    go : (c : Result (Unit {0}) HeadFault) → IfErr (of_change c) (Stops (stop_of c))
+    go : (c : Result (Unit {0}) (OrMemory ObjFault)) → IfErr (of_change c) (Stops (stop_of c))
     go (Ok done) = tt
     go (Err fault) = stops_of fault
 
-pub answer_none : (changed : Result (Unit {0}) HeadFault) (answer : Result (Unit {0}) PoolFault) → answer ≡ of_change changed → OnOk answer (stop_of changed ≡ None)
+pub answer_none : (changed : Result (Unit {0}) (OrMemory ObjFault)) (answer : Result (Unit {0}) PoolFault) → answer ≡ of_change changed → OnOk answer (stop_of changed ≡ None)
 answer_none changed answer same = subst (λ (r : Result (Unit {0}) PoolFault). OnOk r (stop_of changed ≡ None)) (sym same) (go changed)
   where
-    go : (c : Result (Unit {0}) HeadFault) → OnOk (of_change c) (stop_of c ≡ None)
+    go : (c : Result (Unit {0}) (OrMemory ObjFault)) → OnOk (of_change c) (stop_of c ≡ None)
     go (Ok done) = refl
     go (Err fault) = tt
 
@@ -78,19 +80,19 @@ module _ (has : Blocks) (set : ObjSet) (name : List ℕ) (pool : Pool) (change :
   next after = committed (with_head_of name after pool)
 
   -- where the definition doesn't accept, it refuses the command too
-  refused_as : (fault : HeadFault) → is_accepted (Err fault) ≡ false → ChangeFault change fault → StepFault (Unit {0}) (change >>= next) (of_head fault)
-  refused_as (Set (CannotApply fault)) apart is = (ap (λ (r : Result DatedState Refusal). r >>= next) is, tt)
-  refused_as (Set (Redacted object block)) apart is = (ap (λ (r : Result DatedState Refusal). r >>= next) is, tt)
-  refused_as (Set (Limit which number)) apart is = (ap (λ (r : Result DatedState Refusal). r >>= next) is, tt)
-  refused_as (Set (Block (Full need largest))) apart is = absurd (cc)
-  refused_as (Set (Block (Damaged sector stated found))) apart is = is
-  refused_as (Set (Block DiskFault)) apart is = tt
+  refused_as : (fault : OrMemory ObjFault) → is_accepted (Err fault) ≡ false → ChangeFault change fault → StepFault (Unit {0}) (change >>= next) (or_memory of_set fault)
+  refused_as (Fault (CannotApply fault)) apart is = (ap (λ (r : Result DatedState Refusal). r >>= next) is, tt)
+  refused_as (Fault (Redacted object block)) apart is = (ap (λ (r : Result DatedState Refusal). r >>= next) is, tt)
+  refused_as (Fault (Limit which number)) apart is = (ap (λ (r : Result DatedState Refusal). r >>= next) is, tt)
+  refused_as (Fault (Block (Full need largest))) apart is = absurd (cc)
+  refused_as (Fault (Block (Damaged sector stated found))) apart is = is
+  refused_as (Fault (Block DiskFault)) apart is = tt
   refused_as Memory apart is = tt
 
-  pub judged_refused : (bound : Option ℕ) (changed : Result (Unit {0}) HeadFault) (answer : Result (Unit {0}) PoolFault) → answer ≡ of_change changed → is_accepted changed ≡ false → ChangesHead bound has set change changed → JudgesHead bound has set name pool change answer
+  pub judged_refused : (bound : Option ℕ) (changed : Result (Unit {0}) (OrMemory ObjFault)) (answer : Result (Unit {0}) PoolFault) → answer ≡ of_change changed → is_accepted changed ≡ false → ChangesHead bound has set change changed → JudgesHead bound has set name pool change answer
   judged_refused bound changed answer same apart is = subst (JudgesHead bound has set name pool change) (sym same) (go changed apart is)
     where
-      go : (c : Result (Unit {0}) HeadFault) → is_accepted c ≡ false → ChangesHead bound has set change c → JudgesHead bound has set name pool change (of_change c)
+      go : (c : Result (Unit {0}) (OrMemory ObjFault)) → is_accepted c ≡ false → ChangesHead bound has set change c → JudgesHead bound has set name pool change (of_change c)
       go (Ok done) apart is = absurd (cc)
       go (Err fault) apart is = refused_as fault apart is
 
@@ -99,19 +101,19 @@ module _ (has : Blocks) (set : ObjSet) (name : List ℕ) (pool : Pool) (change :
     goes_on : (after : DatedState) → change ≡ Ok after → (done : Stepped) × ((change >>= next) ≡ Ok done)
     goes_on after is = (next_of (with_head_of name after pool), ap (λ (r : Result DatedState Refusal). r >>= next) is ∙ left after)
 
-    full_as : (fault : HeadFault) → is_accepted (Err fault) ≡ true → ChangeFault change fault → StepFault (Unit {0}) (change >>= next) (of_head fault)
-    full_as (Set (CannotApply fault)) accepted is = absurd (cc)
-    full_as (Set (Redacted object block)) accepted is = absurd (cc)
-    full_as (Set (Limit which number)) accepted is = absurd (cc)
-    full_as (Set (Block (Full need largest))) accepted is = (goes_on is.0 is.1, tt)
-    full_as (Set (Block (Damaged sector stated found))) accepted is = absurd (cc)
-    full_as (Set (Block DiskFault)) accepted is = absurd (cc)
+    full_as : (fault : OrMemory ObjFault) → is_accepted (Err fault) ≡ true → ChangeFault change fault → StepFault (Unit {0}) (change >>= next) (or_memory of_set fault)
+    full_as (Fault (CannotApply fault)) accepted is = absurd (cc)
+    full_as (Fault (Redacted object block)) accepted is = absurd (cc)
+    full_as (Fault (Limit which number)) accepted is = absurd (cc)
+    full_as (Fault (Block (Full need largest))) accepted is = (goes_on is.0 is.1, tt)
+    full_as (Fault (Block (Damaged sector stated found))) accepted is = absurd (cc)
+    full_as (Fault (Block DiskFault)) accepted is = absurd (cc)
     full_as Memory accepted is = absurd (cc)
 
-    pub judged_accepted : (bound : Option ℕ) (changed : Result (Unit {0}) HeadFault) (answer : Result (Unit {0}) PoolFault) → answer ≡ of_change changed → is_accepted changed ≡ true → ChangesHead bound has set change changed → JudgesHead bound has set name pool change answer
+    pub judged_accepted : (bound : Option ℕ) (changed : Result (Unit {0}) (OrMemory ObjFault)) (answer : Result (Unit {0}) PoolFault) → answer ≡ of_change changed → is_accepted changed ≡ true → ChangesHead bound has set change changed → JudgesHead bound has set name pool change answer
     judged_accepted bound changed answer same accepted is = subst (JudgesHead bound has set name pool change) (sym same) (go changed accepted is)
       where
-        go : (c : Result (Unit {0}) HeadFault) → is_accepted c ≡ true → ChangesHead bound has set change c → JudgesHead bound has set name pool change (of_change c)
+        go : (c : Result (Unit {0}) (OrMemory ObjFault)) → is_accepted c ≡ true → ChangesHead bound has set change c → JudgesHead bound has set name pool change (of_change c)
         go (Ok done) accepted is = (is.0, is.1, is.2, left is.0)
         go (Err fault) accepted is = full_as fault accepted is
 
@@ -119,47 +121,47 @@ module _ (has : Blocks) (set : ObjSet) (name : List ℕ) (pool : Pool) (change :
   last_number : (refusal : Refusal) → ((after : DatedState) → committed (with_head_of name after pool) ≡ Err refusal) → (after : DatedState) → change ≡ Ok after → (change >>= next) ≡ Err refusal
   last_number refusal none after is = ap (λ (r : Result DatedState Refusal). r >>= next) is ∙ none after
 
-  pub judged_last : (bound : Option ℕ) (plan : PlanFault) → ((after : DatedState) → committed (with_head_of name after pool) ≡ Err (refusal_of plan)) → (changed : Result (Unit {0}) HeadFault) → is_accepted changed ≡ true → ChangesHead bound has set change changed
+  pub judged_last : (bound : Option ℕ) (plan : PlanFault) → ((after : DatedState) → committed (with_head_of name after pool) ≡ Err (refusal_of plan)) → (changed : Result (Unit {0}) (OrMemory ObjFault)) → is_accepted changed ≡ true → ChangesHead bound has set change changed
       → StepFault (Unit {0}) (change >>= next) (faults.Plan plan)
   judged_last bound plan none (Ok done) accepted is = (last_number (refusal_of plan) none is.0 is.1, tt)
-  judged_last bound plan none (Err (Set (CannotApply fault))) accepted is = absurd (cc)
-  judged_last bound plan none (Err (Set (Redacted object block))) accepted is = absurd (cc)
-  judged_last bound plan none (Err (Set (Limit which number))) accepted is = absurd (cc)
-  judged_last bound plan none (Err (Set (Block (Full need largest)))) accepted is = (last_number (refusal_of plan) none is.0 is.1, tt)
-  judged_last bound plan none (Err (Set (Block (Damaged sector stated found)))) accepted is = absurd (cc)
-  judged_last bound plan none (Err (Set (Block DiskFault))) accepted is = absurd (cc)
+  judged_last bound plan none (Err (Fault (CannotApply fault))) accepted is = absurd (cc)
+  judged_last bound plan none (Err (Fault (Redacted object block))) accepted is = absurd (cc)
+  judged_last bound plan none (Err (Fault (Limit which number))) accepted is = absurd (cc)
+  judged_last bound plan none (Err (Fault (Block (Full need largest)))) accepted is = (last_number (refusal_of plan) none is.0 is.1, tt)
+  judged_last bound plan none (Err (Fault (Block (Damaged sector stated found)))) accepted is = absurd (cc)
+  judged_last bound plan none (Err (Fault (Block DiskFault))) accepted is = absurd (cc)
   judged_last bound plan none (Err Memory) accepted is = absurd (cc)
 
 -- where the answer is no refusal, none was the change's
-pub answer_well : (changed : Result (Unit {0}) HeadFault) (answer : Result (Unit {0}) PoolFault) → answer ≡ of_change changed → OnOk answer (is_ok changed ≡ true)
+pub answer_well : (changed : Result (Unit {0}) (OrMemory ObjFault)) (answer : Result (Unit {0}) PoolFault) → answer ≡ of_change changed → OnOk answer (is_ok changed ≡ true)
 answer_well changed answer same = subst (λ (r : Result (Unit {0}) PoolFault). OnOk r (is_ok changed ≡ true)) (sym same) (go changed)
   where
-    go : (c : Result (Unit {0}) HeadFault) → OnOk (of_change c) (is_ok c ≡ true)
+    go : (c : Result (Unit {0}) (OrMemory ObjFault)) → OnOk (of_change c) (is_ok c ≡ true)
     go (Ok done) = refl
     go (Err fault) = tt
 
-pub well_is : (changed : Result (Unit {0}) HeadFault) (P : Type 0) → is_ok changed ≡ true → OnOk changed P → P
+pub well_is : (changed : Result (Unit {0}) (OrMemory ObjFault)) (P : Type 0) → is_ok changed ≡ true → OnOk changed P → P
 well_is (Ok done) P well is = is
 well_is (Err fault) P well is = absurd (cc)
 
 -- a damage that is answered is the change's
-pub damage_is : (fault : HeadFault) (sector : ℕ) (stated found : List ℕ) → of_head fault ≡ faults.Damaged sector stated found → fault ≡ Set (Block (Damaged sector stated found))
-damage_is (Set (CannotApply fault)) sector stated found is = absurd (cc)
-damage_is (Set (Redacted object block)) sector stated found is = absurd (cc)
-damage_is (Set (Limit which number)) sector stated found is = absurd (cc)
-damage_is (Set (Block (Full need largest))) sector stated found is = absurd (cc)
-damage_is (Set (Block (Damaged s a b))) sector stated found is = cc
-damage_is (Set (Block DiskFault)) sector stated found is = absurd (cc)
+pub damage_is : (fault : OrMemory ObjFault) (sector : ℕ) (stated found : List ℕ) → or_memory of_set fault ≡ faults.Damaged sector stated found → fault ≡ Fault (Block (Damaged sector stated found))
+damage_is (Fault (CannotApply fault)) sector stated found is = absurd (cc)
+damage_is (Fault (Redacted object block)) sector stated found is = absurd (cc)
+damage_is (Fault (Limit which number)) sector stated found is = absurd (cc)
+damage_is (Fault (Block (Full need largest))) sector stated found is = absurd (cc)
+damage_is (Fault (Block (Damaged s a b))) sector stated found is = cc
+damage_is (Fault (Block DiskFault)) sector stated found is = absurd (cc)
 damage_is Memory sector stated found is = absurd (cc)
 
-pub answer_damaged : (changed : Result (Unit {0}) HeadFault) (answer : Result (Unit {0}) PoolFault) → answer ≡ of_change changed
-    → (sector : ℕ) (stated found : List ℕ) → answer ≡ Err (faults.Damaged sector stated found) → changed ≡ Err (Set (Block (Damaged sector stated found)))
+pub answer_damaged : (changed : Result (Unit {0}) (OrMemory ObjFault)) (answer : Result (Unit {0}) PoolFault) → answer ≡ of_change changed
+    → (sector : ℕ) (stated found : List ℕ) → answer ≡ Err (faults.Damaged sector stated found) → changed ≡ Err (Fault (Block (Damaged sector stated found)))
 answer_damaged changed answer same sector stated found is = go changed (sym same ∙ is)
   where
-    go : (c : Result (Unit {0}) HeadFault) → of_change c ≡ Err (faults.Damaged sector stated found) → c ≡ Err (Set (Block (Damaged sector stated found)))
+    go : (c : Result (Unit {0}) (OrMemory ObjFault)) → of_change c ≡ Err (faults.Damaged sector stated found) → c ≡ Err (Fault (Block (Damaged sector stated found)))
     go (Ok done) is = absurd (cc)
-    go (Err fault) is = ap (λ (f : HeadFault). Err f) (damage_is fault sector stated found (cc))
+    go (Err fault) is = ap (λ (f : OrMemory ObjFault). Err f) (damage_is fault sector stated found (cc))
 
-pub always : (changed : Result (Unit {0}) HeadFault) (P : Type 0) → P → OnOk changed P
+pub always : (changed : Result (Unit {0}) (OrMemory ObjFault)) (P : Type 0) → P → OnOk changed P
 always (Ok done) P is = is
 always (Err fault) P is = tt

@@ -24,8 +24,9 @@ use Rattle.zst_objset.specs.Changes.{changed, object_made, object_put, spill_put
 use Rattle.zst_pool.specs.Heads.{ChangeFault, ChangesHead}
 use Rattle.zst_block.specs.declared.fault.BlockFault.TheVariants.{Full, Damaged, DiskFault}
 use Rattle.zst_objset.specs.declared.fault.ObjFault.TheVariants.{CannotApply, Redacted, Limit, Block}
-use Rattle.zst_pool.specs.declared.head_fault.HeadFault.{HeadFault}
-use Rattle.zst_pool.specs.declared.head_fault.HeadFault.TheVariants.{Set, Memory}
+use Rattle.zst_tree.specs.declared.or_memory.OrMemory.{OrMemory}
+use Rattle.zst_objset.specs.declared.fault.ObjFault.{ObjFault}
+use Rattle.zst_tree.specs.declared.or_memory.OrMemory.TheVariants.{Fault, Memory}
 
 -- one item that can't be applied
 applied_fault : (pool : Pool) (item : Item) (head : DatedState) (fault : ApplyFault) → apply_dated (pool.number + 1) item head ≡ Err fault → applied pool (item ∷ []) head ≡ Err (cannot_apply fault)
@@ -144,23 +145,23 @@ put_then number k head bonus bytes old mid is =
 
 -- what refuses the first of two changes refuses both; where the first finds no room, the second is possible too
 first_fault : (first : Result DatedState Refusal) (second : DatedState → Result DatedState Refusal) → ((mid : DatedState) → first ≡ Ok mid → (after : DatedState) × (second mid ≡ Ok after))
-    → (fault : HeadFault) → ChangeFault first fault → ChangeFault (first >>= second) fault
-first_fault first second goes (Set (CannotApply fault)) is = ap (λ (r : Result DatedState Refusal). r >>= second) is
-first_fault first second goes (Set (Redacted object block)) is = ap (λ (r : Result DatedState Refusal). r >>= second) is
-first_fault first second goes (Set (Limit which number)) is = ap (λ (r : Result DatedState Refusal). r >>= second) is
-first_fault first second goes (Set (Block (Full need largest))) is = let after = goes is.0 is.1 in (after.0, ap (λ (r : Result DatedState Refusal). r >>= second) is.1 ∙ after.1)
-first_fault first second goes (Set (Block (Damaged sector stated found))) is = is
-first_fault first second goes (Set (Block DiskFault)) is = is
+    → (fault : OrMemory ObjFault) → ChangeFault first fault → ChangeFault (first >>= second) fault
+first_fault first second goes (Fault (CannotApply fault)) is = ap (λ (r : Result DatedState Refusal). r >>= second) is
+first_fault first second goes (Fault (Redacted object block)) is = ap (λ (r : Result DatedState Refusal). r >>= second) is
+first_fault first second goes (Fault (Limit which number)) is = ap (λ (r : Result DatedState Refusal). r >>= second) is
+first_fault first second goes (Fault (Block (Full need largest))) is = let after = goes is.0 is.1 in (after.0, ap (λ (r : Result DatedState Refusal). r >>= second) is.1 ∙ after.1)
+first_fault first second goes (Fault (Block (Damaged sector stated found))) is = is
+first_fault first second goes (Fault (Block DiskFault)) is = is
 first_fault first second goes Memory is = is
 
 -- why an object isn't put, whose spill block would come next
-pub put_fault : (number k : ℕ) (head : ObjectHead) (bonus : List ℕ) (spill : Option (List ℕ)) (old : DatedState) (fault : HeadFault)
+pub put_fault : (number k : ℕ) (head : ObjectHead) (bonus : List ℕ) (spill : Option (List ℕ)) (old : DatedState) (fault : OrMemory ObjFault)
     → ChangeFault (object_put number k head bonus false old) fault → ChangeFault (object_made number k head bonus spill old) fault
 put_fault number k head bonus None old fault is = is
 put_fault number k head bonus (Some bytes) old fault is = first_fault (object_put number k head bonus false old) (spill_put number k bytes) (put_then number k head bonus bytes old) fault is
 
 -- where it was put, what is made of it then
-pub then_spilled : (bound : Option ℕ) (has : Blocks) (set : ObjSet) (number k : ℕ) (head : ObjectHead) (bonus bytes : List ℕ) (old mid : DatedState) (answer : Result (Unit {0}) HeadFault)
+pub then_spilled : (bound : Option ℕ) (has : Blocks) (set : ObjSet) (number k : ℕ) (head : ObjectHead) (bonus bytes : List ℕ) (old mid : DatedState) (answer : Result (Unit {0}) (OrMemory ObjFault))
     → object_put number k head bonus false old ≡ Ok mid → ChangesHead bound has set (spill_put number k bytes mid) answer → ChangesHead bound has set (object_made number k head bonus (Some bytes) old) answer
 then_spilled bound has set number k head bonus bytes old mid answer put is =
     subst (λ (r : Result DatedState Refusal). ChangesHead bound has set r answer) (sym (ap (λ (r : Result DatedState Refusal). r >>= spill_put number k bytes) put)) is

@@ -7,10 +7,11 @@ use Rattle.zst_block.specs.IoStates.{IoState}
 use Rattle.zst_block.proofs.IoCallLemmas.{Looks-none}
 use Rattle.zst_image.specs.Reads.{RunsBy}
 use Rattle.zst_image.specs.declared.pool_state.PoolState.{PoolState}
-use Rattle.zst_listing.specs.Listing as listing
-use Rattle.zst_listing.specs.Listing.{IfListDamaged, IsOfBlock, ListsObjects}
-use Rattle.zst_listing.specs.declared.fault.ListFault.{ListFault}
-use Rattle.zst_listing.specs.declared.fault.ListFault.TheVariants as lists
+use Rattle.zst_listing.specs.Listing.{ListsObjects}
+use Rattle.zst_tree.specs.Faults.{IfFault}
+use Rattle.zst_tree.specs.declared.or_memory.OrMemory.{OrMemory}
+use Rattle.zst_objset.specs.declared.fault.ObjFault.{ObjFault}
+use Rattle.zst_tree.specs.declared.or_memory.OrMemory.TheVariants.{Fault, Memory}
 use Rattle.zst_model.specs.declared.pools.command.Command.TheVariants as commands
 use Rattle.zst_model.specs.declared.refusals.subjects.Name.{Name}
 use Rattle.zst_model.specs.declared.refusals.plan_fault.PlanFault.{PlanFault}
@@ -19,34 +20,37 @@ use Rattle.zst_model.specs.states.DatedState.{DatedState}
 use Rattle.zst_model.specs.pools.AnswerLines.{object_lines, pool_lines}
 use Rattle.zst_model.specs.pools.Pool.{Pool}
 use Rattle.zst_model.specs.pools.Step.{Stepped, answered, no_such, or_else, state_named, stepped}
+use Rattle.zst_objset.specs.Answers.{IsOfBlock}
 use Rattle.zst_objset.specs.Damage.{DamageFact}
+use Rattle.zst_objset.specs.OrMemory as calls
+use Rattle.zst_objset.specs.OrMemory.{IfTold}
 use Rattle.zst_objset.specs.declared.fault.ObjFault.TheVariants as sets
 use Rattle.zst_pool.specs.Damage.{IsOf}
-use Rattle.zst_pool.specs.Faults.{StepFault, of_list}
+use Rattle.zst_pool.specs.Faults.{StepFault, of_set, or_memory}
 use Rattle.zst_pool.specs.Queries.{Tells, stop_of}
 use Rattle.zst_pool.proofs.PlanLemmas.{gives_told, no_plan-block}
 use Rattle.zst_pool.proofs.QueryLemmas.{disk_refused, set_told, stop_set}
 use Rattle.zst_pool.specs.declared.fault.PoolFault.TheVariants as faults
 
 -- a command stops where the list did
-pub stop_list : (T U : Type 0) (fault : ListFault) → listing.stop_of {T = U} (Err fault) ≡ stop_of {T = T} (Err (of_list fault))
-stop_list T U (lists.Set fault) = stop_set T U fault
-stop_list T U lists.Memory = refl
+pub stop_list : (T U : Type 0) (fault : OrMemory ObjFault) → calls.stop_of {T = U} (Err fault) ≡ stop_of {T = T} (Err (or_memory of_set fault))
+stop_list T U (Fault fault) = stop_set T U fault
+stop_list T U Memory = refl
 
 -- where the set holds a state, only the disk or the memory fails
-pub list_refused : (definition : Result Stepped Refusal) (state : DatedState) (fault : ListFault) → ListsObjects state (Err fault) → StepFault (Unit {0}) definition (of_list fault)
-list_refused definition state (lists.Set fault) is = disk_refused definition fault is
-list_refused definition state lists.Memory is = tt
+pub list_refused : (definition : Result Stepped Refusal) (state : DatedState) (fault : OrMemory ObjFault) → ListsObjects state (Err fault) → StepFault (Unit {0}) definition (or_memory of_set fault)
+list_refused definition state (Fault fault) is = disk_refused definition fault is
+list_refused definition state Memory is = tt
 
 -- a damage that the list tells is told by the command
-pub list_told : (T : Type 0) (P : DamageFact) (fault : ListFault) → IfListDamaged {T = T} (Err fault) P → IsOf P (of_list fault)
-list_told T P (lists.Set fault) is = set_told P P (λ sector stated found damaged. damaged) T fault is
-list_told T P lists.Memory is = λ sector stated found same. absurd (cc)
+pub list_told : (T : Type 0) (P : DamageFact) (fault : OrMemory ObjFault) → IfTold {T = T} (Err fault) P → IsOf P (or_memory of_set fault)
+list_told T P (Fault fault) is = set_told P P (λ sector stated found damaged. damaged) T fault is
+list_told T P Memory is = λ sector stated found same. absurd (cc)
 
 -- no list has a plan
-pub no_plan-list : (called : ListFault) (fault : PlanFault) → IsOfBlock called → of_list called ≡ faults.Plan fault → ⊥
-no_plan-list (lists.Set called) fault known is = no_plan-block called fault known is
-no_plan-list lists.Memory fault known is = absurd (cc)
+pub no_plan-list : (T : Type 0) (called : OrMemory ObjFault) (fault : PlanFault) → IfFault {T = T} (Err called) IsOfBlock → or_memory of_set called ≡ faults.Plan fault → ⊥
+no_plan-list T (Fault called) fault known is = no_plan-block called fault known is
+no_plan-list T Memory fault known is = absurd (cc)
 
 -- what a list of a name is, where it is there and where it isn't
 pub list_missing : (now : ℕ) (name : Name) (pool : Pool) → state_named name pool ≡ None → stepped [] now (commands.ListObjects name) pool ≡ Err (no_such name)
@@ -79,11 +83,11 @@ module _ (definition : Pool → Result Stepped Refusal) (damage : DamageFact) (k
   tells_no_memory = record { told = λ pool honest runs. tt; looks = Looks-none io; open_still = λ same. absurd (cc); damaged = λ honest sector stated found same. absurd (cc) }
 
 -- no list tells that the pool has failed
-pub list_open : (fault : ListFault) → ¬ (of_list fault ≡ faults.Failed)
-list_open (lists.Set (sets.CannotApply apply)) = λ is. absurd (cc)
-list_open (lists.Set (sets.Redacted object block)) = λ is. absurd (cc)
-list_open (lists.Set (sets.Limit which number)) = λ is. absurd (cc)
-list_open (lists.Set (sets.Block (blocks.Full need largest))) = λ is. absurd (cc)
-list_open (lists.Set (sets.Block (blocks.Damaged sector stated found))) = λ is. absurd (cc)
-list_open (lists.Set (sets.Block blocks.DiskFault)) = λ is. absurd (cc)
-list_open lists.Memory = λ is. absurd (cc)
+pub list_open : (fault : OrMemory ObjFault) → ¬ (or_memory of_set fault ≡ faults.Failed)
+list_open (Fault (sets.CannotApply apply)) = λ is. absurd (cc)
+list_open (Fault (sets.Redacted object block)) = λ is. absurd (cc)
+list_open (Fault (sets.Limit which number)) = λ is. absurd (cc)
+list_open (Fault (sets.Block (blocks.Full need largest))) = λ is. absurd (cc)
+list_open (Fault (sets.Block (blocks.Damaged sector stated found))) = λ is. absurd (cc)
+list_open (Fault (sets.Block blocks.DiskFault)) = λ is. absurd (cc)
+list_open Memory = λ is. absurd (cc)

@@ -35,7 +35,7 @@ use Rattle.zst_pool.specs.Plans.{IsLast, IsLimitOf, IsPast, Plans, is_by_rows, i
 use Rattle.zst_image.specs.Reads.{IsNamedBy}
 use Rattle.zst_pool.specs.declared.fault.PoolFault.{PoolFault}
 use Rattle.zst_pool.specs.declared.fault.PoolFault.TheVariants.{OutOfMemory, Plan}
-use Rattle.zst_pool.specs.declared.head_fault.HeadFault.{HeadFault}
+use Rattle.zst_tree.specs.declared.or_memory.OrMemory.{OrMemory}
 use Rattle.zst_image.specs.declared.commit_fault.CommitFault.{CommitFault}
 use Rattle.zst_image.specs.declared.commit_fault.CommitFault.TheVariants as commits
 use Rattle.zst_image.specs.declared.pool_state.PoolState.{PoolState}
@@ -182,18 +182,18 @@ past_call which limit past (Err (sets.Block (blocks.Full need largest))) fault l
 past_call which limit past (Err (sets.Block (blocks.Damaged sector stated found))) fault limits is = absurd (cc)
 past_call which limit past (Err (sets.Block blocks.DiskFault)) fault limits is = absurd (cc)
 
-pub past_numbers : (past : ℕ) (called : Result (Unit {0}) ObjFault) {answered : Result (Unit {0}) HeadFault} → answered ≡ of_call called → IfErr called (LimitOnly quantities.Object number_bound past)
+pub past_numbers : (past : ℕ) (called : Result (Unit {0}) ObjFault) {answered : Result (Unit {0}) (OrMemory ObjFault)} → answered ≡ of_call called → IfErr called (LimitOnly quantities.Object number_bound past)
     → (fault : PlanFault) → of_change answered ≡ Err (Plan fault) → IsPast past 0 fault
 unfolding number_bound
 past_numbers past called same limits fault is = inl (past_call quantities.Object number_bound past called fault limits (sym (ap of_change same) ∙ is))
 
-pub past_indices : (past : ℕ) (called : Result (Unit {0}) ObjFault) {answered : Result (Unit {0}) HeadFault} → answered ≡ of_call called → IfErr called (LimitOnly quantities.Block index_bound past)
+pub past_indices : (past : ℕ) (called : Result (Unit {0}) ObjFault) {answered : Result (Unit {0}) (OrMemory ObjFault)} → answered ≡ of_call called → IfErr called (LimitOnly quantities.Block index_bound past)
     → (fault : PlanFault) → of_change answered ≡ Err (Plan fault) → IsPast 0 past fault
 unfolding index_bound
 past_indices past called same limits fault is = inr (past_call quantities.Block index_bound past called fault limits (sym (ap of_change same) ∙ is))
 
 -- and a call without limits has no plan
-pub no_plan : (called : Result (Unit {0}) ObjFault) {answered : Result (Unit {0}) HeadFault} → answered ≡ of_call called → IfErr called NotLimit → (fault : PlanFault) → of_change answered ≡ Err (Plan fault) → ⊥
+pub no_plan : (called : Result (Unit {0}) ObjFault) {answered : Result (Unit {0}) (OrMemory ObjFault)} → answered ≡ of_call called → IfErr called NotLimit → (fault : PlanFault) → of_change answered ≡ Err (Plan fault) → ⊥
 no_plan called same limits fault is = not_planned called fault limits (sym (ap of_change same) ∙ is)
   where
     not_planned : (called : Result (Unit {0}) ObjFault) (fault : PlanFault) → IfErr called NotLimit → of_change (of_call called) ≡ Err (Plan fault) → ⊥
@@ -225,7 +225,7 @@ no_plan-commit made same fault is = not_planned made fault (sym same ∙ is)
     not_planned (Err commits.OutOfMemory) fault is = absurd (cc)
 
 -- what a command on a head is refused for once it was opened
-pub head_limits : (numbers indices : ℕ) (uber : Uber) (changed : Result (Unit {0}) HeadFault) → ((fault : PlanFault) → of_change changed ≡ Err (Plan fault) → IsPast numbers indices fault)
+pub head_limits : (numbers indices : ℕ) (uber : Uber) (changed : Result (Unit {0}) (OrMemory ObjFault)) → ((fault : PlanFault) → of_change changed ≡ Err (Plan fault) → IsPast numbers indices fault)
     → (fault : PlanFault) → (of_change changed ≡ Err (Plan fault)) ⊎ IsLast uber.number fault → IsLimitOf numbers indices uber fault
 head_limits numbers indices uber changed past fault (inl was) = inl (past fault was)
 head_limits numbers indices uber changed past fault (inr last) = inr last

@@ -12,12 +12,13 @@ use Rattle.zst_objset.specs.Answers as sets
 use Rattle.zst_image.specs.Reads.{SetIs}
 use Rattle.zst_objset.specs.declared.fault.ObjFault.{ObjFault}
 use Rattle.zst_objset.specs.declared.fault.ObjFault.TheVariants as set_faults
-use Rattle.zst_pool.specs.Heads.{ChangeFault, ChangesHead, of_call, stop_of}
-use Rattle.zst_pool.specs.declared.head_fault.HeadFault.{HeadFault}
-use Rattle.zst_pool.specs.declared.head_fault.HeadFault.TheVariants.{Set, Memory}
+use Rattle.zst_pool.specs.Heads.{ChangeFault, ChangesHead, of_call}
+use Rattle.zst_objset.specs.OrMemory.{stop_of}
+use Rattle.zst_tree.specs.declared.or_memory.OrMemory.{OrMemory}
+use Rattle.zst_tree.specs.declared.or_memory.OrMemory.TheVariants.{Fault, Memory}
 
 -- only the disk's failure
-pub disk_is : (definition : Result DatedState Refusal) (fault : ObjFault) → sets.IsDiskFault fault → ChangeFault definition (Set fault)
+pub disk_is : (definition : Result DatedState Refusal) (fault : ObjFault) → sets.IsDiskFault fault → ChangeFault definition (Fault fault)
 disk_is definition (set_faults.CannotApply fault) is = absurd is
 disk_is definition (set_faults.Redacted object block) is = absurd is
 disk_is definition (set_faults.Limit which number) is = absurd is
@@ -30,17 +31,17 @@ stop_is (Ok done) = refl
 stop_is (Err fault) = refl
 
 -- a change stops where it does, whatever it would have given
-pub stop_same : (T U : Type 0) (fault : HeadFault) → stop_of {T = T} (Err fault) ≡ stop_of {T = U} (Err fault)
-stop_same T U (Set (set_faults.CannotApply fault)) = refl
-stop_same T U (Set (set_faults.Redacted object block)) = refl
-stop_same T U (Set (set_faults.Limit which number)) = refl
-stop_same T U (Set (set_faults.Block fault)) = refl
+pub stop_same : (T U : Type 0) (fault : OrMemory ObjFault) → stop_of {T = T} (Err fault) ≡ stop_of {T = U} (Err fault)
+stop_same T U (Fault (set_faults.CannotApply fault)) = refl
+stop_same T U (Fault (set_faults.Redacted object block)) = refl
+stop_same T U (Fault (set_faults.Limit which number)) = refl
+stop_same T U (Fault (set_faults.Block fault)) = refl
 stop_same T U Memory = refl
 
-module _ (called : Result (Unit {0}) ObjFault) (answer : Result (Unit {0}) HeadFault) (same : answer ≡ of_call called) where
+module _ (called : Result (Unit {0}) ObjFault) (answer : Result (Unit {0}) (OrMemory ObjFault)) (same : answer ≡ of_call called) where
   -- a call that changes an object set stops where the part of a command does
   pub stopped : sets.stop_of called ≡ stop_of answer
-  stopped = sym (ap (λ (r : Result (Unit {0}) HeadFault). stop_of r) same ∙ stop_is called)
+  stopped = sym (ap (λ (r : Result (Unit {0}) (OrMemory ObjFault)). stop_of r) same ∙ stop_is called)
 
   pub call_works : {most block : ℕ} {old new : IoState} → Works most block old new (sets.stop_of called) → Works most block old new (stop_of answer)
   call_works {most = most} {block = block} {old = old} {new = new} does = subst (Works most block old new) stopped does
@@ -55,7 +56,7 @@ module _ (called : Result (Unit {0}) ObjFault) (answer : Result (Unit {0}) HeadF
 
   -- what holds where the call went well does where the part did
   pub call_ok : (P : Type 0) → OnOk called P → OnOk answer P
-  call_ok P is = subst (λ (r : Result (Unit {0}) HeadFault). OnOk r P) (sym same) (go called is)
+  call_ok P is = subst (λ (r : Result (Unit {0}) (OrMemory ObjFault)). OnOk r P) (sym same) (go called is)
     where
       go : (c : Result (Unit {0}) ObjFault) → OnOk c P → OnOk (of_call c) P
       go (Ok done) is = is

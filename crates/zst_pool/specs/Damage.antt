@@ -1,11 +1,11 @@
 -- Which block a command tells as damaged.
-use Rattle.std.specs.Prelude.{◌≡◌, ◌⊎◌, ℕ, List, Contains, Some, Result, Ok, Err}
+use Rattle.std.specs.Prelude.{◌≡◌, ◌⊎◌, ℕ, List, Contains, Some}
 use Rattle.zst_outside.specs.Images.{DiskState}
 use Rattle.zst_space.specs.FreeSectors.{FreeSectors}
 use Rattle.zst_block.specs.Blocks.{SparesTaken}
 use Rattle.zst_tree.specs.Damage.{IsSeen, NamesNode, SumsUp}
 use Rattle.zst_tree.specs.declared.tree.ObjSet.{ObjSet}
-use Rattle.zst_objset.specs.Damage.{DamageFact, IfSetDamaged, IsDamagedBlock, IsDamagedObject, IsDamagedSet}
+use Rattle.zst_objset.specs.Damage.{DamageFact, IsDamagedBlock, IsDamagedObject, IsDamagedSet}
 use Rattle.zst_model.specs.declared.pools.command.Command.{Command}
 use Rattle.zst_model.specs.declared.pools.command.Command.TheVariants as commands
 use Rattle.zst_model.specs.declared.refusals.subjects.Name.{Name}
@@ -14,14 +14,6 @@ use Rattle.zst_dir.specs.declared.rows.Dataset.{Dataset}
 use Rattle.zst_pool.specs.Lookups.{set_named}
 use Rattle.zst_pool.specs.declared.fault.PoolFault.{PoolFault}
 use Rattle.zst_pool.specs.declared.fault.PoolFault.TheVariants.{Damaged}
-use Rattle.zst_pool.specs.declared.head_fault.HeadFault.{HeadFault}
-use Rattle.zst_pool.specs.declared.head_fault.HeadFault.TheVariants.{Set, Memory}
-
--- it is so of the damage that a change of a head tells
-abbrev pub IfHeadDamaged : {T : Type 0} → Result T HeadFault → DamageFact → Type 0
-IfHeadDamaged (Ok value) P = Unit {0}
-IfHeadDamaged {T = T} (Err (Set fault)) P = IfSetDamaged {T = T} (Err fault) P
-IfHeadDamaged (Err Memory) P = Unit {0}
 
 -- what a change of the slots of a set may tell: of a node of its tree or of a leaf of dnodes, in an image that is as the disk was but for its free sectors
 abbrev pub slots_damage : DiskState → FreeSectors → ObjSet → DamageFact

@@ -10,10 +10,8 @@ use Rattle.zst_model.specs.pools.Step.{Stepped}
 use Rattle.zst_model.specs.declared.refusals.plan_fault.PlanFault.TheVariants as plans
 use Rattle.zst_objset.specs.declared.fault.ObjFault.{ObjFault}
 use Rattle.zst_objset.specs.declared.fault.ObjFault.TheVariants as sets
-use Rattle.zst_leaves.specs.declared.fault.LeavesFault.{LeavesFault}
-use Rattle.zst_leaves.specs.declared.fault.LeavesFault.TheVariants as leaves
-use Rattle.zst_listing.specs.declared.fault.ListFault.{ListFault}
-use Rattle.zst_listing.specs.declared.fault.ListFault.TheVariants as lists
+use Rattle.zst_tree.specs.declared.or_memory.OrMemory.{OrMemory}
+use Rattle.zst_tree.specs.declared.or_memory.OrMemory.TheVariants.{Fault, Memory}
 use Rattle.zst_image.specs.declared.commit_fault.CommitFault.{CommitFault}
 use Rattle.zst_image.specs.declared.commit_fault.CommitFault.TheVariants as commits
 use Rattle.zst_pool.specs.declared.fault.PoolFault.{PoolFault}
@@ -43,15 +41,10 @@ of_set (sets.Redacted object block) = faults.Redacted object block
 of_set (sets.Limit which number) = faults.Plan (plans.Limit which number)
 of_set (sets.Block fault) = of_block fault
 
--- a fault of the leaves of a list as a pool's
-abbrev pub of_leaves : LeavesFault → PoolFault
-of_leaves (leaves.Block fault) = of_block fault
-of_leaves leaves.Memory = faults.OutOfMemory
-
--- a fault of a list of objects as a pool's
-abbrev pub of_list : ListFault → PoolFault
-of_list (lists.Set fault) = of_set fault
-of_list lists.Memory = faults.OutOfMemory
+-- a fault that is such a one as a pool's, or want of memory
+abbrev pub or_memory : {F : Type 0} → (F → PoolFault) → OrMemory F → PoolFault
+or_memory as_pool (Fault fault) = as_pool fault
+or_memory as_pool Memory = faults.OutOfMemory
 
 -- a commit's fault as a pool's
 abbrev pub of_commit : CommitFault → PoolFault

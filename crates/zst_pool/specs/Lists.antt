@@ -1,7 +1,7 @@
 -- What a pool tells of a bookmark's list.
 use Rattle.std.specs.Prelude.{◌≡◌, ◌≢◌, ℕ, List, [], ◌∷◌, Option, Some, None, Result, Ok, Err, find, bytes_eq, IfSome}
 use Rattle.zst_block.specs.declared.fault.BlockFault.TheVariants as blocks
-use Rattle.zst_leaves.specs.declared.fault.LeavesFault.TheVariants as leaves
+use Rattle.zst_tree.specs.declared.or_memory.OrMemory.TheVariants.{Fault}
 use Rattle.zst_list.specs.StoredLists.{HasList, TellsList}
 use Rattle.zst_model.specs.fields.Lists.{Runs}
 use Rattle.zst_model.specs.declared.refusals.subjects.AbsentSubject.TheVariants as missing
@@ -74,4 +74,4 @@ StandsBelow has row list = IfSome list (λ runs. HasList has row.levels row.root
 abbrev pub TellsRow : ℕ → List ℕ → ℕ → Bookmark → PoolFault → Type 0
 TellsRow end image size row fault =
     (sector : ℕ) (stated found : List ℕ) → fault ≡ faults.Damaged sector stated found
-    → TellsList {T = Runs} end image size row.levels row.root row.runs (Err (leaves.Block (blocks.Damaged sector stated found)))
+    → TellsList {T = Runs} end image size row.levels row.root row.runs (Err (Fault (blocks.Damaged sector stated found)))

@@ -10,30 +10,31 @@ ghost use Rattle.zst_model.specs.pools.Step.{filled, punched, written};
 ghost use Rattle.zst_objset.specs.Sets.{SetHolds};
 ghost use Rattle.zst_image.specs.Reads.{SetIs, bound_of};
 ghost use Rattle.zst_pool.specs.Checks.{freed, put_in};
-ghost use Rattle.zst_pool.specs.Heads.{ChangesHead, FindsSize, Works, of_call, of_change, of_head, stop_of, CanPutObject};
+ghost use Rattle.zst_pool.specs.Faults.{of_set, or_memory};
+ghost use Rattle.zst_pool.specs.Heads.{ChangesHead, FindsSize, Works, of_call, of_change, CanPutObject};
+ghost use Rattle.zst_objset.specs.OrMemory.{IfTold, stop_of};
 ghost use Rattle.zst_pool.specs.Cost.{object_cells, spill_sectors};
-ghost use Rattle.zst_pool.specs.Damage.{IfHeadDamaged, block_damage, range_damage, slots_damage};
+ghost use Rattle.zst_pool.specs.Damage.{block_damage, range_damage, slots_damage};
 ghost use Rattle.zst_objset.specs.Damage.{IsDamagedSet};
 ghost use Rattle.zst_tree.specs.Damage.{IsSeen};
 ghost use Rattle.zst_pool.specs.Plans.{IsPast};
 ghost use Rattle.zst_pool.specs.declared.fault.PoolFault.{PoolFault};
 ghost use Rattle.zst_tree.specs.Sets.{SetFits};
 
-use crate::head_fault::HeadFault;
 use std::alloc::{AllocError, Global};
 use zst_block::Io;
 use zst_model::{ApplyFault, Bytes, ObjectHead};
 use zst_objset::{ObjFault, Objects, changes_are_commands};
 use zst_outside::Disk;
-use zst_tree::ObjSet;
+use zst_tree::{ObjSet, OrMemory};
 
 // What a call of an object set answers, as what a change of a head does.
-fn answer(called: Result<(), ObjFault>) -> Result<(), HeadFault>
+fn answer(called: Result<(), ObjFault>) -> Result<(), OrMemory<ObjFault>>
     ensures { result ≡ of_call called }
 {
     match called {
         Ok(()) => Ok(()),
-        Err(fault) => Err(HeadFault::from(fault)),
+        Err(fault) => Err(OrMemory::Fault(fault)),
     }
 }
 
@@ -46,12 +47,12 @@ pub fn change_object<D: Disk>(
     head: ObjectHead,
     bonus: Bytes,
     spill: Option<Bytes>,
-) -> Result<(), HeadFault>
+) -> Result<(), OrMemory<ObjFault>>
     requires can { CanPutObject object head bonus spill }
     ensures changed { (tight : Bool) (pool : Pool) (old : DatedState) → IsHonest io.new → pool.number + 1 ≡ number → SetIs (bound_of tight number) (blocks_of io.old) set.old old
         → ChangesHead (bound_of tight number) (blocks_of io.new) set.new (put_in pool object head bonus spill old) result }
     ensures works { Works (object_cells spill) (spill_sectors spill) (io_of io.old) (io_of io.new) (stop_of result) }
-    ensures damaged { IsHonest io.new → IfHeadDamaged result (slots_damage (disk_of io.old) io.old.space set.old) }
+    ensures damaged { IsHonest io.new → IfTold result (slots_damage (disk_of io.old) io.old.space set.old) }
     ensures levels { OnOk result (SetFits set.new) }
     ensures limits { (fault : PlanFault) → of_change result ≡ Err (PoolFault.Plan fault) → IsPast (object + 1) 0 fault }
 {
@@ -70,23 +71,23 @@ fn find_size<D: Disk>(
     set: &ObjSet,
     object: u64,
     bytes: &[u8],
-) -> Result<u32, HeadFault>
+) -> Result<u32, OrMemory<ObjFault>>
     requires object { 0 < object }
     ensures found { (pool : Pool) (index : ℕ) (head : DatedState) → IsHonest io.new → SetHolds (blocks_of io.old) set.now head
         → FindsSize (written pool object index bytes.now head) (size_at (head.state object)) result }
-    ensures limits { IfErr result (λ fell. (fault : PlanFault) → of_head fell ≡ PoolFault.Plan fault → ⊥) }
+    ensures limits { IfErr result (λ fell. (fault : PlanFault) → or_memory of_set fell ≡ PoolFault.Plan fault → ⊥) }
     ensures size { IfOk result (λ size. is_block_size size ≡ true) }
     ensures room { IfOk result (λ size. length bytes.now ≤ size) }
     ensures looks { Looks (io_of io.old) (io_of io.new) (stop_of result) }
-    ensures damaged { IsHonest io.new → IfHeadDamaged result (IsDamagedSet (IsSeen (disk_of io.old).seen) (disk_of io.old).size set.now) }
+    ensures damaged { IsHonest io.new → IfTold result (IsDamagedSet (IsSeen (disk_of io.old).seen) (disk_of io.old).size set.now) }
 {
     match set.attr(io, object) {
-        Ok(None) => Err(HeadFault::Set(ObjFault::CannotApply(ApplyFault::NoObject))),
+        Ok(None) => Err(OrMemory::Fault(ObjFault::CannotApply(ApplyFault::NoObject))),
         Ok(Some(dnode)) if bytes.len() > dnode.block_size as usize => {
-            Err(HeadFault::Set(ObjFault::CannotApply(ApplyFault::SizeDiffers)))
+            Err(OrMemory::Fault(ObjFault::CannotApply(ApplyFault::SizeDiffers)))
         }
         Ok(Some(dnode)) => Ok(dnode.block_size),
-        Err(fault) => Err(HeadFault::from(fault)),
+        Err(fault) => Err(OrMemory::Fault(fault)),
     }
 }
 
@@ -110,14 +111,14 @@ pub fn change_block<D: Disk>(
     object: u64,
     index: u64,
     bytes: &[u8],
-) -> Result<(), HeadFault>
+) -> Result<(), OrMemory<ObjFault>>
     requires object { 0 < object }
     ensures changed { (tight : Bool) (pool : Pool) (head : DatedState) → IsHonest io.new → pool.number + 1 ≡ number → SetIs (bound_of tight number) (blocks_of io.old) set.old head
         → ChangesHead (bound_of tight number) (blocks_of io.new) set.new (written pool object index bytes.now head) result }
     ensures works { (block : ℕ) × (block ≤ 256) × Works 1 block (io_of io.old) (io_of io.new) (stop_of result) }
     ensures exact { (head : DatedState) → IsHonest io.new → SetHolds (blocks_of io.old) set.old head
         → Works 1 (size_at (head.state object) / 512) (io_of io.old) (io_of io.new) (stop_of result) }
-    ensures damaged { IsHonest io.new → IfHeadDamaged result (block_damage (disk_of io.old) io.old.space set.old) }
+    ensures damaged { IsHonest io.new → IfTold result (block_damage (disk_of io.old) io.old.space set.old) }
     ensures levels { OnOk result (SetFits set.new) }
     ensures limits { (fault : PlanFault) → of_change result ≡ Err (PoolFault.Plan fault) → IsPast 0 (index + 1) fault }
 {
@@ -135,12 +136,12 @@ pub fn change_holes<D: Disk>(
     object: u64,
     first: u64,
     count: u64,
-) -> Result<(), HeadFault>
+) -> Result<(), OrMemory<ObjFault>>
     requires object { 0 < object }
     ensures changed { (tight : Bool) (pool : Pool) (head : DatedState) → IsHonest io.new → pool.number + 1 ≡ number → SetIs (bound_of tight number) (blocks_of io.old) set.old head
         → ChangesHead (bound_of tight number) (blocks_of io.new) set.new (punched pool object first count head) result }
     ensures works { Works 2 0 (io_of io.old) (io_of io.new) (stop_of result) }
-    ensures damaged { IsHonest io.new → IfHeadDamaged result (range_damage (disk_of io.old) io.old.space set.old) }
+    ensures damaged { IsHonest io.new → IfTold result (range_damage (disk_of io.old) io.old.space set.old) }
     ensures levels { OnOk result (SetFits set.new) }
     ensures limits { (fault : PlanFault) → of_change result ≡ Err (PoolFault.Plan fault) → IsPast 0 (first + count) fault }
 {
@@ -155,12 +156,12 @@ pub fn change_numbers<D: Disk>(
     number: u64,
     first: u64,
     count: u64,
-) -> Result<(), HeadFault>
+) -> Result<(), OrMemory<ObjFault>>
     requires first { 0 < first }
     ensures changed { (tight : Bool) (pool : Pool) (head : DatedState) → IsHonest io.new → pool.number + 1 ≡ number → SetIs (bound_of tight number) (blocks_of io.old) set.old head
         → ChangesHead (bound_of tight number) (blocks_of io.new) set.new (freed pool first count head) result }
     ensures works { Works 2 0 (io_of io.old) (io_of io.new) (stop_of result) }
-    ensures damaged { IsHonest io.new → IfHeadDamaged result (slots_damage (disk_of io.old) io.old.space set.old) }
+    ensures damaged { IsHonest io.new → IfTold result (slots_damage (disk_of io.old) io.old.space set.old) }
     ensures levels { SetFits set.old → SetFits set.new }
     ensures limits { (fault : PlanFault) → of_change result ≡ Err (PoolFault.Plan fault) → IsPast (first + count) 0 fault }
 {

@@ -1,14 +1,12 @@
 ghost use Rattle.std.specs.Prelude.{◌≡◌};
 ghost use Rattle.zst_pool.specs.Faults.{of_committed};
 
-use crate::head_fault::HeadFault;
 use std::alloc::AllocError;
 use zst_block::BlockFault;
 use zst_image::{CommitFault, PoolState};
-use zst_leaves::LeavesFault;
-use zst_listing::ListFault;
 use zst_model::{ApplyFault, PlanFault, Refusal};
 use zst_objset::ObjFault;
+use zst_tree::OrMemory;
 
 /// Why a pool isn't stepped.
 #[derive(Debug, Drop)]
@@ -105,44 +103,30 @@ impl From<ObjFault> for PoolFault {
     }
 }
 
-impl From<HeadFault> for PoolFault {
+impl From<OrMemory<BlockFault>> for PoolFault {
     ghost use Rattle.std.specs.Prelude.{◌≡◌};
-    ghost use Rattle.zst_pool.specs.Heads.{of_head};
+    ghost use Rattle.zst_pool.specs.Faults.{of_block, or_memory};
 
-    ghost from_gives = { λ head fault. fault ≡ of_head head };
+    ghost from_gives = { λ block fault. fault ≡ or_memory of_block block };
 
-    fn from(fault: HeadFault) -> Self {
+    fn from(fault: OrMemory<BlockFault>) -> Self {
         match fault {
-            HeadFault::Set(fault) => PoolFault::from(fault),
-            HeadFault::Memory => PoolFault::OutOfMemory,
+            OrMemory::Fault(fault) => PoolFault::from(fault),
+            OrMemory::Memory => PoolFault::OutOfMemory,
         }
     }
 }
 
-impl From<LeavesFault> for PoolFault {
+impl From<OrMemory<ObjFault>> for PoolFault {
     ghost use Rattle.std.specs.Prelude.{◌≡◌};
-    ghost use Rattle.zst_pool.specs.Faults.{of_leaves};
+    ghost use Rattle.zst_pool.specs.Faults.{of_set, or_memory};
 
-    ghost from_gives = { λ leaves fault. fault ≡ of_leaves leaves };
+    ghost from_gives = { λ set fault. fault ≡ or_memory of_set set };
 
-    fn from(fault: LeavesFault) -> Self {
+    fn from(fault: OrMemory<ObjFault>) -> Self {
         match fault {
-            LeavesFault::Block(fault) => PoolFault::from(fault),
-            LeavesFault::Memory => PoolFault::OutOfMemory,
-        }
-    }
-}
-
-impl From<ListFault> for PoolFault {
-    ghost use Rattle.std.specs.Prelude.{◌≡◌};
-    ghost use Rattle.zst_pool.specs.Faults.{of_list};
-
-    ghost from_gives = { λ list fault. fault ≡ of_list list };
-
-    fn from(fault: ListFault) -> Self {
-        match fault {
-            ListFault::Set(fault) => PoolFault::from(fault),
-            ListFault::Memory => PoolFault::OutOfMemory,
+            OrMemory::Fault(fault) => PoolFault::from(fault),
+            OrMemory::Memory => PoolFault::OutOfMemory,
         }
     }
 }

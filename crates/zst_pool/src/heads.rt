@@ -12,7 +12,8 @@ ghost use Rattle.zst_model.specs.pools.Step.{on_head, punched, written};
 ghost use Rattle.zst_tree.specs.Sets.{SetFits};
 ghost use Rattle.zst_tree.specs.declared.tree.ObjSet.{ObjSet as ObjectSet};
 ghost use Rattle.zst_pool.specs.Checks.{FindsHead, freed, put_in, ChecksRows};
-ghost use Rattle.zst_pool.specs.Heads.{ChangedHead, ChangesHead, JudgesHead, Stops, is_accepted, of_change, rested, stop_of, RefusesHead, CanPutObject};
+ghost use Rattle.zst_pool.specs.Heads.{ChangedHead, ChangesHead, JudgesHead, Stops, is_accepted, of_change, rested, RefusesHead, CanPutObject};
+ghost use Rattle.zst_objset.specs.OrMemory.{stop_of};
 ghost use Rattle.zst_image.specs.Reads.{free_by};
 ghost use Rattle.zst_pool.specs.Cost.{Cost, cells_only, object_cost, write_cost};
 ghost use Rattle.zst_pool.specs.CommandRuns.{Ran, CanBegin, RunsByPlan};
@@ -22,7 +23,6 @@ ghost use Rattle.zst_image.specs.Commits.{Ready};
 use crate::changes::{change_block, change_holes, change_numbers, change_object};
 use crate::checks::{check_number, open_dataset};
 use crate::fault::{PoolFault, of_committed};
-use crate::head_fault::HeadFault;
 use std::alloc::Global;
 use zst_block::{BlockFault, Io};
 use zst_dir::Dir;
@@ -31,7 +31,7 @@ use zst_model::{Bytes, ObjectHead, PlanFault};
 use zst_names::DatasetName;
 use zst_objset::ObjFault;
 use zst_outside::Disk;
-use zst_tree::ObjSet;
+use zst_tree::{ObjSet, OrMemory};
 use zst_uber::Uber;
 
 // The object set of the head of a dataset that has no partial state.
@@ -55,17 +55,17 @@ fn next_number(body: &Uber) -> u64
 }
 
 // Whether the definition accepts a change with this answer: also where no room was found.
-fn is_accepted(changed: &Result<(), HeadFault>) -> bool
+fn is_accepted(changed: &Result<(), OrMemory<ObjFault>>) -> bool
     ensures { result ≡ is_accepted changed.now }
 {
     matches!(
         changed,
-        Ok(()) | Err(HeadFault::Set(ObjFault::Block(BlockFault::Full { .. })))
+        Ok(()) | Err(OrMemory::Fault(ObjFault::Block(BlockFault::Full { .. })))
     )
 }
 
 // What a change of a head answers, as a pool's answer.
-fn answer(changed: Result<(), HeadFault>) -> Result<(), PoolFault>
+fn answer(changed: Result<(), OrMemory<ObjFault>>) -> Result<(), PoolFault>
     ensures { result ≡ of_change changed }
 {
     match changed {
@@ -75,7 +75,7 @@ fn answer(changed: Result<(), HeadFault>) -> Result<(), PoolFault>
 }
 
 // What a command answers whose change was answered so: E23 of the commit's number comes before E24.
-fn judge(number: u64, changed: Result<(), HeadFault>) -> Result<(), PoolFault>
+fn judge(number: u64, changed: Result<(), OrMemory<ObjFault>>) -> Result<(), PoolFault>
     ensures judged { (bound : Option ℕ) (image : List ℕ) (space : FreeSectors) (set : ObjectSet) (name : List ℕ) (pool : Pool) (change : Result DatedState Refusal) → pool.number ≡ number
         → ChangesHead bound (Has image space) set change changed → JudgesHead bound (Has image space) set name pool change result }
     ensures below { OnOk result (number < 2 ^ 63) }
@@ -99,7 +99,7 @@ fn commit_head<D: Disk>(
     kept: &PoolState,
     name: &DatasetName,
     set: ObjSet,
-    changed: Result<(), HeadFault>,
+    changed: Result<(), OrMemory<ObjFault>>,
 ) -> Result<PoolState, PoolFault>
     requires sectors { io.old.space.sectors ≡ kept.now.body.sectors }
     requires ready { Ready (disk_of io.old) kept.now.body }

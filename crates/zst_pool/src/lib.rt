@@ -8,7 +8,6 @@ mod checks;
 mod commands;
 mod fault;
 mod finished_partials;
-mod head_fault;
 mod heads;
 mod laws;
 mod lineage;

@@ -3,7 +3,8 @@ mod rows;
 mod sets;
 
 use std::test::Fail;
-use zst_listing::ListFault;
+use zst_objset::ObjFault;
+use zst_tree::OrMemory;
 
 #[test]
 fn rows_of_redactions_are_listed(rt: HostRuntime) -> Result<(), Fail> {
@@ -21,7 +22,7 @@ fn rows_of_redactions_are_listed(rt: HostRuntime) -> Result<(), Fail> {
 }
 
 #[test]
-fn an_object_ends_behind_what_is_redacted(rt: HostRuntime) -> Result<(), ListFault> {
+fn an_object_ends_behind_what_is_redacted(rt: HostRuntime) -> Result<(), OrMemory<ObjFault>> {
     let reply = sets::listed(rt.alloc())?;
     let text = "object 281474976710655 type 19 size 512 bonustype 44 bonus 0 spill none end 205";
     let lines = reply.lines();

@@ -1,5 +1,6 @@
 pub mod Changes
 pub mod Damage
+pub mod Faults
 pub mod PresentIndices
 pub mod Lookups
 pub mod Indices

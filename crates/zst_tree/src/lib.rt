@@ -5,6 +5,7 @@ mod late_indices;
 mod leaf_puts;
 mod lookups;
 mod nodes;
+mod or_memory;
 mod path_answer;
 mod present_indices;
 mod puts;
@@ -17,6 +18,7 @@ mod writes;
 
 pub use leaf_puts::Leaf;
 pub use nodes::{child_at, load_node};
+pub use or_memory::OrMemory;
 pub use puts::put_child;
 pub use spans::{TREE_INDEX_BOUND, span_of};
 pub use steps::{Steps, tick};

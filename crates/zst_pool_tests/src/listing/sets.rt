@@ -4,12 +4,12 @@ ghost use Rattle.zst_model.specs.states.State.{IsHead};
 
 use std::alloc::{AllocError, Global};
 use zst_block::Io;
-use zst_listing::{ListFault, list_objects};
+use zst_listing::list_objects;
 use zst_model::{ObjectHead, Reply};
-use zst_objset::Objects;
+use zst_objset::{ObjFault, Objects};
 use zst_outside::{Disk, SureDisk};
 use zst_space::Space;
-use zst_tree::ObjSet;
+use zst_tree::{ObjSet, OrMemory};
 
 // The greatest number of an object.
 const LAST: u64 = (1 << 48) - 1;
@@ -42,7 +42,7 @@ fn file() -> ObjectHead
 }
 
 // A file at the last number, of which blocks 5 to 204 are redacted.
-fn make<D: Disk>(io: &mut Io<'_, D>) -> Result<ObjSet, ListFault>
+fn make<D: Disk>(io: &mut Io<'_, D>) -> Result<ObjSet, OrMemory<ObjFault>>
     ensures same { io.new.disk.ghost_name ≡ io.old.disk.ghost_name }
 {
     let mut set = ObjSet::empty();
@@ -51,7 +51,7 @@ fn make<D: Disk>(io: &mut Io<'_, D>) -> Result<ObjSet, ListFault>
     Ok(set)
 }
 
-pub(super) fn listed(alloc: Global) -> Result<Reply, ListFault> {
+pub(super) fn listed(alloc: Global) -> Result<Reply, OrMemory<ObjFault>> {
     let mut disk = zeros(alloc)?;
     let mut io = all_free(alloc, &mut disk);
     let set = make(&mut io)?;

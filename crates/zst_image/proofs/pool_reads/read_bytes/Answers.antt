@@ -6,8 +6,10 @@ use Rattle.zst_space.specs.FreeSectors.{FreeSectors}
 use Rattle.zst_block.specs.Blocks.{Has}
 use Rattle.zst_block.specs.IoStates.{IsHonest, disk_of}
 use Rattle.zst_leaves.specs.Damage.{TellsText}
-use Rattle.zst_leaves.specs.Leaves.{HasLeaves, stop_of_leaves}
-use Rattle.zst_leaves.specs.declared.fault.LeavesFault.{LeavesFault}
+use Rattle.zst_leaves.specs.Leaves.{HasLeaves}
+use Rattle.zst_tree.specs.Faults.{fault_of}
+use Rattle.zst_tree.specs.declared.or_memory.OrMemory.{OrMemory}
+use Rattle.zst_block.specs.declared.fault.BlockFault.{BlockFault}
 use Rattle.zst_image.specs.Reads.{free_by}
 use Rattle.zst_image.proofs.Causes.{leaves_cause, leaves_load, leaves_read, tells_leaves}
 use Rattle.zst_image.proofs.pool_reads.read_bytes.Goals as goal
@@ -37,7 +39,7 @@ returns-in-Ok-clause-only g c = λ told.
     (sym (ap g.D.Disk.state c.new-io.ensures.disk)) (sym (c.new-io.ensures.space ∙ space)) (c.in-Ok.ensures.stands here none)
 
 pub of_leaves-requires : goal.of_leaves-requires
-of_leaves-requires g c = λ need largest is. c.in-Err.ensures.looks.looks.never_full need largest (ap (λ (f : LeavesFault). stop_of_leaves {T = Vec ℕ Global} (Err f)) is)
+of_leaves-requires g c = λ need largest is. c.in-Err.ensures.looks.looks.never_full need largest (ap (λ (f : OrMemory BlockFault). fault_of {T = Vec ℕ Global} (Err f)) is)
 
 pub returns-in-Err-clause-there : goal.returns-in-Err-clause-there
 returns-in-Err-clause-there g c = λ text told has long.

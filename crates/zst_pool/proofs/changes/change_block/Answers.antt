@@ -1,7 +1,8 @@
 use Rattle.std.specs.Prelude.{Option, Result}
 use Rattle.zst_block.specs.declared.fault.BlockFault.{BlockFault}
-use Rattle.zst_pool.specs.declared.head_fault.HeadFault.{HeadFault}
-use Rattle.zst_pool.specs.declared.head_fault.HeadFault.TheVariants.{Memory}
+use Rattle.zst_tree.specs.declared.or_memory.OrMemory.{OrMemory}
+use Rattle.zst_objset.specs.declared.fault.ObjFault.{ObjFault}
+use Rattle.zst_tree.specs.declared.or_memory.OrMemory.TheVariants.{Memory}
 use Rattle.std.proofs.Common.{◌≡◌, inl, inr, ℕ, ◌+◌, ◌/◌, List, length, sym, ap, ◌∙◌, subst, arith}
 use Rattle.zst_block.specs.Blocks.{Has, SparesTaken}
 use Rattle.zst_model.specs.declared.refusals.refusal.Refusal.{Refusal}
@@ -14,8 +15,10 @@ use Rattle.zst_objset.proofs.LeafLaws.{look_on}
 use Rattle.zst_tree.specs.Sets.{SetFits}
 use Rattle.zst_image.proofs.OnePool.{SetIs-holds}
 use Rattle.zst_pool.proofs.ChangeDates.{changes_known, written_dated}
-use Rattle.zst_pool.specs.Heads.{ChangesHead, Works, of_change, of_head, stop_of}
-use Rattle.zst_pool.specs.Damage.{IfHeadDamaged, block_damage}
+use Rattle.zst_pool.specs.Faults.{of_set, or_memory}
+use Rattle.zst_pool.specs.Heads.{ChangesHead, Works, of_change}
+use Rattle.zst_objset.specs.OrMemory.{IfTold, stop_of}
+use Rattle.zst_pool.specs.Damage.{block_damage}
 use Rattle.zst_image.specs.Reads.{SetIs, bound_of, new_pool}
 use Rattle.zst_space.specs.FreeSectors.{FreeSectors}
 use Rattle.zst_block.specs.IoStates.{io_of}
@@ -103,14 +106,14 @@ pub returns-in_err-size-clause-works : goal.returns-in_err-size-clause-works
 returns-in_err-size-clause-works g c =
     let fault = c.in_err-size.field-0.0 in
     let works = λ (stop : Option BlockFault). Works 1 0 (io_of c.args.io.now) (io_of c.find_size.new.io) stop in
-    let stop = stop_same ℕ (Unit {0}) fault ∙ ap (λ (r : Result (Unit {0}) HeadFault). stop_of r) (sym (err_is c.from_residual.result fault c.from_residual.ensures.1)) in
+    let stop = stop_same ℕ (Unit {0}) fault ∙ ap (λ (r : Result (Unit {0}) (OrMemory ObjFault)). stop_of r) (sym (err_is c.from_residual.result fault c.from_residual.ensures.1)) in
     (0, omega arith, subst works stop (Works-looks c.in_err-size.ensures.looks))
 
 pub returns-in_err-block-clause-works : goal.returns-in_err-block-clause-works
 returns-in_err-block-clause-works g c =
     let fell = c.from_residual-in_err-block in
     let works = λ (stop : Option BlockFault). Works 1 0 (io_of c.args.io.now) (io_of c.find_size.new.io) stop in
-    let stop = ap (λ (r : Result (Unit {0}) HeadFault). stop_of r) (sym (err_is fell.result Memory fell.ensures.1)) in
+    let stop = ap (λ (r : Result (Unit {0}) (OrMemory ObjFault)). stop_of r) (sym (err_is fell.result Memory fell.ensures.1)) in
     (0, omega arith, subst works stop (Works-looks c.in_ok-size.ensures.looks))
 
 pub returns-clause-levels : goal.returns-clause-levels
@@ -120,7 +123,7 @@ pub returns-in_err-size-clause-limits : goal.returns-in_err-size-clause-limits
 returns-in_err-size-clause-limits g c = λ fault is.
     let fell = c.in_err-size.field-0.0 in
     let told = sym (ap of_change (err_is c.from_residual.result fell c.from_residual.ensures.1)) ∙ is in
-    let same : of_head fell ≡ Plan fault = cc (told) in
+    let same : or_memory of_set fell ≡ Plan fault = cc (told) in
     absurd (c.in_err-size.ensures.limits fault same)
 
 pub returns-in_err-block-clause-limits : goal.returns-in_err-block-clause-limits
@@ -137,7 +140,7 @@ returns-in_err-size-clause-exact g c = λ head told holds.
     let fault = c.in_err-size.field-0.0 in
     let block = size_at (head.state c.args.object) / 512 in
     let works = λ (stop : Option BlockFault). Works 1 block (io_of c.args.io.now) (io_of c.find_size.new.io) stop in
-    let stop = stop_same ℕ (Unit {0}) fault ∙ ap (λ (r : Result (Unit {0}) HeadFault). stop_of r) (sym (err_is c.from_residual.result fault c.from_residual.ensures.1)) in
+    let stop = stop_same ℕ (Unit {0}) fault ∙ ap (λ (r : Result (Unit {0}) (OrMemory ObjFault)). stop_of r) (sym (err_is c.from_residual.result fault c.from_residual.ensures.1)) in
     subst works stop (Works-looks c.in_err-size.ensures.looks)
 
 pub returns-in_err-block-clause-exact : goal.returns-in_err-block-clause-exact
@@ -145,7 +148,7 @@ returns-in_err-block-clause-exact g c = λ head told holds.
     let fell = c.from_residual-in_err-block in
     let block = size_at (head.state c.args.object) / 512 in
     let works = λ (stop : Option BlockFault). Works 1 block (io_of c.args.io.now) (io_of c.find_size.new.io) stop in
-    let stop = ap (λ (r : Result (Unit {0}) HeadFault). stop_of r) (sym (err_is fell.result Memory fell.ensures.1)) in
+    let stop = ap (λ (r : Result (Unit {0}) (OrMemory ObjFault)). stop_of r) (sym (err_is fell.result Memory fell.ensures.1)) in
     subst works stop (Works-looks c.in_ok-size.ensures.looks)
 
 pub returns-in_err-block-clause-changed : goal.returns-in_err-block-clause-changed
@@ -158,4 +161,4 @@ pub returns-in_err-block-clause-damaged : goal.returns-in_err-block-clause-damag
 returns-in_err-block-clause-damaged g c = λ told.
     let fell = c.from_residual-in_err-block in
     let old = g.D.Disk.state c.args.io.now.disk.now in
-    subst (λ (r : Result (Unit {0}) HeadFault). IfHeadDamaged r (block_damage old c.args.io.now.space c.args.set.now)) (sym (err_is fell.result Memory fell.ensures.1)) tt
+    subst (λ (r : Result (Unit {0}) (OrMemory ObjFault)). IfTold r (block_damage old c.args.io.now.space c.args.set.now)) (sym (err_is fell.result Memory fell.ensures.1)) tt

@@ -11,11 +11,13 @@ use Rattle.zst_model.proofs.Results.{err_is}
 use Rattle.zst_objset.specs.Changes.{object_made, object_put, spill_put}
 use Rattle.zst_objset.specs.Damage.{IsDamagedSet, IsSetWithin}
 use Rattle.zst_tree.specs.Sets.{SetFits}
-use Rattle.zst_pool.specs.Damage.{IfHeadDamaged, slots_damage}
+use Rattle.zst_pool.specs.Damage.{slots_damage}
 use Rattle.zst_pool.proofs.DamageLemmas.{damaged_call, damaged_err}
 use Rattle.zst_pool.specs.Checks.{put_in}
-use Rattle.zst_pool.specs.Heads.{ChangesHead, Works, of_change, stop_of}
-use Rattle.zst_pool.specs.declared.head_fault.HeadFault.{HeadFault}
+use Rattle.zst_pool.specs.Heads.{ChangesHead, Works, of_change}
+use Rattle.zst_objset.specs.OrMemory.{IfTold, stop_of}
+use Rattle.zst_tree.specs.declared.or_memory.OrMemory.{OrMemory}
+use Rattle.zst_objset.specs.declared.fault.ObjFault.{ObjFault}
 use Rattle.zst_pool.specs.Cost.{object_cells, spill_sectors}
 use Rattle.zst_pool.proofs.HeadChanges.{put_fault, then_spilled}
 use Rattle.zst_image.specs.Reads.{SetIs, bound_of}
@@ -39,9 +41,9 @@ put g c tight old told holds =
     (put_dated c.args.number c.args.object c.args.head c.as_slice.result.now false old) holds)
 
 -- and takes of the free sectors
-takes : (g : Over) (c : After-answer g) (block : ℕ) (answer : Result (Unit {0}) HeadFault) → c.answer.result ≡ answer → blocks.Works 640 block (io_of c.args.io.now) (io_of c.put_object.new.io) (stop_of answer)
+takes : (g : Over) (c : After-answer g) (block : ℕ) (answer : Result (Unit {0}) (OrMemory ObjFault)) → c.answer.result ≡ answer → blocks.Works 640 block (io_of c.args.io.now) (io_of c.put_object.new.io) (stop_of answer)
 takes g c block answer was =
-    subst (λ (r : Result (Unit {0}) HeadFault). blocks.Works 640 block (io_of c.args.io.now) (io_of c.put_object.new.io) (stop_of r)) was
+    subst (λ (r : Result (Unit {0}) (OrMemory ObjFault)). blocks.Works 640 block (io_of c.args.io.now) (io_of c.put_object.new.io) (stop_of r)) was
     (Works-block (call_works c.put_object.result c.answer.result c.answer.ensures c.put_object.ensures.changes.set.keeps.works))
 
 -- the definition of the command
@@ -74,7 +76,7 @@ returns-in_err-answer-clause-works g c =
     let spill = c.args.spill in
     let fault = c.in_err-answer.field-0.0 in
     let block = spill_sectors spill in
-    subst (λ (r : Result (Unit {0}) HeadFault). Works (object_cells spill) block (io_of c.args.io.now) (io_of c.put_object.new.io) (stop_of r))
+    subst (λ (r : Result (Unit {0}) (OrMemory ObjFault)). Works (object_cells spill) block (io_of c.args.io.now) (io_of c.put_object.new.io) (stop_of r))
     (sym (err_is c.from_residual.result fault c.from_residual.ensures.1))
     (Works-more (with_spill spill) (takes g at block (Err fault) c.in_err-answer.was))
 
@@ -129,7 +131,7 @@ returns-clause-works g c =
     (Works-more (omega arith) (Works-then first second))
 
 -- what it tells as damaged is told of the set as it was
-tells : (g : Over) (c : After-answer g) → (g.D.Disk.state c.put_object.new.io.disk.now).honest → IfHeadDamaged c.answer.result (slots_damage (g.D.Disk.state c.args.io.now.disk.now) c.args.io.now.space c.args.set.now)
+tells : (g : Over) (c : After-answer g) → (g.D.Disk.state c.put_object.new.io.disk.now).honest → IfTold c.answer.result (slots_damage (g.D.Disk.state c.args.io.now.disk.now) c.args.io.now.space c.args.set.now)
 tells g c told =
     let Is = slots_damage (g.D.Disk.state c.args.io.now.disk.now) c.args.io.now.space c.args.set.now in
     damaged_call Is Is (λ sector stated found is. is) c.put_object.result c.answer.result c.answer.ensures (c.put_object.ensures.changes.set.keeps.damaged told)
@@ -140,7 +142,7 @@ returns-in_err-answer-clause-damaged g c = λ told.
     let fault = c.in_err-answer.field-0.0 in
     let Is = slots_damage (g.D.Disk.state c.args.io.now.disk.now) c.args.io.now.space c.args.set.now in
     damaged_err Is Is (λ sector stated found is. is) (Unit {0}) fault c.from_residual.result (err_is c.from_residual.result fault c.from_residual.ensures.1)
-    (subst (λ (r : Result (Unit {0}) HeadFault). IfHeadDamaged r Is) c.in_err-answer.was (tells g at told))
+    (subst (λ (r : Result (Unit {0}) (OrMemory ObjFault)). IfTold r Is) c.in_err-answer.was (tells g at told))
 
 pub returns-clause-damaged : goal.returns-clause-damaged
 returns-clause-damaged g c = λ told.

@@ -1,10 +1,9 @@
 use Rattle.std.specs.Prelude.{Option}
-use Rattle.std.proofs.Common.{◌<◌, length, sym, ap, ◌∙◌, subst, arith}
+use Rattle.std.proofs.Common.{◌<◌, length, subst, arith}
 use Rattle.zst_block.specs.Blocks.{Has}
 use Rattle.zst_dnode.specs.declared.dnode.Dnode.{Dnode}
 use Rattle.zst_model.specs.pools.Step.{written}
 use Rattle.zst_objset.specs.Dnodes.{DnodeAt}
-use Rattle.zst_pool.specs.Heads.{ChangeFault, of_head}
 use Rattle.zst_pool.proofs.HeadChanges.{written_absent, written_long}
 use Rattle.zst_pool.proofs.LookupLemmas.{none_found, some_found}
 use Rattle.zst_pool.proofs.SetCalls.{disk_is}
@@ -30,8 +29,7 @@ returns-in-Ok-Some-clause-found g c = λ pool index head told holds.
 
 pub returns-in-Err-clause-found : goal.returns-in-Err-clause-found
 returns-in-Err-clause-found g c = λ pool index head told holds.
-    let definition = written pool c.args.object index c.args.bytes.now head in
-    subst (ChangeFault definition) (sym c.from.ensures) (disk_is definition c.in-Err.fault (c.in-Err.ensures.found head told holds))
+    disk_is (written pool c.args.object index c.args.bytes.now head) c.in-Err.fault (c.in-Err.ensures.found head told holds)
 
 pub returns-in-Err-clause-limits : goal.returns-in-Err-clause-limits
-returns-in-Err-clause-limits g c = λ fault is. no_plan-block c.in-Err.fault fault c.in-Err.ensures.known (sym (ap of_head c.from.ensures) ∙ is)
+returns-in-Err-clause-limits g c = λ fault is. no_plan-block c.in-Err.fault fault c.in-Err.ensures.known is

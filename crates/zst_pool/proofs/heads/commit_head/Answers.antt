@@ -17,7 +17,8 @@ use Rattle.zst_pool.specs.Calls.{IsUnderWay}
 use Rattle.zst_pool.specs.Checks.{with_head_of}
 use Rattle.zst_pool.specs.RowChanges.{MakesRows}
 use Rattle.zst_pool.specs.Faults.{StepFault}
-use Rattle.zst_pool.specs.Heads.{rested, stop_of}
+use Rattle.zst_pool.specs.Heads.{rested}
+use Rattle.zst_objset.specs.OrMemory.{stop_of}
 use Rattle.zst_pool.specs.declared.fault.PoolFault.{PoolFault}
 use Rattle.zst_pool.specs.declared.fault.PoolFault.TheVariants.{Damaged, OutOfMemory, Plan}
 use Rattle.zst_pool.proofs.CommandEnds.{did_rows}

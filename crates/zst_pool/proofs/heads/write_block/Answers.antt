@@ -7,7 +7,8 @@ use Rattle.zst_pool.specs.Cost.{write_cost}
 use Rattle.zst_image.specs.Reads.{free_by}
 use Rattle.zst_pool.specs.declared.fault.PoolFault.TheVariants.{Plan}
 use Rattle.zst_pool.specs.Damage.{OfHead, block_damage}
-use Rattle.zst_pool.specs.Heads.{Works, stop_of}
+use Rattle.zst_pool.specs.Heads.{Works}
+use Rattle.zst_objset.specs.OrMemory.{stop_of}
 use Rattle.zst_pool.proofs.BlockCosts.{block_is}
 use Rattle.zst_pool.proofs.CommandRuns.{changed_head, runs_head, runs_planned}
 use Rattle.zst_pool.proofs.PoolsAtRest.{ready_after, rest_named}

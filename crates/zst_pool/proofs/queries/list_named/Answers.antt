@@ -11,7 +11,7 @@ use Rattle.zst_model.proofs.Results.{err_is}
 use Rattle.zst_pool.specs.Plans.{is_by_rows}
 use Rattle.zst_pool.specs.declared.fault.PoolFault.TheVariants.{Plan}
 use Rattle.zst_pool.specs.Damage.{look_damage}
-use Rattle.zst_pool.specs.Faults.{of_list}
+use Rattle.zst_pool.specs.Faults.{of_set, or_memory}
 use Rattle.zst_pool.proofs.ListQueries.{list_apart, list_missing, list_open, list_refused, list_there, list_told, no_plan-list, stop_list}
 use Rattle.zst_pool.proofs.PlanLemmas.{plans_apart, plans_refused}
 use Rattle.zst_pool.proofs.QueryLemmas.{of_named, tells_missing}
@@ -47,15 +47,15 @@ returns-in_err-list_objects g c = record {
               list_refused (stepped [] now (commands.ListObjects c.args.name) pool) named.state fault (is.told named.state honest named.holds);
           looks = subst (Looks _ _) (stop_list Reply Reply fault) is.looks;
           open_still = λ same. list_open fault (cc);
-          damaged = λ honest. of_named {T = Reply} c.args.kept.now.dir c.args.name (look_damage disk) c.in_ok-set.set c.in_ok-set.ensures.set (Err (of_list fault)) (list_told Reply (look_damage disk c.in_ok-set.set) fault (is.damaged honest));
+          damaged = λ honest. of_named {T = Reply} c.args.kept.now.dir c.args.name (look_damage disk) c.in_ok-set.set c.in_ok-set.ensures.set (Err (or_memory of_set fault)) (list_told Reply (look_damage disk c.in_ok-set.set) fault (is.damaged honest));
         });
     plans =
         let name = c.args.name in
         let fell = c.from_residual-in_err-list_objects in
         let called = c.in_err-list_objects.field-0.0 in
-        let answered = err_is fell.result (of_list called) fell.ensures.1 in
+        let answered = err_is fell.result (or_memory of_set called) fell.ensures.1 in
         plans_apart (λ pool. stepped [] now (commands.ListObjects name) pool) 0 0 c.args.kept.now fell.result (λ pool named. list_apart now name pool (c.in_ok-set.ensures.there pool named.are_named))
-        (λ fault is. let same : of_list called ≡ Plan fault = cc (answered, is) in absurd (no_plan-list called fault c.in_err-list_objects.ensures.known same));
+        (λ fault is. let same : or_memory of_set called ≡ Plan fault = cc (answered, is) in absurd (no_plan-list Reply called fault c.in_err-list_objects.ensures.known same));
   };
 }
 
