@@ -13,7 +13,7 @@ use Rattle.zst_block.specs.declared.fault.BlockFault.{BlockFault}
 use Rattle.zst_block.specs.declared.fault.BlockFault.TheVariants.{Full, Damaged, DiskFault}
 use Rattle.zst_block.specs.Faults.{is_disk_fault, HasDiskCause}
 use Rattle.zst_block.specs.IoStates.{IoState}
-use Rattle.zst_block.specs.IoCalls.{stop_of, fails, HasCause, TakesAtMost, IsFull, Looks, Works}
+use Rattle.zst_block.specs.IoCalls.{stop_of, fails, is_damage, HasCause, TakesAtMost, IsFull, Looks, Works}
 use Rattle.zst_block.specs.declared.ptr.Ptr.{Ptr}
 use Rattle.zst_block.proofs.TakenSectors.{takes}
 
@@ -37,6 +37,7 @@ Works-then {most} {more} {block} {old} {mid} {new} {stop} first second = record 
   full = λ need largest is.
       let full = second.full need largest is in
       record { shorter = full.shorter; is_longest = full.is_longest; needed = full.needed; before = omega (arith, full.before, first.takes.longest) };
+  told = λ whole. second.told whole ∙ first.told refl;
   failed = second.failed ∙ ap (λ (b : Bool). b || fails stop) (first.failed ∙ or_false old.failed);
   cause = HasCause-then old.disk.faults mid.disk.faults new.disk.faults stop first.cause.later second.cause;
   same = second.same ∙ first.same;
@@ -51,6 +52,7 @@ Works-after {more} {block} {old} {mid} {new} {stop} first second =
       fills = FillsFree-then old.disk mid.disk new.disk old.space mid.space new.space fills second.fills;
       takes = subst (λ (s : FreeSectors). TakesAtMost more s new.space) same second.takes;
       full = subst (λ (s : FreeSectors). (need largest : ℕ) → stop ≡ Some (Full need largest) → IsFull more block s new.space need largest) same second.full;
+      told = λ whole. second.told whole ∙ first.told refl;
       failed = second.failed ∙ ap (λ (b : Bool). b || fails stop) (first.failed ∙ or_false old.failed);
       cause = HasCause-then old.disk.faults mid.disk.faults new.disk.faults stop first.cause.later second.cause;
       same = second.same ∙ first.same;
@@ -63,6 +65,7 @@ module _ {most block : ℕ} {old new : IoState} {stop : Option BlockFault} where
     fills = subst (λ (s : FreeSectors). FillsFree old.disk old.space new.disk s) (sym looks.space) (FillsFree-reads old.disk new.disk old.space looks.reads);
     takes = subst (λ (s : FreeSectors). TakesAtMost most old.space s) (sym looks.space) (record { sectors = refl; left = omega arith; longest = omega arith; unbroken = λ none. none });
     full = λ need largest is. absurd (looks.never_full need largest is);
+    told = looks.told;
     failed = looks.failed;
     cause = looks.cause;
     same = looks.same;
@@ -74,6 +77,7 @@ module _ {most block : ℕ} {old new : IoState} {stop : Option BlockFault} where
     fills = works.fills;
     takes = record { sectors = works.takes.sectors; left = omega (arith, works.takes.left, le); longest = omega (arith, works.takes.longest, le); unbroken = works.takes.unbroken };
     full = λ need largest is. let full = works.full need largest is in record { shorter = full.shorter; is_longest = full.is_longest; needed = full.needed; before = omega (arith, full.before, le) };
+    told = works.told;
     failed = works.failed;
     cause = works.cause;
     same = works.same;
@@ -85,6 +89,7 @@ module _ {most block : ℕ} {old new : IoState} {stop : Option BlockFault} where
     fills = works.fills;
     takes = works.takes;
     full = λ need largest is. let full = works.full need largest is in record { shorter = full.shorter; is_longest = full.is_longest; needed = inl (only full.needed); before = full.before };
+    told = works.told;
     failed = works.failed;
     cause = works.cause;
     same = works.same;
@@ -100,6 +105,7 @@ Looks-none io = record {
   reads = OnlyReads-none io.disk;
   space = refl;
   never_full = λ need largest is. absurd (cc);
+  told = λ whole. refl;
   failed = sym (or_false io.failed);
   cause = record { later = omega arith; fault = λ is. absurd (cc) };
   same = refl;
@@ -111,6 +117,7 @@ Looks-then {old} {mid} {new} {stop} first second = record {
   reads = OnlyReads-then old.disk mid.disk new.disk first.reads second.reads;
   space = second.space ∙ first.space;
   never_full = second.never_full;
+  told = λ whole. second.told whole ∙ first.told refl;
   failed = second.failed ∙ ap (λ (b : Bool). b || fails stop) (first.failed ∙ or_false old.failed);
   cause = HasCause-then old.disk.faults mid.disk.faults new.disk.faults stop first.cause.later second.cause;
   same = second.same ∙ first.same;
@@ -132,13 +139,14 @@ cause_of before now result cause = record { later = cause.later; fault = λ is. 
 
 -- a call that answers as a read does
 pub Looks-read : {T : Type 0} → (old new : IoState) (result : Result T BlockFault)
-    → OnlyReads old.disk new.disk → new.space ≡ old.space → ((need largest : ℕ) → ¬ (result ≡ Err (Full need largest))) → new.failed ≡ (old.failed || is_disk_fault result)
-    → HasDiskCause old.disk.faults new.disk.faults result → new.reference ≡ old.reference
+    → OnlyReads old.disk new.disk → new.space ≡ old.space → ((need largest : ℕ) → ¬ (result ≡ Err (Full need largest))) → (is_damage (stop_of result) ≡ false → new.checksum_errors ≡ old.checksum_errors)
+    → new.failed ≡ (old.failed || is_disk_fault result) → HasDiskCause old.disk.faults new.disk.faults result → new.reference ≡ old.reference
     → Looks old new (stop_of result)
-Looks-read old new result reads space never failed cause same = record {
+Looks-read old new result reads space never told failed cause same = record {
   reads = reads;
   space = space;
   never_full = λ need largest is. never need largest (err_of result (Full need largest) is);
+  told = told;
   failed = failed ∙ ap (λ (b : Bool). old.failed || b) (sym (fails_is result));
   cause = cause_of old.disk.faults new.disk.faults result cause;
   same = same;
@@ -149,14 +157,15 @@ pub Works-write : (count : ℕ) (old new : IoState) (result : Result Ptr BlockFa
     → FillsFree old.disk old.space new.disk new.space → (count ≤ largest_of old.space → new.space ≡ without old.space count) → (largest_of old.space < count → new.space ≡ old.space)
     → room old.space ≤ room new.space + count
     → ((need largest : ℕ) → (result ≡ Err (Full need largest)) ↔ ((need ≡ count) × (largest ≡ largest_of old.space) × (largest < need)))
-    → new.failed ≡ (old.failed || is_disk_fault result) → HasDiskCause old.disk.faults new.disk.faults result → new.reference ≡ old.reference
+    → new.checksum_errors ≡ old.checksum_errors → new.failed ≡ (old.failed || is_disk_fault result) → HasDiskCause old.disk.faults new.disk.faults result → new.reference ≡ old.reference
     → Works count count old new (stop_of result)
-Works-write count old new result fills after untouched left full_is failed cause same = record {
+Works-write count old new result fills after untouched left full_is counts failed cause same = record {
   fills = fills;
   takes = takes old.space new.space count after untouched left;
   full = λ need largest is.
       let full = (full_is need largest).0 (err_of result (Full need largest) is) in
       record { shorter = full.2; is_longest = full.1 ∙ ap largest_of (sym (untouched (omega (arith, full.0, full.1, full.2)))); needed = inr full.0; before = omega (arith, full.0, full.1, full.2) };
+  told = λ whole. counts;
   failed = failed ∙ ap (λ (b : Bool). old.failed || b) (sym (fails_is result));
   cause = cause_of old.disk.faults new.disk.faults result cause;
   same = same;

@@ -1,6 +1,6 @@
 -- What a call does to the Io: it reads, or it writes blocks into free sectors. Said over the fault at which it stopped, or none, so that one record serves each layer.
 use Rattle.std.specs.Prelude.{◌≡◌, ◌⊎◌, ℕ, ◌+◌, ◌<◌, ◌≤◌, ◌||◌, Bool, true, false, List, [], Option, Some, None, Result, Ok, Err}
-use Rattle.zst_outside.specs.Causes.{Rose}
+use Rattle.zst_outside.specs.Causes.{Rose, next_count}
 use Rattle.zst_outside.specs.Images.{OnlyReads}
 use Rattle.zst_fletcher.specs.WeightSum.{parts_of}
 use Rattle.zst_space.specs.FreeSectors.{FreeSectors, largest_of, room}
@@ -22,6 +22,20 @@ fails None = false
 fails (Some (Full need largest)) = false
 fails (Some (Damaged sector stated found)) = false
 fails (Some DiskFault) = true
+
+-- a call stops at a damaged block
+abbrev pub is_damage : Option BlockFault → Bool
+is_damage None = false
+is_damage (Some (Full need largest)) = false
+is_damage (Some (Damaged sector stated found)) = true
+is_damage (Some DiskFault) = false
+
+-- the count of blocks that were found damaged, after one read: one more where it stopped at such a block
+abbrev pub with_error : ℕ → Option BlockFault → ℕ
+with_error count None = count
+with_error count (Some (Full need largest)) = count
+with_error count (Some (Damaged sector stated found)) = next_count count
+with_error count (Some DiskFault) = count
 
 -- a count of faults never falls, and a call stops at a fault of the disk only where it rose
 pub record HasCause (before now : ℕ) (stop : Option BlockFault) : Type 0 where
@@ -47,6 +61,8 @@ pub record Looks (old new : IoState) (stop : Option BlockFault) : Type 0 where
   pub reads : OnlyReads old.disk new.disk
   pub space : new.space ≡ old.space
   pub never_full : (need largest : ℕ) → ¬ (stop ≡ Some (Full need largest))
+  -- a block that is found damaged is told so: only a call that stops at damage may have counted one
+  pub told : is_damage stop ≡ false → new.checksum_errors ≡ old.checksum_errors
   pub failed : new.failed ≡ (old.failed || fails stop)
   pub cause : HasCause old.disk.faults new.disk.faults stop
   pub same : new.reference ≡ old.reference
@@ -56,6 +72,8 @@ pub record Works (most block : ℕ) (old new : IoState) (stop : Option BlockFaul
   pub fills : FillsFree old.disk old.space new.disk new.space
   pub takes : TakesAtMost most old.space new.space
   pub full : (need largest : ℕ) → stop ≡ Some (Full need largest) → IsFull most block old.space new.space need largest
+  -- a block that is found damaged is told so
+  pub told : is_damage stop ≡ false → new.checksum_errors ≡ old.checksum_errors
   pub failed : new.failed ≡ (old.failed || fails stop)
   pub cause : HasCause old.disk.faults new.disk.faults stop
   pub same : new.reference ≡ old.reference

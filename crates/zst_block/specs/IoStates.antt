@@ -14,6 +14,8 @@ pub record IoState : Type 1 where
   pub space : FreeSectors
   -- whether the disk has failed
   pub failed : Bool
+  -- how many blocks were found damaged
+  pub checksum_errors : ℕ
   -- the name by which the borrow checker knows the disk's reference again
   pub reference : ℕ
 
@@ -36,4 +38,4 @@ module _ {D : Type 0} {g : Ghosts D} where
 
   -- what a call may change of its disk and its space, whatever it reads into its node
   abbrev pub io_of : Io D g → IoState
-  io_of io = record { disk = disk_of io; space = io.space; failed = io.failed; reference = io.disk.ghost_name }
+  io_of io = record { disk = disk_of io; space = io.space; failed = io.failed; checksum_errors = io.checksum_errors; reference = io.disk.ghost_name }

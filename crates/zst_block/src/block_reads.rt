@@ -8,7 +8,7 @@ ghost use Rattle.zst_block.specs.Blocks.{IsBlock, IsPlaced};
 ghost use Rattle.zst_block.specs.KeptBlocks.{KeepsNone};
 ghost use Rattle.zst_block.specs.ReadAnswers.{ReadAnswers, GivesBlock, Compares};
 ghost use Rattle.zst_block.specs.IoStates.{IsHonest, blocks_of, disk_of, io_of};
-ghost use Rattle.zst_block.specs.IoCalls.{Looks, TellsDamage, stop_of};
+ghost use Rattle.zst_block.specs.IoCalls.{Looks, TellsDamage, is_damage, stop_of, with_error};
 
 use crate::cache::Cache;
 use crate::fault::BlockFault;
@@ -21,8 +21,8 @@ use zst_outside::Disk;
 /// Reads the block that a pointer names.
 ///
 /// It is damaged where its bytes have other sums than the pointer states, and with both sums
-/// alike where the pointer names no whole sectors of the disk. A call of the disk is made at most
-/// once.
+/// alike where the pointer names no whole sectors of the disk. Either is counted. A call of the disk
+/// is made at most once.
 pub fn read<D: Disk>(io: &mut Io<'_, D>, ptr: Ptr, into: &mut [u8]) -> Result<(), BlockFault>
     requires length { length into.old ≡ ptr.length }
 
@@ -32,20 +32,21 @@ pub fn read<D: Disk>(io: &mut Io<'_, D>, ptr: Ptr, into: &mut [u8]) -> Result<()
     ensures sum { OnOk result (weight_sum into.new ≡ ptr.sum) }
     ensures placed { OnOk result (IsPlaced (disk_of io.old).size ptr) }
 
-    // The disk is read at most once.
+    // The disk is read at most once, and a block that is damaged is counted.
     ensures looks { Looks (io_of io.old) (io_of io.new) (stop_of result) }
+    ensures counted { io.new.checksum_errors ≡ with_error io.old.checksum_errors (stop_of result) }
     ensures calls { (disk_of io.new).calls ≤ (disk_of io.old).calls + 1 }
     ensures node { io.new.node ≡ io.old.node }
 {
     let outcome = read_block(io.disk, &ptr, into);
-    mark(&mut io.failed, &outcome);
+    note(&mut io.failed, &mut io.checksum_errors, &outcome);
     outcome
 }
 
 /// Reads the block of a tree that a pointer names into the node.
 ///
-/// A pointer to a block of another length than a node's is damaged, with both sums alike. A call
-/// of the disk is made at most once.
+/// A pointer to a block of another length than a node's is damaged, with both sums alike. A block
+/// that is damaged is counted, each time that it is loaded. A call of the disk is made at most once.
 pub fn load<D: Disk>(io: &mut Io<'_, D>, ptr: Ptr) -> Result<(), BlockFault>
     // What is loaded is the block, and a block that is there is loaded.
     ensures block { IsHonest io.new → OnOk result (IsBlock (disk_of io.old).seen ptr io.new.node) }
@@ -55,16 +56,21 @@ pub fn load<D: Disk>(io: &mut Io<'_, D>, ptr: Ptr) -> Result<(), BlockFault>
     ensures long { OnOk result (length io.new.node ≡ 8192) }
 
     ensures looks { Looks (io_of io.old) (io_of io.new) (stop_of result) }
+    ensures counted { io.new.checksum_errors ≡ with_error io.old.checksum_errors (stop_of result) }
     ensures calls { (disk_of io.new).calls ≤ (disk_of io.old).calls + 1 }
 {
     if ptr.length != 8192 {
-        return Err(BlockFault::of_layout(&ptr));
+        let outcome = Err(BlockFault::of_layout(&ptr));
+        note(&mut io.failed, &mut io.checksum_errors, &outcome);
+        return outcome;
     }
     if is_kept(&mut io.cache, io.disk.bytes(), &ptr, &mut io.node) {
-        return compare(&ptr, io.node.as_slice());
+        let outcome = compare(&ptr, io.node.as_slice());
+        note(&mut io.failed, &mut io.checksum_errors, &outcome);
+        return outcome;
     }
     let outcome = io.node.read(io.disk, &ptr);
-    mark(&mut io.failed, &outcome);
+    note(&mut io.failed, &mut io.checksum_errors, &outcome);
     if outcome == Ok(()) && 8 <= ptr.sector {
         io.cache.keep(ptr.sector, &io.node);
     }
@@ -83,12 +89,16 @@ fn is_kept(cache: &mut Cache, size: u64, ptr: &Ptr, into: &mut Node) -> bool
     is_placed(size, ptr) && cache.give(ptr.sector, into)
 }
 
-// Marks a disk that fails.
-fn mark(failed: &mut bool, outcome: &Result<(), BlockFault>)
-    ensures { failed.new ≡ (failed.old || is_disk_fault outcome.now) }
+// Notes what came of a read: a disk that fails is marked, and a block that is damaged counted.
+fn note(failed: &mut bool, checksum_errors: &mut u64, outcome: &Result<(), BlockFault>)
+    ensures failed { failed.new ≡ (failed.old || is_disk_fault outcome.now) }
+    ensures counted { checksum_errors.new ≡ with_error checksum_errors.old (stop_of outcome.now) }
+    ensures told { is_damage (stop_of outcome.now) ≡ false → checksum_errors.new ≡ checksum_errors.old }
 {
-    if *outcome == Err(BlockFault::DiskFault) {
-        *failed = true;
+    match outcome {
+        Ok(()) | Err(BlockFault::Full { .. }) => {}
+        Err(BlockFault::Damaged { .. }) => *checksum_errors = checksum_errors.saturating_add(1),
+        Err(BlockFault::DiskFault) => *failed = true,
     }
 }
 

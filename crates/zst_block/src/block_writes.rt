@@ -1,5 +1,5 @@
 // A block is written into free sectors, and what is kept of these is forgotten.
-ghost use Rattle.std.specs.Prelude.{◌≡◌, ◌*◌, ◌/◌, ◌%◌, ◌^◌, ◌+◌, ◌<◌, ◌≤◌, List, ℕ, length, OnOk, IfOk, IsErr, []};
+ghost use Rattle.std.specs.Prelude.{◌≡◌, ◌*◌, ◌/◌, ◌%◌, ◌^◌, ◌<◌, ◌≤◌, List, ℕ, length, OnOk, IfOk, IsErr, []};
 ghost use Rattle.zst_fletcher.specs.WeightSum.{weight_sum};
 ghost use Rattle.zst_outside.specs.Images.{WritesIn};
 ghost use Rattle.zst_space.specs.FreeSectors.{largest_of};
@@ -7,7 +7,7 @@ ghost use Rattle.zst_space.specs.TakenExtents.{place_of, without};
 ghost use Rattle.zst_block.specs.Blocks.{FitsDisk};
 ghost use Rattle.zst_block.specs.BlockWrites.{WritesBlock};
 ghost use Rattle.zst_block.specs.KeptBlocks.{Forgets, Keeps};
-ghost use Rattle.zst_block.specs.IoStates.{blocks_of, disk_of, io_of};
+ghost use Rattle.zst_block.specs.IoStates.{blocks_of, io_of};
 ghost use Rattle.zst_block.specs.IoCalls.{Works, stop_of};
 
 use crate::cache::Cache;
@@ -48,16 +48,16 @@ pub fn write<D: Disk>(
 /// Whatever it answers, every block that was there still is, and each image that a crash may
 /// leave has all blocks of one that it might have left before.
 pub fn save<D: Disk>(io: &mut Io<'_, D>, level: u8, number: u64) -> Result<Ptr, BlockFault>
+    ensures block { WritesBlock io.old.node level number (io_of io.old) (io_of io.new) result }
+    ensures node { io.new.node ≡ io.old.node }
+
+    // It has 8,192 bytes and 16 sectors.
+    ensures long { length io.old.node ≡ 8192 }
     ensures wrote { IfOk result (λ ptr. blocks_of io.new ptr io.old.node) }
     ensures pointer { IfOk result (λ ptr. ptr ≡ record { kind = 1; level = level; length = 8192; sector = place_of io.old.space 16; number = number; sum = weight_sum io.old.node }) }
-    ensures long { length io.old.node ≡ 8192 }
-
-    // Free sectors alone are written, 16 at most, and are then taken.
     ensures after { OnOk result (io.new.space ≡ without io.old.space 16) }
     ensures works { Works 16 16 (io_of io.old) (io_of io.new) (stop_of result) }
     ensures never_damaged { (sector : ℕ) (stated found : List ℕ) → ¬ (result ≡ Err (BlockFault.Damaged sector stated found)) }
-    ensures calls { (disk_of io.new).calls ≤ (disk_of io.old).calls + 1 }
-    ensures node { io.new.node ≡ io.old.node }
 {
     let outcome = write_block(
         io.disk,
@@ -108,7 +108,7 @@ fn write_block<D: Disk>(
     requires fits { FitsDisk (D.state disk.old).size space.old }
 
     // Of the Io that the disk, the sectors and the mark are borrowed from.
-    ensures block { (reference : ℕ) → WritesBlock bytes.now level number (record { disk = D.state disk.old; space = space.old; failed = failed.old; reference = reference }) (record { disk = D.state disk.new; space = space.new; failed = failed.new; reference = reference }) result }
+    ensures block { (checksum_errors reference : ℕ) → WritesBlock bytes.now level number (record { disk = D.state disk.old; space = space.old; failed = failed.old; checksum_errors = checksum_errors; reference = reference }) (record { disk = D.state disk.new; space = space.new; failed = failed.new; checksum_errors = checksum_errors; reference = reference }) result }
     ensures writes { IfOk result (λ ptr. WritesIn (512 * ptr.sector) ptr.length (D.state disk.old) (D.state disk.new)) }
     ensures untouched { largest_of space.old < length bytes.now / 512 → disk.new ≡ disk.old }
     ensures fits { FitsDisk (D.state disk.new).size space.new }

@@ -17,6 +17,10 @@ pub struct Io<'d, D: Disk> {
     pub space: Space,
     /// Whether the disk has failed.
     pub failed: bool,
+    /// How many reads of blocks found other bytes than their sums state, or were of pointers that
+    /// name no whole sectors, or no block of a tree, as `vs_checksum_errors` of a vdev counts. It
+    /// stays at 2^64 - 1 once it is there.
+    pub checksum_errors: u64,
     /// The block of a tree that was loaded, or is to be saved.
     pub node: Node,
     // Blocks of trees that were read or saved. Each is what a read of its sectors gives.
@@ -36,11 +40,13 @@ impl<'d, D: Disk> Io<'d, D> {
         ensures disk { result.disk.now ≡ disk.old }
         ensures space { result.space ≡ space }
         ensures failed { result.failed ≡ false }
+        ensures checksum_errors { result.checksum_errors ≡ 0 }
     {
         Io {
             disk,
             space,
             failed: false,
+            checksum_errors: 0,
             node: Node::new(),
             cache: Cache::new(alloc),
         }

@@ -15,7 +15,7 @@ use Rattle.zst_extents.proofs.Stored.{FillsFree-less}
 
 -- with these free sectors
 abbrev pub left_with : FreeSectors → IoState → IoState
-left_with left io = record { disk = io.disk; space = left; failed = io.failed; reference = io.reference }
+left_with left io = record { disk = io.disk; space = left; failed = io.failed; checksum_errors = io.checksum_errors; reference = io.reference }
 
 pub TakesAtMost-none : (space : FreeSectors) → TakesAtMost 0 space space
 TakesAtMost-none space = record { sectors = refl; left = omega arith; longest = omega arith; unbroken = λ none. none }
@@ -42,6 +42,7 @@ Works-space {most} {old} {less} {stop} fewer taken full sure never = record {
   fills = FillsFree-less old.disk old.disk old.space old.space less fewer (FillsFree-reads old.disk old.disk old.space (OnlyReads-none old.disk));
   takes = taken;
   full = full;
+  told = λ whole. refl;
   failed = (Looks-none old).failed ∙ ap (λ (b : Bool). old.failed || b) (sym sure);
   cause = record { later = omega arith; fault = λ is. absurd (never is) };
   same = refl;
@@ -53,6 +54,7 @@ Works-left {most} {more} {old} {new} {left} works fewer taken = record {
   fills = FillsFree-less old.disk new.disk old.space new.space left fewer works.fills;
   takes = taken;
   full = λ need largest is. absurd (cc);
+  told = works.told;
   failed = works.failed;
   cause = works.cause;
   same = works.same;

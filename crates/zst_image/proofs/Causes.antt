@@ -1,5 +1,5 @@
 -- What a fault of leaves or of a commit says of the disk.
-use Rattle.std.specs.Prelude.{Result, Err}
+use Rattle.std.specs.Prelude.{Result, Ok, Err, false}
 use Rattle.std.proofs.Common.{◌≡◌, inl, inr, ℕ, List, refl, sym, ap, subst}
 use Rattle.zst_block.specs.IoCalls as blocks
 use Rattle.zst_block.specs.declared.fault.BlockFault.TheVariants as block_faults
@@ -56,3 +56,10 @@ tells_leaves T disk uber (Fault (block_faults.Full need largest)) answer is tell
 tells_leaves T disk uber (Fault (block_faults.Damaged sector stated found)) answer is tells = subst (TellsFault disk uber) (sym is) (inl tells)
 tells_leaves T disk uber (Fault block_faults.DiskFault) answer is tells = subst (TellsFault disk uber) (sym is) tt
 tells_leaves T disk uber Memory answer is tells = subst (TellsFault disk uber) (sym is) tt
+
+-- a commit reads no block, so it stops at none that is damaged
+pub never_damaged : {T : Type 0} (made : Result T CommitFault) → blocks.is_damage (stop_of_commit made) ≡ false
+never_damaged (Ok value) = refl
+never_damaged (Err (commits.Full need largest)) = refl
+never_damaged (Err commits.DiskFault) = refl
+never_damaged (Err commits.OutOfMemory) = refl

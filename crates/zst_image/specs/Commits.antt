@@ -93,9 +93,10 @@ pub record RefusedDir (body : Uber) (old new : IoState) (result : Result PoolSta
   pub refused : IfErr result (Stays (latest new.disk.seen ≡ latest old.disk.seen))
   pub stays : new.failed ≡ false → OnErr result (Ready new.disk body)
 
--- what stays of an Io: its disk is as long, it is the same reference, and it counts as failed once it fell
-pub record KeepsDisk (fell : Bool) (old new : IoState) : Type 0 where
+-- what stays of an Io: its disk is as long, it is the same reference, it counts as failed once it fell, and only what tells a damage may have counted a block that is damaged
+pub record KeepsDisk (fell damaged : Bool) (old new : IoState) : Type 0 where
   pub size : new.disk.size ≡ old.disk.size
   pub failed : new.failed ≡ (old.failed || fell)
+  pub told : damaged ≡ false → new.checksum_errors ≡ old.checksum_errors
   pub honest : new.disk.honest → old.disk.honest
   pub same : new.reference ≡ old.reference

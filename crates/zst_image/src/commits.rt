@@ -1,5 +1,5 @@
 // The commit of a directory: the one commit of an event.
-ghost use Rattle.std.specs.Prelude.{◌≡◌, ◌+◌, ◌<◌, ◌≤◌, ◌^◌, Bool, length, IfOk, OnOk};
+ghost use Rattle.std.specs.Prelude.{◌≡◌, ◌+◌, ◌<◌, ◌≤◌, ◌^◌, Bool, false, length, IfOk, OnOk};
 ghost use Rattle.zst_space.specs.FreeSectors.{room};
 ghost use Rattle.zst_block.specs.Blocks.{FillsFree};
 ghost use Rattle.zst_block.specs.IoStates.{IsHonest, blocks_of, disk_of, io_of};
@@ -51,7 +51,7 @@ pub fn commit_dir<D: Disk>(
     ensures made { IfOk result (CommittedDir body.now dir (io_of io.old) (io_of io.new)) }
     ensures takes { TakesForDir dir io.old.space io.new.space result }
     ensures refused { RefusedDir body.now (io_of io.old) (io_of io.new) result }
-    ensures disk { KeepsDisk (fails (stop_of_commit result)) (io_of io.old) (io_of io.new) }
+    ensures disk { KeepsDisk (fails (stop_of_commit result)) false (io_of io.old) (io_of io.new) }
     ensures cause { HasDiskCause CommitFault.DiskFault (disk_of io.old).faults (disk_of io.new).faults result }
 {
     let (tree, length) = write_dir(io, alloc, &dir, body.number + 1)?;

@@ -35,6 +35,7 @@ looks_told fault is looks = rw is (record {
   reads = looks.reads;
   space = looks.space;
   never_full = λ need largest same. absurd (let e = same in cc);
+  told = λ whole. absurd (cc whole);
   failed = looks.failed;
   cause = record { later = looks.cause.later; fault = λ same. absurd (let e = same in cc) };
   same = looks.same;

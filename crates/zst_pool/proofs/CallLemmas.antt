@@ -17,6 +17,7 @@ use Rattle.zst_image.specs.declared.commit_fault.CommitFault.{CommitFault}
 use Rattle.zst_image.specs.declared.commit_fault.CommitFault.TheVariants as commits
 use Rattle.zst_image.specs.Reads.{Reads, free_by}
 use Rattle.zst_image.specs.Commits.{Commits, CommittedDir, Ready}
+use Rattle.zst_pool.specs.Queries.{stop_of}
 use Rattle.zst_pool.specs.declared.fault.PoolFault.{PoolFault}
 use Rattle.zst_pool.specs.declared.fault.PoolFault.TheVariants.{Plan, CannotApply, Redacted, Full, Damaged, DiskFault, Failed, OutOfMemory}
 use Rattle.zst_image.specs.declared.pool_state.PoolState.{PoolState}
@@ -103,7 +104,7 @@ module _ (kept : PoolState) (answer : Result ℕ PoolFault) (made : Result PoolS
       by_answer (Ok number) h = tt
       by_answer (Err fault) h = h
 
-  -- it tells a full disk, and a disk that failed, where the commit does
+  -- it tells a full disk, a disk that failed, and the block fault at which it stopped, where the commit does
   pub tells_full : is_full made ≡ is_full answer
   tells_full = ap is_full (sym is) ∙ by_answer answer
     where
@@ -124,6 +125,13 @@ module _ (kept : PoolState) (answer : Result ℕ PoolFault) (made : Result PoolS
       by_answer (Err DiskFault) = refl
       by_answer (Err Failed) = refl
       by_answer (Err OutOfMemory) = refl
+
+  pub tells_stop : stop_of made ≡ stop_of answer
+  tells_stop = ap (λ (r : Result PoolState PoolFault). stop_of r) (sym is) ∙ by_answer answer
+    where
+      by_answer : (a : Result ℕ PoolFault) → stop_of (keeping kept a) ≡ stop_of a
+      by_answer (Ok number) = refl
+      by_answer (Err fault) = refl
 
   pub cause_told : (before mid now : ℕ) → now ≡ mid → HasDiskCause before mid made → HasDiskCause before now answer
   cause_told before mid now same cause = record {

@@ -58,8 +58,8 @@ use Rattle.zst_pool.proofs.Room.{spends_fell, spends_full, spends_grows}
 -- what a command wrote before it fell or came to its commit: at most so much, and in a pool as much as it costs there
 abbrev pub Wrote : PoolState → Cost → (old new : IoState) → Option BlockFault → Type 0
 Wrote kept cost old new stop =
-    ((block : ℕ) × (block ≤ cost.most) × Works cost.cells block (rested old.disk old.failed old.reference kept) new stop)
-    × ((running : Pool) → new.disk.honest → IsAtRest false old.disk kept running → Works cost.cells (cost.block running) (rested old.disk old.failed old.reference kept) new stop)
+    ((block : ℕ) × (block ≤ cost.most) × Works cost.cells block (rested old.disk old.failed old.checksum_errors old.reference kept) new stop)
+    × ((running : Pool) → new.disk.honest → IsAtRest false old.disk kept running → Works cost.cells (cost.block running) (rested old.disk old.failed old.checksum_errors old.reference kept) new stop)
 
 module _ (definition : Pool → Result Stepped Refusal) (cost : Cost) (kept : PoolState) where
   -- a command that fell once it had written into free sectors alone
@@ -80,6 +80,7 @@ module _ (definition : Pool → Result Stepped Refusal) (cost : Cost) (kept : Po
           disk = record {
             size = works.fills.size;
             failed = works.failed ∙ ap (λ (b : Bool). old.failed || b) (stops.fails ∙ disk_fault_same (Unit {0}) PoolState fault);
+            told = λ whole. works.told (stops.told whole);
             honest = works.fills.honest;
             same = works.same;
           };
@@ -93,7 +94,7 @@ module _ (definition : Pool → Result Stepped Refusal) (cost : Cost) (kept : Po
       → Ready mid.disk kept.body → Wrote kept cost old mid None
       → ((tight : Bool) (running : Pool) → new.disk.honest → IsAtRest tight old.disk kept running → Did tight old.disk new.disk kept running (definition running) (of_committed made))
       → length (dir_bytes dir) ≤ length (dir_bytes kept.dir) + 1024
-      → IfOk made (CommittedDir kept.body dir mid new) → TakesForDir dir mid.space new.space made → RefusedDir kept.body mid new made → KeepsDisk (blocks.fails (stop_of_commit made)) mid new
+      → IfOk made (CommittedDir kept.body dir mid new) → TakesForDir dir mid.space new.space made → RefusedDir kept.body mid new made → KeepsDisk (blocks.fails (stop_of_commit made)) false mid new
       → HasDiskCause commits.DiskFault mid.disk.faults new.disk.faults made → Ran definition cost kept old new answer
   runs_committed old mid new dir made is old_ready wrote did grows done takes refused keeps cause =
       let one = wrote.0 in
@@ -112,6 +113,7 @@ module _ (definition : Pool → Result Stepped Refusal) (cost : Cost) (kept : Po
           disk = record {
             size = keeps.size ∙ works.fills.size;
             failed = failed_then old.failed mid.failed new.failed (is_disk_fault answer) works.failed (keeps.failed ∙ ap (λ (b : Bool). mid.failed || b) (committed_fails made));
+            told = λ whole. keeps.told refl ∙ works.told refl;
             honest = λ told. works.fills.honest (keeps.honest told);
             same = keeps.same ∙ works.same;
           };
@@ -121,7 +123,7 @@ module _ (definition : Pool → Result Stepped Refusal) (cost : Cost) (kept : Po
       subst (Ran definition cost kept old new) (sym is) runs
     where
       spends : (r : Result PoolState CommitFault) → IfOk r (CommittedDir kept.body dir mid new) → TakesForDir dir mid.space new.space r → RefusedDir kept.body mid new r
-          → (block : ℕ) → Works cost.cells block (rested old.disk old.failed old.reference kept) mid None → Spends cost.cells block kept new.space as_kept (of_committed r)
+          → (block : ℕ) → Works cost.cells block (rested old.disk old.failed old.checksum_errors old.reference kept) mid None → Spends cost.cells block kept new.space as_kept (of_committed r)
       spends (Ok next) done takes refused block works =
           record { full = tt; grows = spends_grows kept cost.cells block dir works takes.takes grows next old_ready.in_range.end.1 done.ready.in_range.end.1 done.ends.0 done.ends.1 }
       spends (Err (commits.Full need largest)) done takes refused block works =
@@ -147,7 +149,7 @@ module _ (definition : Pool → Result Stepped Refusal) (cost : Cost) (kept : Po
 -- before its first part a command wrote nothing
 pub idle_wrote : (kept : PoolState) (cost : Cost) (io : IoState) (stop : Option BlockFault) → stop ≡ None → io.space ≡ free_by kept.body → Wrote kept cost io io stop
 idle_wrote kept cost io stop none free =
-    let start = rested io.disk io.failed io.reference kept in
+    let start = rested io.disk io.failed io.checksum_errors io.reference kept in
     let idle = λ (block : ℕ). subst (Works cost.cells block start io) (sym none)
     (subst (λ (space : FreeSectors). Works cost.cells block start (record io { space = space }) None) (sym free) (Works-looks (Looks-none start))) in
     ((0, omega arith, idle 0), λ running told rests. idle (cost.block running))
@@ -185,7 +187,7 @@ module _ (definition : Pool → Result Stepped Refusal) (cost : Cost) (damage : 
 pub runs_head : (definition : Pool → Result Stepped Refusal) (cost : Cost) (kept : PoolState) (name : List ℕ) (Is : FreeSectors → ObjSet → DamageFact) (old mid : IoState) {new : IoState} (set : ObjSet) (changed : Result (Unit {0}) (OrMemory ObjFault)) (answer : Result PoolState PoolFault)
     → old.space ≡ free_by kept.body → HasHead kept.dir name set → (mid.disk.honest → IfTold changed (Is old.space set)) → (new.disk.honest → mid.disk.honest)
     → ((sector : ℕ) (stated found : List ℕ) → answer ≡ Err (Damaged sector stated found) → changed ≡ Err (Fault (set_faults.Block (block_faults.Damaged sector stated found))))
-    → Ran definition cost kept (rested old.disk old.failed old.reference kept) new answer → Runs definition cost (OfHead kept.dir name (Is (free_by kept.body))) kept old new answer
+    → Ran definition cost kept (rested old.disk old.failed old.checksum_errors old.reference kept) new answer → Runs definition cost (OfHead kept.dir name (Is (free_by kept.body))) kept old new answer
 runs_head definition cost kept name Is old mid {new = new} set changed answer free there tells falls same ran = record {
   ran = subst (λ (space : FreeSectors). Ran definition cost kept (record old { space = space }) new answer) (sym free) ran;
   damaged = λ told. told_of (OfHead kept.dir name (Is (free_by kept.body))) answer (λ sector stated found is.
@@ -216,7 +218,7 @@ pub changed_head : (kept : PoolState) (name : List ℕ) (make : Pool → DatedSt
     → ((pool : Pool) (head : DatedState) → new.disk.honest → SetHolds (Has old.disk.seen old.space) was head
     → ((change : DatedState → Result DatedState Refusal) → on_head name pool change ≡ (change head >>= λ after. committed (with_head_of name after pool)))
     → Works cost.cells (cost.block pool) old new (stop_of changed))
-    → ChangedHead kept name make cost (rested old.disk old.failed old.reference kept) new set changed
+    → ChangedHead kept name make cost (rested old.disk old.failed old.checksum_errors old.reference kept) new set changed
 changed_head kept name make cost old new {number = number} {was = was} {set = set} {changed = changed} free next found changes works exact =
     let over = λ (block : ℕ) (w : Works cost.cells block old new (stop_of changed)).
     subst (λ (space : FreeSectors). Works cost.cells block (record old { space = space }) new (stop_of changed)) free w in

@@ -88,12 +88,12 @@ module _ (made : Result PoolState CommitFault) (answer : Result PoolState PoolFa
   answers_cause before now cause = subst (HasDiskCause before now) (sym is) (committed_cause before now made cause)
 
   -- it ends as the commit does
-  pub answers_ends : (kept : PoolState) (dir : Rows) (old new : IoState) → IfOk made (CommittedDir kept.body dir old new) → RefusedDir kept.body old new made → KeepsDisk (blocks.fails (stop_of_commit made)) old new
+  pub answers_ends : (kept : PoolState) (dir : Rows) (old new : IoState) → IfOk made (CommittedDir kept.body dir old new) → RefusedDir kept.body old new made → KeepsDisk (blocks.fails (stop_of_commit made)) false old new
       → calls.HasDiskCause DiskFault old.disk.faults new.disk.faults made → EndsCommit kept old new answer
   answers_ends kept dir old new done refused disk cause = record {
     ready = answers_ok (λ next. Ready new.disk next.body) (IfOk-weaker made (CommittedDir kept.body dir old new) (λ next. Ready new.disk next.body) (λ next is. is.ready) done);
     stays = λ works. answers_err (Ready new.disk kept.body) (refused.stays works);
-    disk = record { size = disk.size; failed = answers_fails old.failed disk.failed; honest = disk.honest; same = disk.same };
+    disk = record { size = disk.size; failed = answers_fails old.failed disk.failed; told = λ whole. disk.told refl; honest = disk.honest; same = disk.same };
     cause = answers_cause old.disk.faults new.disk.faults cause;
   }
 
@@ -110,7 +110,7 @@ pub ends_idle : (kept : PoolState) (io : IoState) (fault : PoolFault) (answer : 
 ends_idle kept io fault answer fell apart ready = record {
   ready = subst (λ (r : Result PoolState PoolFault). IfOk r (λ next. Ready io.disk next.body)) (sym fell) tt;
   stays = λ works. subst (λ (r : Result PoolState PoolFault). OnErr r (Ready io.disk kept.body)) (sym fell) ready;
-  disk = record { size = refl; failed = or_false io.failed ∙ ap (λ b. io.failed || b) (sym never); honest = λ told. told; same = refl };
+  disk = record { size = refl; failed = or_false io.failed ∙ ap (λ b. io.failed || b) (sym never); told = λ whole. refl; honest = λ told. told; same = refl };
   cause = record { later = omega arith; fault = λ disk. absurd (disk_told (sym never ∙ ap is_disk_fault disk)) };
 }
   where

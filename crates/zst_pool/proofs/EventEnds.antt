@@ -4,7 +4,7 @@ use Rattle.std.proofs.Common.{◌≡◌, ℕ, List, [], Bool, false, true, ◌||
 use Rattle.zst_outside.specs.Images.{Leaves-none, OnlyReads-none}
 use Rattle.zst_outside.specs.declared.disk.Disk.{Ghosts}
 use Rattle.zst_space.specs.FreeSectors.{FreeSectors}
-use Rattle.zst_block.specs.IoCalls.{Looks}
+use Rattle.zst_block.specs.IoCalls.{Looks, is_damage}
 use Rattle.zst_block.specs.IoStates.{IoState, disk_of, io_of}
 use Rattle.zst_block.specs.declared.io.Io.{Io}
 use Rattle.zst_model.specs.declared.pools.command.Command.{Command}
@@ -27,7 +27,7 @@ use Rattle.zst_pool.specs.StepAnswers.{BeforeOrAfter}
 use Rattle.zst_pool.specs.declared.fault.PoolFault.{PoolFault}
 use Rattle.zst_pool.specs.declared.fault.PoolFault.TheVariants.{DiskFault, Failed, OutOfMemory, Full}
 use Rattle.zst_pool.specs.declared.pool.Pool.{Pool}
-use Rattle.zst_pool.proofs.CallLemmas.{blocks_last, call_fell, can_still, cause_told, fault_has, fault_made, free_again, kept_has, ready_still, tells_disk}
+use Rattle.zst_pool.proofs.CallLemmas.{blocks_last, call_fell, can_still, cause_told, fault_has, fault_made, free_again, kept_has, ready_still, tells_disk, tells_stop}
 use Rattle.zst_pool.proofs.CommitAnswers.{disk_told}
 use Rattle.zst_pool.proofs.CommandParts.{disk_fault_same, or_false}
 use Rattle.zst_pool.proofs.PoolsAtRest.{commit_next_of}
@@ -48,6 +48,7 @@ module _ {D : Type 0} {g : Ghosts D} where
     works = λ works. absurd (either_failed pool.io.failed (is_full {T = T} (Err Failed)) works failed);
     ready = λ works. absurd (cc (failed, works));
     failed = or_false pool.io.failed;
+    told = λ whole. refl;
     cause = record { later = omega arith; fault = λ is. absurd (cc (is)) };
     honest = λ told. told;
     same = refl;
@@ -67,7 +68,7 @@ module _ {D : Type 0} {g : Ghosts D} where
   -- an event whose commit ended so over its disk, whatever sectors it began with, once the pool kept what it committed
   module _ (old new : Pool D g) (mid : Io D g) (made : Result PoolState PoolFault) (answer : Result ℕ PoolFault) (works : old.io.failed ≡ false) (kept : keeping new.kept answer ≡ made)
       (free : is_full made ≡ false → new.io.space ≡ free_by new.kept.body) (disk : SameDisk mid new.io) where
-    pub settles_committed : (space : FreeSectors) → EndsCommit old.kept (record { disk = disk_of old.io; space = space; failed = old.io.failed; reference = old.io.disk.ghost_name }) (io_of mid) made → OnErr answer (new.kept ≡ old.kept)
+    pub settles_committed : (space : FreeSectors) → EndsCommit old.kept (record { disk = disk_of old.io; space = space; failed = old.io.failed; checksum_errors = old.io.checksum_errors; reference = old.io.disk.ghost_name }) (io_of mid) made → OnErr answer (new.kept ≡ old.kept)
         → Settles old new answer
     settles_committed space ends stays =
         let ready = ready_still new.kept answer made kept old.kept (disk_of mid) (disk_of new.io) mid.failed new.io.failed (ap (λ (d : D). g.state d) disk.now) disk.failed ends.ready ends.stays stays in
@@ -79,6 +80,7 @@ module _ {D : Type 0} {g : Ghosts D} where
           works = can_still new.kept answer made kept (disk_of new.io) new.io.space new.io.failed free ready;
           ready = ready;
           failed = disk.failed ∙ ends.disk.failed ∙ ap (λ fell. old.io.failed || fell) (tells_disk new.kept answer made kept);
+          told = λ whole. disk.checksum_errors ∙ ends.disk.told (ap is_damage (tells_stop new.kept answer made kept) ∙ whole);
           cause = cause_told new.kept answer made kept (disk_of old.io).faults (disk_of mid).faults (disk_of new.io).faults (ap (λ (d : D). (g.state d).faults) disk.now) ends.cause;
           honest = λ told. ends.disk.honest (subst (λ (d : D). (g.state d).honest) disk.now told);
           same = disk.same ∙ ends.disk.same;
@@ -116,9 +118,9 @@ module _ {D : Type 0} {g : Ghosts D} where
 
   -- what was run stands over the disk that the pool then has, as what it kept
   pub runs_settled : {definition : Plain → Result Stepped Refusal} {cost : Cost} {damage : DamageFact} {kept : PoolState} {old : IoState} (mid new : Io D g) (made answer : Result PoolState PoolFault) → SameDisk mid new → answer ≡ made
-      → Runs definition cost damage kept old (io_of mid) made → Runs definition cost damage kept old (record { disk = disk_of new; space = mid.space; failed = mid.failed; reference = mid.disk.ghost_name }) answer
+      → Runs definition cost damage kept old (io_of mid) made → Runs definition cost damage kept old (record { disk = disk_of new; space = mid.space; failed = mid.failed; checksum_errors = mid.checksum_errors; reference = mid.disk.ghost_name }) answer
   runs_settled {definition = definition} {cost = cost} {damage = damage} {kept = kept} {old = old} mid new made answer disk same runs =
-      let over = λ (now : D) (result : Result PoolState PoolFault). Runs definition cost damage kept old (record { disk = g.state now; space = mid.space; failed = mid.failed; reference = mid.disk.ghost_name }) result in
+      let over = λ (now : D) (result : Result PoolState PoolFault). Runs definition cost damage kept old (record { disk = g.state now; space = mid.space; failed = mid.failed; checksum_errors = mid.checksum_errors; reference = mid.disk.ghost_name }) result in
       subst (over new.disk.now) (sym same) (subst (λ (now : D). over now made) (sym disk.now) runs)
 
   -- an event that went well, or was refused so, also where it answers something else
@@ -131,6 +133,7 @@ module _ {D : Type 0} {g : Ghosts D} where
     works = settles.works;
     ready = settles.ready;
     failed = settles.failed;
+    told = settles.told;
     cause = record { later = settles.cause.later; fault = λ is. absurd (cc (is)) };
     honest = settles.honest;
     same = settles.same;
@@ -148,6 +151,7 @@ module _ {D : Type 0} {g : Ghosts D} where
         works = settles.works;
         ready = settles.ready;
         failed = settles.failed ∙ ap (λ (b : Bool). old.io.failed || b) (disk_fault_same T U fault);
+        told = settles.told;
         cause = record { later = settles.cause.later; fault = λ is. let disk : fault ≡ DiskFault = cc (is) in settles.cause.fault (ap (λ (f : PoolFault). Err f) disk) };
         honest = settles.honest;
         same = settles.same;
@@ -155,7 +159,7 @@ module _ {D : Type 0} {g : Ghosts D} where
 
   -- one that only told something of a pool, once the sectors were free again
   pub settles_told : (pool : Pool D g) (io : Io D g) (result : Result (List (List ℕ)) PoolFault) → pool.io.failed ≡ false → (space : FreeSectors) → space ≡ free_by pool.kept.body
-      → Looks (record { disk = disk_of pool.io; space = space; failed = pool.io.failed; reference = pool.io.disk.ghost_name }) (io_of io) (stop_of result) → Ready (disk_of pool.io) pool.kept.body
+      → Looks (record { disk = disk_of pool.io; space = space; failed = pool.io.failed; checksum_errors = pool.io.checksum_errors; reference = pool.io.disk.ghost_name }) (io_of io) (stop_of result) → Ready (disk_of pool.io) pool.kept.body
       → Settles pool (record pool { io = io }) result
   settles_told pool io result works space free looks ready =
       let after = ready_read (disk_of pool.io) (disk_of io) pool.kept looks.reads ready in
@@ -168,6 +172,7 @@ module _ {D : Type 0} {g : Ghosts D} where
         works = λ told. commit_next_of (disk_of io) io.space pool.kept.body space_is after;
         ready = λ told. after;
         failed = looks.failed ∙ ap (λ (b : Bool). pool.io.failed || b) (fails_told result);
+        told = looks.told;
         cause = cause_looked (disk_of pool.io).faults (disk_of io).faults result looks.cause;
         honest = looks.reads.honest;
         same = looks.same;
@@ -196,6 +201,7 @@ module _ {D : Type 0} {g : Ghosts D} where
       reads = OnlyReads-none (disk_of pool.io);
       space = refl;
       failed = or_false pool.io.failed ∙ ap (λ (b : Bool). pool.io.failed || b) (sym never);
+      told = λ whole. refl;
       cause = record { later = omega arith; fault = λ is. absurd (disk_told (sym never ∙ ap is_disk_fault is)) };
       same = refl;
     };

@@ -26,11 +26,12 @@ use Rattle.zst_tree.specs.declared.or_memory.OrMemory.TheVariants.{Fault, Memory
 
 -- a command stops as the change of its head did
 pub stops_of : (fault : OrMemory ObjFault) → Stops (stop_of {T = Unit {0}} (Err fault)) (or_memory of_set fault)
-stops_of (Fault (CannotApply fault)) = record { fails = refl; disk = λ is. absurd (cc); full = λ need largest is. absurd (cc); open_still = λ is. cc }
-stops_of (Fault (Redacted object block)) = record { fails = refl; disk = λ is. absurd (cc); full = λ need largest is. absurd (cc); open_still = λ is. cc }
-stops_of (Fault (Limit which number)) = record { fails = refl; disk = λ is. absurd (cc); full = λ need largest is. absurd (cc); open_still = λ is. cc }
+stops_of (Fault (CannotApply fault)) = record { fails = refl; told = λ whole. whole; disk = λ is. absurd (cc); full = λ need largest is. absurd (cc); open_still = λ is. cc }
+stops_of (Fault (Redacted object block)) = record { fails = refl; told = λ whole. whole; disk = λ is. absurd (cc); full = λ need largest is. absurd (cc); open_still = λ is. cc }
+stops_of (Fault (Limit which number)) = record { fails = refl; told = λ whole. whole; disk = λ is. absurd (cc); full = λ need largest is. absurd (cc); open_still = λ is. cc }
 stops_of (Fault (Block (Full n l))) = record {
   fails = refl;
+  told = λ whole. whole;
   disk = λ is. absurd (cc);
   full = λ need largest is.
       let needed : n ≡ need = cc in
@@ -38,16 +39,16 @@ stops_of (Fault (Block (Full n l))) = record {
       ap (λ (m : ℕ). Some (Full m l)) needed ∙ ap (λ (m : ℕ). Some (Full need m)) left;
   open_still = λ is. cc;
 }
-stops_of (Fault (Block (Damaged sector stated found))) = record { fails = refl; disk = λ is. absurd (cc); full = λ need largest is. absurd (cc); open_still = λ is. cc }
-stops_of (Fault (Block DiskFault)) = record { fails = refl; disk = λ is. refl; full = λ need largest is. absurd (cc); open_still = λ is. cc }
-stops_of Memory = record { fails = refl; disk = λ is. absurd (cc); full = λ need largest is. absurd (cc); open_still = λ is. cc }
+stops_of (Fault (Block (Damaged sector stated found))) = record { fails = refl; told = λ whole. whole; disk = λ is. absurd (cc); full = λ need largest is. absurd (cc); open_still = λ is. cc }
+stops_of (Fault (Block DiskFault)) = record { fails = refl; told = λ whole. whole; disk = λ is. refl; full = λ need largest is. absurd (cc); open_still = λ is. cc }
+stops_of Memory = record { fails = refl; told = λ whole. whole; disk = λ is. absurd (cc); full = λ need largest is. absurd (cc); open_still = λ is. cc }
 
--- or is refused by the number of the commit, and by memory, where the disk didn't fail
-pub plan_stops : (stop : Option BlockFault) (plan : PlanFault) → blocks.fails stop ≡ false → Stops stop (faults.Plan plan)
-plan_stops stop plan apart = record { fails = apart; disk = λ is. absurd (cc); full = λ need largest is. absurd (cc); open_still = λ is. cc }
+-- or is refused by the number of the commit, and by memory, where the change went well
+pub plan_stops : (stop : Option BlockFault) (plan : PlanFault) → stop ≡ None → Stops stop (faults.Plan plan)
+plan_stops stop plan none = record { fails = ap blocks.fails none; told = λ whole. ap blocks.is_damage none; disk = λ is. absurd (cc); full = λ need largest is. absurd (cc); open_still = λ is. cc }
 
-pub memory_stops : (stop : Option BlockFault) → blocks.fails stop ≡ false → Stops stop faults.OutOfMemory
-memory_stops stop apart = record { fails = apart; disk = λ is. absurd (cc); full = λ need largest is. absurd (cc); open_still = λ is. cc }
+pub memory_stops : (stop : Option BlockFault) → stop ≡ None → Stops stop faults.OutOfMemory
+memory_stops stop none = record { fails = ap blocks.fails none; told = λ whole. ap blocks.is_damage none; disk = λ is. absurd (cc); full = λ need largest is. absurd (cc); open_still = λ is. cc }
 
 -- where the definition accepts, the disk didn't fail
 pub accepted_fails : (changed : Result (Unit {0}) (OrMemory ObjFault)) → is_accepted changed ≡ true → blocks.fails (stop_of changed) ≡ false

@@ -43,9 +43,9 @@ call_full space left dir rows need largest longer takes full =
       before = omega (arith, full.before, more);
     }
 
-module _ (kept : PoolState) (cells block : ℕ) {disk : DiskState} {failed : Bool} {reference : ℕ} {new : IoState} where
+module _ (kept : PoolState) (cells block : ℕ) {disk : DiskState} {failed : Bool} {checksum_errors reference : ℕ} {new : IoState} where
   -- what a command spends that stopped at a block's fault, or at none
-  pub spends_fell : {stop : Option BlockFault} (fault : PoolFault) → Stops stop fault → Works cells block (rested disk failed reference kept) new stop
+  pub spends_fell : {stop : Option BlockFault} (fault : PoolFault) → Stops stop fault → Works cells block (rested disk failed checksum_errors reference kept) new stop
       → Spends cells block kept new.space as_kept (Err fault)
   spends_fell {stop = stop} fault stops works = record {
     full = λ need largest same.
@@ -57,7 +57,7 @@ module _ (kept : PoolState) (cells block : ℕ) {disk : DiskState} {failed : Boo
   }
 
   -- what a command spends that came to its commit
-  module _ {least : FreeSectors} (dir : Rows) (works : Works cells block (rested disk failed reference kept) new None)
+  module _ {least : FreeSectors} (dir : Rows) (works : Works cells block (rested disk failed checksum_errors reference kept) new None)
       (takes : TakesAtMost (dir_sectors (length (dir_bytes dir))) new.space least) (grows : length (dir_bytes dir) ≤ length (dir_bytes kept.dir) + 1024) where
     pub spends_full : {last : DiskState} (need largest : ℕ) → FillsFree new.disk new.space last least → IsDirFull new.space least dir need largest → HasNoRoom cells block kept.body kept.dir least need largest
     spends_full need largest fills told =

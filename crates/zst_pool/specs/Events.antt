@@ -4,6 +4,7 @@ use Rattle.zst_outside.specs.Images.{Leaves, OnlyReads}
 use Rattle.zst_outside.specs.declared.disk.Disk.{Ghosts}
 use Rattle.zst_space.specs.FreeSectors.{FreeSectors}
 use Rattle.zst_block.specs.Blocks.{FitsDisk, KeepsBlocks, SparesTaken}
+use Rattle.zst_block.specs.IoCalls.{is_damage}
 use Rattle.zst_block.specs.IoStates.{IoState, IsHonest, blocks_of, disk_of}
 use Rattle.zst_block.specs.declared.io.Io.{Io}
 use Rattle.zst_model.specs.declared.pools.command.Command.{Command}
@@ -20,6 +21,7 @@ use Rattle.zst_pool.specs.Calls.{CallDid, CallGrows, CanCommit, IsAtRest, IsCall
 use Rattle.zst_pool.specs.Cost.{Spends, cost_of}
 use Rattle.zst_pool.specs.Damage.{IsOf, TellsDamage}
 use Rattle.zst_pool.specs.Faults.{HasDiskCause, is_disk_fault, is_full}
+use Rattle.zst_pool.specs.Queries.{stop_of}
 use Rattle.zst_pool.specs.StepAnswers.{BeforeOrAfter, StepAnswer}
 use Rattle.zst_pool.specs.declared.fault.PoolFault.{PoolFault}
 use Rattle.zst_pool.specs.declared.fault.PoolFault.TheVariants.{DiskFault, Failed, Full}
@@ -30,7 +32,7 @@ pub record EndsCommit (kept : PoolState) (old new : IoState) (result : Result Po
   -- the next commit can follow: after the body that was committed, and after a refusal, unless the disk failed, after the latest one
   pub ready : IfOk result (λ next. Ready new.disk next.body)
   pub stays : new.failed ≡ false → OnErr result (Ready new.disk kept.body)
-  pub disk : KeepsDisk (is_disk_fault result) old new
+  pub disk : KeepsDisk (is_disk_fault result) (is_damage (stop_of result)) old new
   pub cause : HasDiskCause old.disk.faults new.disk.faults result
 
 -- what is kept once this directory was committed over these free sectors: it has its rows, and where all that is free stands behind the end, it ends no later than the directory's sectors reach
@@ -42,10 +44,11 @@ pub record FollowsBy (space : FreeSectors) (kept : PoolState) (dir : Rows) (next
   pub ends : space.free ≡ [] → next.body.end ≤ space.end + dir_sectors (length (dir_bytes dir))
 
 module _ {D : Type 0} {g : Ghosts D} where
-  -- nothing was read or written: the disk is as it was, and so are the mark of its failure and its reference
+  -- nothing was read or written: the disk is as it was, and so are the mark of its failure, the count of blocks that were found damaged and its reference
   pub record SameDisk (old new : Io D g) : Type 0 where
     pub now : new.disk.now ≡ old.disk.now
     pub failed : new.failed ≡ old.failed
+    pub checksum_errors : new.checksum_errors ≡ old.checksum_errors
     pub same : new.disk.ghost_name ≡ old.disk.ghost_name
 
   -- what was committed is kept, and its number is answered; a refusal is answered, and what was kept stays
@@ -76,6 +79,8 @@ module _ {D : Type 0} {g : Ghosts D} where
     pub works : (new.io.failed || is_full result) ≡ false → CanCommit (disk_of new.io) new.io.space new.kept.body
     pub ready : new.io.failed ≡ false → Ready (disk_of new.io) new.kept.body
     pub failed : new.io.failed ≡ (old.io.failed || is_disk_fault result)
+    -- a block that is found damaged is told so: only an event that answers E25 may have counted one
+    pub told : is_damage (stop_of result) ≡ false → new.io.checksum_errors ≡ old.io.checksum_errors
     pub cause : HasDiskCause (disk_of old.io).faults (disk_of new.io).faults result
     pub honest : IsHonest new.io → IsHonest old.io
     pub same : new.io.disk.ghost_name ≡ old.io.disk.ghost_name
@@ -137,6 +142,8 @@ module _ {D : Type 0} {g : Ghosts D} where
     pub reads : OnlyReads (disk_of old) (disk_of new)
     pub space : new.space ≡ old.space
     pub failed : new.failed ≡ (old.failed || is_disk_fault result)
+    -- a block that is found damaged is told so
+    pub told : is_damage (stop_of result) ≡ false → new.checksum_errors ≡ old.checksum_errors
     pub cause : HasDiskCause (disk_of old).faults (disk_of new).faults result
     pub same : new.disk.ghost_name ≡ old.disk.ghost_name
 

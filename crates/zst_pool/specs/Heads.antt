@@ -26,6 +26,7 @@ use Rattle.zst_pool.specs.Faults.{StepFault, is_disk_fault, of_set, or_memory}
 use Rattle.zst_image.specs.Reads.{SetIs, bound_of, free_by}
 use Rattle.zst_pool.specs.Calls.{IsAtRest}
 use Rattle.zst_pool.specs.Plans.{IsLast}
+use Rattle.zst_pool.specs.Queries.{stop_at}
 use Rattle.zst_pool.specs.declared.fault.PoolFault.{PoolFault}
 use Rattle.zst_pool.specs.declared.fault.PoolFault.TheVariants as faults
 use Rattle.zst_tree.specs.declared.or_memory.OrMemory.{OrMemory}
@@ -75,9 +76,10 @@ is_accepted (Err (Fault (set_faults.Block (block_faults.Damaged sector stated fo
 is_accepted (Err (Fault (set_faults.Block block_faults.DiskFault))) = false
 is_accepted (Err Memory) = false
 
--- a command whose part stopped at this block fault, or at none, answers so: of the disk and of a full disk only what the block told
+-- a command whose part stopped at this block fault, or at none, answers so: of the disk and of a full disk only what the block told, and a damaged block as damaged
 pub record Stops (stop : Option BlockFault) (fault : PoolFault) : Type 0 where
   pub fails : blocks.fails stop ≡ is_disk_fault {T = Unit {0}} (Err fault)
+  pub told : blocks.is_damage (stop_at fault) ≡ false → blocks.is_damage stop ≡ false
   pub disk : fault ≡ faults.DiskFault → stop ≡ Some block_faults.DiskFault
   pub full : (need largest : ℕ) → fault ≡ faults.Full need largest → stop ≡ Some (block_faults.Full need largest)
   pub open_still : ¬ (fault ≡ faults.Failed)
@@ -99,8 +101,8 @@ abbrev pub Works : ℕ → ℕ → (old new : IoState) → Option BlockFault →
 Works cells block old new stop = blocks.Works (block + 640 * cells) block old new stop
 
 -- the Io of a pool at rest on this disk: free is what its latest body leaves free
-abbrev pub rested : DiskState → Bool → ℕ → PoolState → IoState
-rested disk failed reference kept = record { disk = disk; space = free_by kept.body; failed = failed; reference = reference }
+abbrev pub rested : DiskState → Bool → (checksum_errors reference : ℕ) → PoolState → IoState
+rested disk failed checksum_errors reference kept = record { disk = disk; space = free_by kept.body; failed = failed; checksum_errors = checksum_errors; reference = reference }
 
 -- Since a start at which a pool was at rest a command changed the head of a dataset as `make` says, or could not: what stands then, and what was answered.
 pub record ChangedHead (kept : PoolState) (name : List ℕ) (make : Pool → DatedState → Result DatedState Refusal) (cost : Cost) (start now : IoState) (set : ObjSet) (changed : Result (Unit {0}) (OrMemory ObjFault)) : Type 0 where

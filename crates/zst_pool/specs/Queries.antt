@@ -22,17 +22,21 @@ use Rattle.zst_pool.specs.Plans.{Plans}
 use Rattle.zst_pool.specs.declared.fault.PoolFault.{PoolFault}
 use Rattle.zst_pool.specs.declared.fault.PoolFault.TheVariants as faults
 
+-- the block fault that a fault of a command is
+abbrev pub stop_at : PoolFault → Option BlockFault
+stop_at (faults.Plan fault) = None
+stop_at (faults.CannotApply fault) = None
+stop_at (faults.Redacted object block) = None
+stop_at (faults.Full need largest) = Some (blocks.Full need largest)
+stop_at (faults.Damaged sector stated found) = Some (blocks.Damaged sector stated found)
+stop_at faults.DiskFault = Some blocks.DiskFault
+stop_at faults.Failed = None
+stop_at faults.OutOfMemory = None
+
 -- the block fault at which a command stopped
 abbrev pub stop_of : {T : Type 0} → Result T PoolFault → Option BlockFault
 stop_of (Ok value) = None
-stop_of (Err (faults.Plan fault)) = None
-stop_of (Err (faults.CannotApply fault)) = None
-stop_of (Err (faults.Redacted object block)) = None
-stop_of (Err (faults.Full need largest)) = Some (blocks.Full need largest)
-stop_of (Err (faults.Damaged sector stated found)) = Some (blocks.Damaged sector stated found)
-stop_of (Err faults.DiskFault) = Some blocks.DiskFault
-stop_of (Err faults.Failed) = None
-stop_of (Err faults.OutOfMemory) = None
+stop_of (Err fault) = stop_at fault
 
 -- what is told is what the definition tells of a pool, which stays as it is; a refusal is the definition's, and nothing is damaged
 abbrev pub TellsAnswer : Pool → Result Stepped Refusal → Result (List (List ℕ)) PoolFault → Type 0

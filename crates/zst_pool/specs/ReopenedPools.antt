@@ -45,6 +45,8 @@ module _ {D : Type 0} {g : Ghosts D} where
     pub kept : OnErr result (new.kept ≡ old.kept)
     pub same_space : OnErr result (new.io.space ≡ old.io.space)
     pub failed : new.io.failed ≡ failed_after old.io.failed (reopened new.kept result)
+    -- the count of blocks that were found damaged goes on: a damage of the directory is the answer, and isn't counted in it
+    pub checksum_errors : new.io.checksum_errors ≡ old.io.checksum_errors
     pub reads : OnlyReads (disk_of old.io) (disk_of new.io)
     pub cause : HasDiskCause DiskFault (disk_of old.io).faults (disk_of new.io).faults result
     pub same : new.io.disk.ghost_name ≡ old.io.disk.ghost_name

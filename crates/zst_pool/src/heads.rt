@@ -104,9 +104,9 @@ fn commit_head<D: Disk>(
     requires sectors { io.old.space.sectors ≡ kept.now.body.sectors }
     requires ready { Ready (disk_of io.old) kept.now.body }
     requires levels { OnOk changed (SetFits set) }
-    ensures ran { (start : D) (failed : Bool) (reference : ℕ) (make : Pool → DatedState → Result DatedState Refusal) (cost : Cost)
-        → ChangedHead kept.now name.now make cost (rested (D.state start) failed reference kept.now) (io_of io.old) set changed
-        → Ran (λ pool. on_head name.now pool (make pool)) cost kept.now (rested (D.state start) failed reference kept.now) (io_of io.new) result }
+    ensures ran { (start : D) (failed : Bool) (checksum_errors reference : ℕ) (make : Pool → DatedState → Result DatedState Refusal) (cost : Cost)
+        → ChangedHead kept.now name.now make cost (rested (D.state start) failed checksum_errors reference kept.now) (io_of io.old) set changed
+        → Ran (λ pool. on_head name.now pool (make pool)) cost kept.now (rested (D.state start) failed checksum_errors reference kept.now) (io_of io.new) result }
     ensures refuses { RefusesHead kept.now.body.number changed result }
     ensures honest { IsHonest io.new → IsHonest io.old }
     ensures same { io.new.disk.ghost_name ≡ io.old.disk.ghost_name }

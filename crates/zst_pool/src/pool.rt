@@ -47,6 +47,7 @@ impl<'d, D: Disk> Pool<'d, D> {
         ensures space { result.io.space ≡ free_by kept.body }
         ensures works { CanCommit (disk_of result.io) result.io.space kept.body }
         ensures failed { result.io.failed ≡ false }
+        ensures checksum_errors { result.io.checksum_errors ≡ 0 }
     {
         let space = Space::new(kept.body.end, kept.body.sectors, Vec::new(alloc));
         let io = Io::new(alloc, disk, space);

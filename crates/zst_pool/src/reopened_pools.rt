@@ -38,6 +38,7 @@ fn open_on<D: Disk>(alloc: Global, io: &mut Io<'_, D>) -> Result<PoolState, Open
     ensures reads { ReadsOrFails OpenFault.DiskFault (disk_of io.old) (disk_of io.new) result }
     ensures space { io.new.space ≡ io.old.space }
     ensures failed { io.new.failed ≡ io.old.failed }
+    ensures checksum_errors { io.new.checksum_errors ≡ io.old.checksum_errors }
     ensures same { io.new.disk.ghost_name ≡ io.old.disk.ghost_name }
 {
     PoolState::open(alloc, io.disk)

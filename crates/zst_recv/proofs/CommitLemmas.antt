@@ -217,6 +217,7 @@ module _ {D : Type 0} {g : Ghosts D} where
     grows = inl refl;
     ready = λ still. ready;
     failed = alive;
+    told = λ whole. refl;
     cause = record { later = omega arith; fault = λ is. absurd (cc is) };
     honest = λ told. told;
     same = refl;
@@ -232,6 +233,7 @@ module _ {D : Type 0} {g : Ghosts D} where
       grows = inr grows;
       ready = settles.ready;
       failed = settles.failed ∙ ap (λ (b : Bool). b || false) alive;
+      told = λ whole. settles.told refl;
       cause = record { later = settles.cause.later; fault = λ is. absurd (cc is) };
       honest = settles.honest;
       same = settles.same;
@@ -247,6 +249,7 @@ module _ {D : Type 0} {g : Ghosts D} where
       grows = tt;
       ready = settles.ready;
       failed = settles.failed ∙ ap (λ (b : Bool). b || is_disk_fault (called fault)) alive ∙ failed_so fault;
+      told = settles.told;
       cause = record { later = settles.cause.later; fault = λ is. settles.cause.fault (ap called (pool_told fault pools.DiskFault is)) };
       honest = settles.honest;
       same = settles.same;

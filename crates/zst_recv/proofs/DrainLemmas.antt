@@ -43,6 +43,7 @@ Fills-none io = record {
   fills = FillsFree-reads io.disk io.disk io.space (OnlyReads-none io.disk);
   sectors = refl;
   full = λ need largest is. absurd (cc);
+  told = λ whole. refl;
   failed = sym (or_false io.failed);
   cause = record { later = omega arith; fault = λ is. absurd (cc) };
   same = refl;
@@ -54,6 +55,7 @@ Fills-then {old} {mid} {new} {stop} first second = record {
   fills = FillsFree-then old.disk mid.disk new.disk old.space mid.space new.space first.fills second.fills;
   sectors = second.sectors ∙ first.sectors;
   full = second.full;
+  told = λ whole. second.told whole ∙ first.told refl;
   failed = second.failed ∙ ap (λ (b : Bool). b || fails stop) (first.failed ∙ or_false old.failed);
   cause = record {
     later = omega (arith, first.cause.later, second.cause.later);

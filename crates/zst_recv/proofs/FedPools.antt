@@ -4,7 +4,7 @@ use Rattle.std.specs.Prelude.{not}
 use Rattle.zst_outside.specs.Causes.{Rose-earlier}
 use Rattle.zst_outside.specs.declared.disk.Disk.{Ghosts}
 use Rattle.zst_block.specs.Blocks.{KeepsBlocks}
-use Rattle.zst_block.specs.IoCalls.{HasCause, fails}
+use Rattle.zst_block.specs.IoCalls.{HasCause, fails, is_damage}
 use Rattle.zst_block.specs.IoStates.{IsHonest, disk_of}
 use Rattle.zst_block.specs.declared.fault.BlockFault.TheVariants as blocks
 use Rattle.zst_block.specs.declared.io.Io.{Io}
@@ -12,6 +12,7 @@ use Rattle.zst_dir.specs.Rows.{Rows}
 use Rattle.zst_image.specs.Commits.{Ready}
 use Rattle.zst_image.specs.Reads.{free_by}
 use Rattle.zst_pool.specs.Faults.{HasDiskCause, is_disk_fault}
+use Rattle.zst_pool.specs.Queries as queries
 use Rattle.zst_pool.specs.declared.fault.PoolFault.{PoolFault}
 use Rattle.zst_pool.specs.declared.fault.PoolFault.TheVariants as pools
 use Rattle.zst_pool.specs.declared.pool.Pool.{Pool}
@@ -44,6 +45,17 @@ failed_put (pools.Damaged sector stated found) = refl
 failed_put pools.DiskFault = refl
 failed_put pools.Failed = refl
 failed_put pools.OutOfMemory = refl
+
+-- and stopped at a damaged block where the feed says so
+pub damage_put : (fault : PoolFault) → is_damage (stop_at (faults.Pool fault)) ≡ false → is_damage (queries.stop_at fault) ≡ false
+damage_put (pools.Plan fault) whole = whole
+damage_put (pools.CannotApply fault) whole = whole
+damage_put (pools.Redacted object block) whole = whole
+damage_put (pools.Full need largest) whole = whole
+damage_put (pools.Damaged sector stated found) whole = whole
+damage_put pools.DiskFault whole = whole
+damage_put pools.Failed whole = whole
+damage_put pools.OutOfMemory whole = whole
 
 stopped_put : (fault : PoolFault) → stop_at (faults.Pool fault) ≡ Some blocks.DiskFault → fault ≡ pools.DiskFault
 stopped_put (pools.Plan fault) is = absurd (cc is)
@@ -96,6 +108,7 @@ module _ {D : Type 0} {g : Ghosts D} where
     blocks = λ goes. absurd (cc goes);
     ready = λ alive. absurd (let both : true ≡ false = sym failed ∙ alive in cc both);
     failed = failed ∙ ap (λ (b : Bool). b || false) (sym failed);
+    told = λ whole. refl;
     cause = record { later = omega arith; fault = λ is. absurd (cc is) };
     honest = λ told. told;
     same = refl;
@@ -104,9 +117,9 @@ module _ {D : Type 0} {g : Ghosts D} where
   module _ (old new : Pool D g) (alive : old.io.failed ≡ false) where
     -- a piece was refused, and the disk is as it was then
     pub leaves_refused : (fault : RecvFault) (io : Io D g) → new.io ≡ io → IsFeedFault fault → ((need largest : ℕ) → fault ≡ faults.Pool (pools.Full need largest) → new.kept.body ≡ old.kept.body)
-        → (io.failed ≡ false → Ready (disk_of io) new.kept.body) → io.failed ≡ fails (stop_at fault) → HasCause (disk_of old.io).faults (disk_of io).faults (stop_at fault)
+        → (io.failed ≡ false → Ready (disk_of io) new.kept.body) → (is_damage (stop_at fault) ≡ false → io.checksum_errors ≡ old.io.checksum_errors) → io.failed ≡ fails (stop_at fault) → HasCause (disk_of old.io).faults (disk_of io).faults (stop_at fault)
         → (IsHonest io → IsHonest old.io) → io.disk.ghost_name ≡ old.io.disk.ghost_name → LeavesPool old new (answer fault)
-    leaves_refused fault io is known stays ready failed cause honest same = record {
+    leaves_refused fault io is known stays ready counts failed cause honest same = record {
       failed_pool = λ fell. absurd (let both : true ≡ false = sym fell ∙ alive in cc both);
       idle_disk = λ fell. absurd (let both : true ≡ false = sym fell ∙ alive in cc both);
       known = λ open_pool. known;
@@ -115,6 +128,7 @@ module _ {D : Type 0} {g : Ghosts D} where
       blocks = λ goes. absurd (cc goes);
       ready = λ still. subst (λ (i : Io D g). Ready (disk_of i) new.kept.body) (sym is) (ready (sym (ap (λ (i : Io D g). i.failed) is) ∙ still));
       failed = ap (λ (i : Io D g). i.failed) is ∙ failed ∙ ap (λ (b : Bool). b || fails (stop_at fault)) (sym alive);
+      told = λ whole. ap (λ (i : Io D g). i.checksum_errors) is ∙ counts whole;
       cause = subst (λ (i : Io D g). HasCause (disk_of old.io).faults (disk_of i).faults (stop_at fault)) (sym is) cause;
       honest = λ told. honest (subst (λ (i : Io D g). IsHonest i) is told);
       same = ap (λ (i : Io D g). i.disk.ghost_name) is ∙ same;
@@ -125,9 +139,9 @@ module _ {D : Type 0} {g : Ghosts D} where
 
     -- or it was taken and committed
     pub leaves_fed : (told : coded_recv.FeedReport) → (told.done ≡ false → KeepsBlocks (disk_of old.io).seen (free_by old.kept.body) (disk_of new.io).seen (free_by new.kept.body))
-        → (new.io.failed ≡ false → Ready (disk_of new.io) new.kept.body) → new.io.failed ≡ false → HasCause (disk_of old.io).faults (disk_of new.io).faults None
+        → (new.io.failed ≡ false → Ready (disk_of new.io) new.kept.body) → new.io.checksum_errors ≡ old.io.checksum_errors → new.io.failed ≡ false → HasCause (disk_of old.io).faults (disk_of new.io).faults None
         → (IsHonest new.io → IsHonest old.io) → new.io.disk.ghost_name ≡ old.io.disk.ghost_name → LeavesPool old new (Ok told)
-    leaves_fed told blocks ready failed cause honest same = record {
+    leaves_fed told blocks ready counts failed cause honest same = record {
       failed_pool = λ fell. absurd (let both : true ≡ false = sym fell ∙ alive in cc both);
       idle_disk = λ fell. absurd (let both : true ≡ false = sym fell ∙ alive in cc both);
       known = λ open_pool. tt;
@@ -136,6 +150,7 @@ module _ {D : Type 0} {g : Ghosts D} where
       blocks = λ goes. blocks (not_done told.done goes);
       ready = ready;
       failed = failed ∙ ap (λ (b : Bool). b || false) (sym alive);
+      told = λ whole. counts;
       cause = cause;
       honest = honest;
       same = same;

@@ -2,6 +2,7 @@
 use Rattle.std.specs.Prelude.{◌≡◌, ◌⊎◌, ℕ, Bool, false, Result, Ok, Err, IfErr, OnErr, OnOk}
 use Rattle.zst_outside.specs.Images.{DiskState, Leaves}
 use Rattle.zst_outside.specs.declared.disk.Disk.{Ghosts}
+use Rattle.zst_block.specs.IoCalls.{is_damage}
 use Rattle.zst_block.specs.IoStates.{IsHonest, disk_of}
 use Rattle.zst_image.specs.Commits.{Ready}
 use Rattle.zst_image.specs.Reads.{Reads}
@@ -11,6 +12,7 @@ use Rattle.zst_model.specs.pools.KeptPool.{kept_of}
 use Rattle.zst_model.specs.pools.Pool.{Pool}
 use Rattle.zst_pool.specs.Calls.{CallFault, CallGrows, IsAtRest, IsCallFault, IsCallFull}
 use Rattle.zst_pool.specs.Faults.{HasDiskCause, is_disk_fault}
+use Rattle.zst_pool.specs.Queries.{stop_of}
 use Rattle.zst_pool.specs.declared.fault.PoolFault.{PoolFault}
 use Rattle.zst_pool.specs.declared.fault.PoolFault.TheVariants.{Full}
 use Rattle.zst_pool.specs.declared.pool.Pool as coded
@@ -36,6 +38,8 @@ module _ {D : Type 0} {g : Ghosts D} where
     pub grows : OnOk result ((new.kept ≡ old.kept) ⊎ CallGrows old.io.space old.kept new.kept)
     pub ready : new.io.failed ≡ false → Ready (disk_of new.io) new.kept.body
     pub failed : new.io.failed ≡ is_disk_fault result
+    -- a block that is found damaged is told so
+    pub told : is_damage (stop_of result) ≡ false → new.io.checksum_errors ≡ old.io.checksum_errors
     pub cause : HasDiskCause (disk_of old.io).faults (disk_of new.io).faults result
     pub honest : IsHonest new.io → IsHonest old.io
     pub same : new.io.disk.ghost_name ≡ old.io.disk.ghost_name

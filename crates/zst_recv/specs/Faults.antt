@@ -2,7 +2,7 @@
 use Rattle.std.specs.Prelude.{◌≡◌, ◌<◌, ◌||◌, ℕ, Bool, true, false, Option, Some, None, Result, Ok, Err}
 use Rattle.zst_space.specs.FreeSectors.{largest_of}
 use Rattle.zst_block.specs.Blocks.{FillsFree}
-use Rattle.zst_block.specs.IoCalls.{HasCause, fails}
+use Rattle.zst_block.specs.IoCalls.{HasCause, fails, is_damage}
 use Rattle.zst_block.specs.IoStates.{IoState}
 use Rattle.zst_block.specs.declared.fault.BlockFault.{BlockFault}
 use Rattle.zst_block.specs.declared.fault.BlockFault.TheVariants as blocks
@@ -84,11 +84,13 @@ cut_of true pushed = Err (Truncated pushed)
 cut_of false pushed = Ok tt
 
 -- Blocks alone are written, into free sectors, whatever is there: the disk is full only where the longest extent is shorter than what is
--- needed, and failed only where its count of faults rose.
+-- needed, and failed only where its count of faults rose; and only a call that stops at damage may have counted a block that is damaged.
 pub record Fills (old new : IoState) (stop : Option BlockFault) : Type 0 where
   pub fills : FillsFree old.disk old.space new.disk new.space
   pub sectors : new.space.sectors ≡ old.space.sectors
   pub full : (need largest : ℕ) → stop ≡ Some (blocks.Full need largest) → (largest < need) × (largest ≡ largest_of new.space)
+  -- a block that is found damaged is told so
+  pub told : is_damage stop ≡ false → new.checksum_errors ≡ old.checksum_errors
   pub failed : new.failed ≡ (old.failed || fails stop)
   pub cause : HasCause old.disk.faults new.disk.faults stop
   pub same : new.reference ≡ old.reference

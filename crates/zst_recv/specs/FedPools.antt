@@ -2,7 +2,7 @@
 use Rattle.std.specs.Prelude.{◌≡◌, ◌||◌, ℕ, true, false, Result, Err, IfErr}
 use Rattle.zst_outside.specs.declared.disk.Disk.{Ghosts}
 use Rattle.zst_block.specs.Blocks.{KeepsBlocks}
-use Rattle.zst_block.specs.IoCalls.{HasCause, fails}
+use Rattle.zst_block.specs.IoCalls.{HasCause, fails, is_damage}
 use Rattle.zst_block.specs.IoStates.{IsHonest, disk_of}
 use Rattle.zst_image.specs.Commits.{Ready}
 use Rattle.zst_image.specs.Reads.{free_by}
@@ -29,6 +29,8 @@ module _ {D : Type 0} {g : Ghosts D} where
     pub blocks : goes_on result ≡ true → KeepsBlocks (disk_of old.io).seen (free_by old.kept.body) (disk_of new.io).seen (free_by new.kept.body)
     pub ready : new.io.failed ≡ false → Ready (disk_of new.io) new.kept.body
     pub failed : new.io.failed ≡ (old.io.failed || fails (stop_of result))
+    -- a block that is found damaged is told so: only a feed that answers E25 may have counted one
+    pub told : is_damage (stop_of result) ≡ false → new.io.checksum_errors ≡ old.io.checksum_errors
     pub cause : HasCause (disk_of old.io).faults (disk_of new.io).faults (stop_of result)
     pub honest : IsHonest new.io → IsHonest old.io
     pub same : new.io.disk.ghost_name ≡ old.io.disk.ghost_name

@@ -70,6 +70,7 @@ impl Recv {
         ensures disk { pool.new.io.disk.now ≡ pool.old.io.disk.now }
         ensures space { pool.new.io.space ≡ pool.old.io.space }
         ensures failed { pool.new.io.failed ≡ pool.old.io.failed }
+        ensures checksum_errors { pool.new.io.checksum_errors ≡ pool.old.io.checksum_errors }
         ensures kept { pool.new.kept ≡ pool.old.kept }
         ensures same { pool.new.io.disk.ghost_name ≡ pool.old.io.disk.ghost_name }
     {

@@ -1,8 +1,9 @@
 -- Which damage a receive tells.
-use Rattle.std.specs.Prelude.{Option, None, Some, Result, Ok, Err}
-use Rattle.std.proofs.Common.{◌≡◌, ℕ, List, ap, subst}
+use Rattle.std.specs.Prelude.{Option, None, Some, Result, Ok, Err, false}
+use Rattle.std.proofs.Common.{◌≡◌, ℕ, List, ap, refl, subst}
 use Rattle.zst_outside.specs.Images.{DiskState}
 use Rattle.zst_block.specs.Blocks.{KeepsBlocks}
+use Rattle.zst_block.specs.IoCalls.{is_damage}
 use Rattle.zst_uber.specs.declared.uber.Uber.{Uber}
 use Rattle.zst_image.specs.Reads.{free_by}
 use Rattle.zst_image.specs.declared.pool_state.PoolState.{PoolState}
@@ -11,11 +12,11 @@ use Rattle.zst_model.specs.declared.refusals.refusal.Refusal.TheVariants as refu
 use Rattle.zst_model.proofs.PlanFaults.{plan_cases}
 use Rattle.zst_pool.specs.declared.fault.PoolFault.TheVariants as pools
 use Rattle.zst_recv.specs.Damage.{IsDamagedFeed}
-use Rattle.zst_recv.specs.Faults.{recv_refusal}
+use Rattle.zst_recv.specs.Faults.{recv_refusal, stop_at}
 use Rattle.zst_recv.specs.declared.fault.RecvFault.{RecvFault}
 use Rattle.zst_recv.specs.declared.fault.RecvFault.TheVariants as faults
 use Rattle.zst_run.specs.Receives.{IsDamagedReceive}
-use Rattle.zst_run.specs.ReceiveTurns.{cut_refusal, told, turn_behind}
+use Rattle.zst_run.specs.ReceiveTurns.{cut_refusal, is_damaged, told, turn_behind}
 use Rattle.zst_run.specs.declared.receive.End.{End}
 use Rattle.zst_run.specs.declared.receive.End.TheVariants.{Ended, Failed}
 use Rattle.zst_run.specs.declared.receive.Receipt.{Receipt}
@@ -33,6 +34,19 @@ damaged_only (faults.Pool pools.Failed) sector stated found is = absurd (cc is)
 damaged_only (faults.Pool pools.OutOfMemory) sector stated found is = absurd (cc is)
 damaged_only (faults.Stream fault) sector stated found is = absurd (cc is)
 damaged_only (faults.CannotApply index fault) sector stated found is = absurd (cc is)
+
+-- and each that a receive meets is told so
+pub damage_refused : (fault : RecvFault) → is_damaged (recv_refusal fault) ≡ false → is_damage (stop_at fault) ≡ false
+damage_refused (faults.Pool (pools.Plan fault)) whole = refl
+damage_refused (faults.Pool (pools.CannotApply fault)) whole = refl
+damage_refused (faults.Pool (pools.Redacted object block)) whole = refl
+damage_refused (faults.Pool (pools.Full need largest)) whole = refl
+damage_refused (faults.Pool (pools.Damaged at says finds)) whole = whole
+damage_refused (faults.Pool pools.DiskFault) whole = refl
+damage_refused (faults.Pool pools.Failed) whole = refl
+damage_refused (faults.Pool pools.OutOfMemory) whole = refl
+damage_refused (faults.Stream fault) whole = refl
+damage_refused (faults.CannotApply index fault) whole = refl
 
 pub never_refused : (end : Option End) (refusal : Refusal) → turn_behind end ≡ turns.Refused refusal → ⊥
 never_refused None refusal is = cc (is)

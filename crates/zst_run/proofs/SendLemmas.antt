@@ -127,6 +127,7 @@ module _ {D : Type 0} {g : Ghosts D} (old new : Pool D g) (send : Send) where
   hands_end fault out out' result hands looks alive never damaged = record {
     refused = hands_refused fault out out' result hands (io_of old.io) (io_of new.io) looks alive;
     unplanned = hands_no_plan fault out out' result hands never;
+    told = λ done is. absurd (⊎_elim (λ as_told. let other = as_told.0 in cc (other, is)) (λ lost. let other = lost.0 in cc (other, is)) hands.outcome);
     damaged = λ images among honest knows. hands_damage fault out out' result hands (IsDamagedSend (IsAmong images) (disk_of old.io).size (sent_set send)) (damaged images among honest knows);
   }
 
@@ -157,11 +158,12 @@ module _ (piece : List ℕ) (is_last : Bool) (old new : ℕ) (out out' : SinkSta
   piece_refused here here' (Err other) writes = absurd writes
 
   module _ {D : Type 0} {g : Ghosts D} (before after : Pool D g) (send : Send) where
-    pub piece_ends : (result : Option (Result (Unit {0}) Refusal)) → WritesPiece piece is_last old new out out' result → IfSome result (WhySendEnds before after send out out')
-    piece_ends None writes = tt
-    piece_ends (Some result) writes = record {
+    pub piece_ends : after.io.checksum_errors ≡ before.io.checksum_errors → (result : Option (Result (Unit {0}) Refusal)) → WritesPiece piece is_last old new out out' result → IfSome result (WhySendEnds before after send out out')
+    piece_ends counts None writes = tt
+    piece_ends counts (Some result) writes = record {
       refused = piece_refused (disk_of before.io) (disk_of after.io) result writes;
       unplanned = piece_no_plan result writes;
+      told = λ done is. counts;
       damaged = λ images among honest knows. piece_no_damage (IsDamagedSend (IsAmong images) (disk_of before.io).size (sent_set send)) result writes;
     }
 

@@ -192,6 +192,22 @@ pub record IsFeedRefusal (old now : DiskState) (refusal : Refusal) : Type 0 wher
   pub cause : refusal ≡ refusals.DiskFault → Rose old.faults now.faults
   pub full : (need largest : ℕ) → refusal ≡ refusals.Full need largest → largest < need
 
+-- a refusal tells a damaged block
+abbrev pub is_damaged : Refusal → Bool
+is_damaged (refusals.Damaged sector stated found) = true
+is_damaged _ = false
+
+-- so does a turn, and the end of a receive
+abbrev pub turn_damaged : Turn → Bool
+turn_damaged turns.More = false
+turn_damaged turns.Received = false
+turn_damaged (turns.Over end) = false
+turn_damaged (turns.Refused refusal) = is_damaged refusal
+
+abbrev pub ends_damaged : {T : Type 0} → Result T Refusal → Bool
+ends_damaged (Ok value) = false
+ends_damaged (Err refusal) = is_damaged refusal
+
 -- a receive that goes on is live, over a pool that works, and one that doesn't has its snapshot or its refusal
 abbrev pub LivesOrEnds : (old now : DiskState) → (recv recv' : Recv) → (failed : Bool) → Turn → Type 0
 LivesOrEnds old now recv recv' failed turns.More = (is_live (stage_of recv') ≡ true) × (failed ≡ false) × (fed_of recv' ≡ fed_of recv + piece_size)
@@ -215,6 +231,8 @@ module _ {D : Type 0} {g : Ghosts D} where
     pub ask : ask_of recv' ≡ ask_of recv
     pub fits : RecvFits new.kept.dir recv'
     pub ready : new.io.failed ≡ false → Ready (disk_of new.io) new.kept.body
+    -- a block that is found damaged is told so
+    pub told : turn_damaged turn ≡ false → new.io.checksum_errors ≡ old.io.checksum_errors
 
 -- a receive that was given nothing yet
 pub record IsUnfed (recv : Recv) : Type 0 where
@@ -243,6 +261,8 @@ module _ {D : Type 0} {g : Ghosts D} where
   -- Why a receive for this target ends by this answer, whatever the image: each refusal has its cause, and E25 tells a damage as the refused record found it.
   pub record WhyReceiveEnds (old new : OpenedPool D g) (target : List ℕ) (input input' : SourceState) (result : Result Receipt Refusal) : Type 0 where
     pub refused : IfErr result (IsEnd (disk_of old.io) (disk_of new.io) input input')
+    -- a block that is found damaged is told so
+    pub told : ends_damaged result ≡ false → new.io.checksum_errors ≡ old.io.checksum_errors
     pub damaged : (sector : ℕ) (stated found : List ℕ) → IsHonest new.io → result ≡ Err (refusals.Damaged sector stated found)
         → IsDamagedReceive (disk_of old.io) old.kept.body target sector stated found
 

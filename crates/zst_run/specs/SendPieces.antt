@@ -85,12 +85,16 @@ module _ {D : Type 0} {g : Ghosts D} where
     pub knows : (images : List (List ℕ)) → Contains images (disk_of old.io).seen → IsHonest new.io → Knows (IsAmong images) send → Knows (IsAmong images) send'
     pub fits : SendFits send'
     pub works : result ≡ None → new.io.failed ≡ false
+    -- a send that goes on has met no damaged block
+    pub told : result ≡ None → new.io.checksum_errors ≡ old.io.checksum_errors
 
   -- Why a send ends by this answer, whatever the image: each refusal has its cause, and none is of a plan; E25 tells a damage of its object set, in
   -- images that its pointers stand in, of which one is what the disk reads.
   pub record WhySendEnds (old new : Pool D g) (send : Send) (out out' : SinkState) (answer : Result (Unit {0}) Refusal) : Type 0 where
     pub refused : IfErr answer (IsSendRefusal OfGiving (disk_of old.io) (disk_of new.io) out out')
     pub unplanned : (fault : PlanFault) → answer ≢ Err (refusals.Plan fault)
+    -- one that ends well has met no damaged block
+    pub told : (done : Unit {0}) → answer ≡ Ok done → new.io.checksum_errors ≡ old.io.checksum_errors
     pub damaged : (images : List (List ℕ)) → Contains images (disk_of old.io).seen → IsHonest new.io → Knows (IsAmong images) send
         → TellsOf (IsDamagedSend (IsAmong images) (disk_of old.io).size (sent_set send)) answer
 

@@ -1,5 +1,5 @@
 // The lines that send a snapshot, or the rest of it that a token tells: the stream is written piece by piece, as it is read of the image.
-ghost use Rattle.std.specs.Prelude.{Option, ◌≡◌, ◌==◌, ◌≤◌, ℕ, List, false, length, IfErr, IfOk, IfSome, MatchResult, None, Some, Ok, Err};
+ghost use Rattle.std.specs.Prelude.{Option, ◌≡◌, ◌==◌, ◌≤◌, ℕ, List, false, length, IfErr, IfOk, IfSome, MatchResult, None, OnOk, Some, Ok, Err};
 ghost use Rattle.std.specs.List.{position};
 ghost use Rattle.zst_outside.specs.Images.{OnlyReads};
 ghost use Rattle.zst_outside.specs.States.{SinkState};
@@ -254,6 +254,8 @@ fn send_from<D: Disk, K: Sink>(
     ensures damaged { IsHonest pool.new.io → TellsOf (IsDamagedRequest request.now pool.old.kept.dir (disk_of pool.old.io)) result }
     ensures refused { IfErr result (IsSendRefusal OfGiving (disk_of pool.old.io) (disk_of pool.new.io) (K.state out.old) (K.state out.new)) }
     ensures reads { OnlyReads (disk_of pool.old.io) (disk_of pool.new.io) }
+    // One that ends well has met no damaged block.
+    ensures told { OnOk result (pool.new.io.checksum_errors ≡ pool.old.io.checksum_errors) }
     ensures later { IsLater (io_of pool.old.io) (io_of pool.new.io) }
 {
     let send = open(alloc, pool, request)?;

@@ -42,6 +42,7 @@ reads_long {T = T} most io ptr buffer fault is long fits =
         reads = OnlyReads-none io.disk;
         space = refl;
         never_full = λ need largest same. absurd (cc);
+        told = λ whole. refl;
         failed = still_failed io.failed;
         cause = record { later = omega arith; fault = λ same. absurd (cc) };
         same = refl;

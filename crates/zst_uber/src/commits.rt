@@ -39,6 +39,7 @@ pub fn commit_event<D: Disk>(io: &mut Io<'_, D>, uber: &Uber) -> Result<(), Uber
     ensures images { (c : List ℕ) → IsHonest io.new → (disk_of io.new).images c → KeepsOldOrNew uber.now (disk_of io.old) c }
     ensures kept { (space : FreeSectors) → KeepsBlocks (disk_of io.old).seen space (disk_of io.new).seen space }
     ensures failed { io.new.failed ≡ (io.old.failed || is_err result) }
+    ensures counts { io.new.checksum_errors ≡ io.old.checksum_errors }
     ensures space { io.new.space ≡ io.old.space }
     ensures same { io.new.disk.ghost_name ≡ io.old.disk.ghost_name }
 {

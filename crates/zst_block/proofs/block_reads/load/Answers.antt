@@ -10,7 +10,10 @@ returns-then-ptr-ne8192-clause-there g c = λ bytes honest has long.
     absurd (c.if-ptr-ne8192.true stated)
 
 pub invariant_of-io : goal.invariant_of-io
-invariant_of-io g c =
+invariant_of-io g c = record { fits = c.args.io.now.fits; told = c.args.io.now.told; behind = c.args.io.now.behind }
+
+pub invariant_of-io-then-is_kept : goal.invariant_of-io-then-is_kept
+invariant_of-io-then-is_kept g c =
     let was = kept_looked c.args.io.now.cache c.is_kept.new.cache c.args.ptr.sector c.is_kept.result c.is_kept.ensures.order c.is_kept.ensures.same in
     record {
       fits = c.args.io.now.fits;
@@ -21,14 +24,14 @@ invariant_of-io g c =
 pub returns-then-is_kept-clause-answer : goal.returns-then-is_kept-clause-answer
 returns-then-is_kept-clause-answer g c = λ honest stated.
     let told = c.args.io.now.told honest c.args.ptr.sector c.is_kept.new.into (c.if-is_kept.ensures.given refl) in
-    compared_answer _ _ c.args.ptr c.is_kept.new.into c.compare.result (g.met.D.Disk.seen_size c.args.io.now.disk.now) (rw c.bytes.ensures at (c.if-is_kept.ensures.placed refl))
-    (named_node _ c.args.ptr c.is_kept.new.into stated told) (rw c.as_slice.ensures.bytes at c.compare.ensures)
+    compared_answer _ _ c.args.ptr c.is_kept.new.into c.compare-outcome.result (g.met.D.Disk.seen_size c.args.io.now.disk.now) (rw c.bytes.ensures at (c.if-is_kept.ensures.placed refl))
+    (named_node _ c.args.ptr c.is_kept.new.into stated told) (rw c.as_slice.ensures.bytes at c.compare-outcome.ensures)
 
 pub returns-then-is_kept-clause-there : goal.returns-then-is_kept-clause-there
 returns-then-is_kept-clause-there g c = λ bytes honest has long.
     let stated : c.args.ptr.length ≡ 8192 = search rules in
     let told = c.args.io.now.told honest c.args.ptr.sector c.is_kept.new.into (c.if-is_kept.ensures.given refl) in
-    compared_gives _ c.args.ptr c.is_kept.new.into bytes c.compare.result (named_node _ c.args.ptr c.is_kept.new.into stated told) has.block (rw c.as_slice.ensures.bytes at c.compare.ensures)
+    compared_gives _ c.args.ptr c.is_kept.new.into bytes c.compare-outcome.result (named_node _ c.args.ptr c.is_kept.new.into stated told) has.block (rw c.as_slice.ensures.bytes at c.compare-outcome.ensures)
 
 pub returns-then-is_kept-clause-block : goal.returns-then-is_kept-clause-block
 returns-then-is_kept-clause-block g c = λ honest.

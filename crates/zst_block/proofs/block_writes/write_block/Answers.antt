@@ -10,7 +10,7 @@ pub take-requires : goal.take-requires
 take-requires g c = IsSpaceFrom-earlier 8 0 c.args.space.now (omega arith) c.requires.fits.extents
 
 pub returns-in-Ok-write_at-clause-block : goal.returns-in-Ok-write_at-clause-block
-returns-in-Ok-write_at-clause-block g c reference =
+returns-in-Ok-write_at-clause-block g c checksum_errors reference =
     let took = c.in-Ok.ensures in
     let writes = c.write_at.ensures.writes in
     let long = g.met.D.Disk.seen_size c.write_at.new.self in
@@ -29,11 +29,11 @@ returns-in-Ok-write_at-clause-block g c reference =
       never_damaged = λ sector stated found is. absurd (cc);
       calls = omega (arith, c.write_at.ensures.calls);
       works = Works-write _ _ _ (Ok ptr) (fills _ _ c.args.space.now c.take.new.self _ c.in-Ok.sector (length c.args.bytes.now) c.place_in-place.ensures c.requires.some c.requires.whole took.takes writes)
-          (λ longest. took.after) (λ short. absurd (omega (arith, fits, short))) (omega (arith, room)) (wrote_is_not_full _ _ _ _ refl fits) (search rules) (search rules) refl;
+          (λ longest. took.after) (λ short. absurd (omega (arith, fits, short))) (omega (arith, room)) (wrote_is_not_full _ _ _ _ refl fits) refl (search rules) (search rules) refl;
     }
 
 pub returns-in-Err-write_at-clause-block : goal.returns-in-Err-write_at-clause-block
-returns-in-Err-write_at-clause-block g c reference =
+returns-in-Err-write_at-clause-block g c checksum_errors reference =
     let took = c.in-Ok.ensures in
     let fits = took.fits.0 refl in
     let room = took.takes.room_is in
@@ -48,5 +48,5 @@ returns-in-Err-write_at-clause-block g c reference =
       never_damaged = λ sector stated found is. absurd (cc);
       calls = omega (arith, c.write_at.ensures.calls);
       works = Works-write _ _ _ (Err DiskFault) (fills _ _ c.args.space.now c.take.new.self _ c.in-Ok.sector (length c.args.bytes.now) c.place_in-place.ensures c.requires.some c.requires.whole took.takes c.write_at.ensures.writes)
-          (λ longest. took.after) (λ short. absurd (omega (arith, fits, short))) (omega (arith, room)) (failed_is_not_full _ _ _ refl fits) (search rules) (search rules) refl;
+          (λ longest. took.after) (λ short. absurd (omega (arith, fits, short))) (omega (arith, room)) (failed_is_not_full _ _ _ refl fits) refl (search rules) (search rules) refl;
     }

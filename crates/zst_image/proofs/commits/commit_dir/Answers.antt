@@ -14,6 +14,7 @@ use Rattle.zst_dir.specs.Spelling.{dir_bytes}
 use Rattle.zst_image.specs.Reads.{dir_sectors, free_by}
 use Rattle.zst_image.specs.Commits.{NextIs, OldOrNext, Ready}
 use Rattle.zst_image.proofs.CommitLemmas.{IsPrepared, next_in_range, prepared, free_by-fewer, commit-moments, commit-rests, over-refused, Ready-fills, Commits-over, Stays-from}
+use Rattle.zst_image.proofs.Causes.{never_damaged}
 use Rattle.zst_image.proofs.CommitSectors.{end_bounded, takes-refused}
 use Rattle.zst_image.proofs.SettledLabels.{latest-spared}
 use Rattle.zst_image.proofs.commits.commit_dir.Given.{Over}
@@ -73,7 +74,7 @@ returns-in_err-tree-clause-refused g c =
 pub returns-in_err-tree-clause-disk : goal.returns-in_err-tree-clause-disk
 returns-in_err-tree-clause-disk g c =
     let works = c.write_dir.ensures.works in
-    record { size = works.fills.size; failed = search rules; honest = works.fills.honest; same = works.same }
+    record { size = works.fills.size; failed = search rules; told = λ whole. works.told (never_damaged c.write_dir.result); honest = works.fills.honest; same = works.same }
 
 -- what the event was begun with, and what each image inside it reads as
 began : {tight : Bool} (g : Over) (c : After-commit_event g) (next : Pool) → IsHonest c.commit_event.new.io
@@ -157,7 +158,7 @@ pub returns-in-Ok-clause-disk : goal.returns-in-Ok-clause-disk
 returns-in-Ok-clause-disk g c =
     let works = c.write_dir.ensures.works in
     let writes = c.commit_event.ensures.commits.written.writes in
-    record { size = writes.size ∙ works.fills.size; failed = search rules; honest = λ told. works.fills.honest (writes.honest told); same = c.commit_event.ensures.same ∙ works.same }
+    record { size = writes.size ∙ works.fills.size; failed = search rules; told = λ whole. c.commit_event.ensures.counts ∙ works.told (never_damaged c.write_dir.result); honest = λ told. works.fills.honest (writes.honest told); same = c.commit_event.ensures.same ∙ works.same }
 
 pub returns-in-Err-clause-made : goal.returns-in-Err-clause-made
 returns-in-Err-clause-made g c = tt
@@ -178,4 +179,4 @@ pub returns-in-Err-clause-disk : goal.returns-in-Err-clause-disk
 returns-in-Err-clause-disk g c =
     let works = c.write_dir.ensures.works in
     let writes = c.commit_event.ensures.commits.written.writes in
-    record { size = writes.size ∙ works.fills.size; failed = search rules; honest = λ told. works.fills.honest (writes.honest told); same = c.commit_event.ensures.same ∙ works.same }
+    record { size = writes.size ∙ works.fills.size; failed = search rules; told = λ whole. c.commit_event.ensures.counts ∙ works.told (never_damaged c.write_dir.result); honest = λ told. works.fills.honest (writes.honest told); same = c.commit_event.ensures.same ∙ works.same }

@@ -2,7 +2,6 @@ use Rattle.std.specs.Prelude.{Result, Err, None}
 use Rattle.std.proofs.Common.{◌≡◌, ◌+◌, ◌≤◌, length, refl, sym, ap, ◌∙◌, subst, arith}
 use Rattle.zst_tree.specs.Sets.{SetFits}
 use Rattle.zst_block.specs.Blocks.{Has}
-use Rattle.zst_block.specs.IoCalls as blocks
 use Rattle.zst_block.specs.IoStates.{io_of}
 use Rattle.zst_model.specs.declared.refusals.refusal.Refusal.{Refusal}
 use Rattle.zst_model.specs.states.AppliedItems.{◌>>=◌}
@@ -35,12 +34,12 @@ pub set_head-requires : goal.set_head-requires
 set_head-requires g c = well_is c.args.changed (SetFits c.args.set) c.in_ok-judge.ensures.well c.requires.levels
 
 pub returns-in_err-judge-clause-ran : goal.returns-in_err-judge-clause-ran
-returns-in_err-judge-clause-ran g c = λ start failed reference make cost changed.
+returns-in_err-judge-clause-ran g c = λ start failed checksum_errors reference make cost changed.
     let now = g.D.Disk.state c.args.io.now.disk.now in
     let kept = c.args.kept.now in
     let name = c.args.name.now in
     let fault = c.in_err-judge.field-0.0 in
-    runs_fell (λ pool. on_head name pool (make pool)) cost kept (rested (g.D.Disk.state start) failed reference kept) (io_of c.args.io.now) fault (err_is c.from_residual.result fault c.from_residual.ensures.1)
+    runs_fell (λ pool. on_head name pool (make pool)) cost kept (rested (g.D.Disk.state start) failed checksum_errors reference kept) (io_of c.args.io.now) fault (err_is c.from_residual.result fault c.from_residual.ensures.1)
     c.requires.ready c.in_err-judge.ensures.stops (changed.works, changed.exact)
     (λ running told rests.
     let made = changed.made running told rests in
@@ -48,15 +47,15 @@ returns-in_err-judge-clause-ran g c = λ start failed reference make cost change
     (c.in_err-judge.ensures.judged None now.seen c.args.io.now.space c.args.set name running (make running made.0) rests.rests.reads.described.number made.1))
 
 pub returns-in_err-dir-clause-ran : goal.returns-in_err-dir-clause-ran
-returns-in_err-dir-clause-ran g c = λ start failed reference make cost changed.
+returns-in_err-dir-clause-ran g c = λ start failed checksum_errors reference make cost changed.
     let kept = c.args.kept.now in
     let name = c.args.name.now in
     let fell = c.from_residual-in_err-dir in
-    runs_fell (λ pool. on_head name pool (make pool)) cost kept (rested (g.D.Disk.state start) failed reference kept) (io_of c.args.io.now) OutOfMemory (err_is fell.result OutOfMemory fell.ensures.1) c.requires.ready
-    (memory_stops (stop_of c.args.changed) (ap blocks.fails c.in_ok-judge.ensures.went_well)) (changed.works, changed.exact) (λ running told rests. tt)
+    runs_fell (λ pool. on_head name pool (make pool)) cost kept (rested (g.D.Disk.state start) failed checksum_errors reference kept) (io_of c.args.io.now) OutOfMemory (err_is fell.result OutOfMemory fell.ensures.1) c.requires.ready
+    (memory_stops (stop_of c.args.changed) c.in_ok-judge.ensures.went_well) (changed.works, changed.exact) (λ running told rests. tt)
 
 pub returns-clause-ran : goal.returns-clause-ran
-returns-clause-ran g c = λ start failed reference make cost changed.
+returns-clause-ran g c = λ start failed checksum_errors reference make cost changed.
     let from = g.D.Disk.state start in
     let old = g.D.Disk.state c.args.io.now.disk.now in
     let space = c.args.io.now.space in
@@ -69,7 +68,7 @@ returns-clause-ran g c = λ start failed reference make cost changed.
     let long : length (dir_bytes c.set_head.new.self) ≡ length (dir_bytes kept.dir) = c.set_head.ensures.as_long ∙ ap (λ (d : Rows). length (dir_bytes d)) c.in_ok-dir.ensures in
     let grows : length (dir_bytes c.set_head.new.self) ≤ length (dir_bytes kept.dir) + 1024 = omega (arith, long) in
     let dir = c.set_head.ensures.headed ∙ ap (λ (d : Rows). record d { datasets = with_head name set d.datasets }) c.in_ok-dir.ensures in
-    let rest = rested from failed reference kept in
+    let rest = rested from failed checksum_errors reference kept in
     runs_committed (λ pool. on_head name pool (make pool)) cost kept rest (io_of c.args.io.now) (io_of c.commit_dir.new.io) c.set_head.new.self c.commit_dir.result c.of_committed.ensures c.requires.ready
     (subst (Wrote kept cost rest (io_of c.args.io.now)) c.in_ok-judge.ensures.went_well (changed.works, changed.exact))
     (λ tight running told rests.

@@ -23,7 +23,7 @@ returns g c = record {
         let make = λ (pool : Pool). punched pool c.args.object c.args.first c.args.count in
         runs_head (λ pool. on_head c.args.name.now pool (make pool)) (cells_only 2) c.args.kept.now c.args.name.now (range_damage (g.D.Disk.state c.args.io.now.disk.now)) (io_of c.args.io.now) (io_of c.change_holes-changed.new.io) c.in_ok-set.set c.change_holes-changed.result c.commit_head.result
         c.requires.begins.space c.in_ok-set.ensures.there c.change_holes-changed.ensures.damaged c.commit_head.ensures.honest c.commit_head.ensures.refuses.damaged
-        (c.commit_head.ensures.ran c.args.io.now.disk.now c.args.io.now.failed c.args.io.now.disk.ghost_name make (cells_only 2)
+        (c.commit_head.ensures.ran c.args.io.now.disk.now c.args.io.now.failed c.args.io.now.checksum_errors c.args.io.now.disk.ghost_name make (cells_only 2)
         (changed_head c.args.kept.now c.args.name.now make (cells_only 2) (io_of c.args.io.now) (io_of c.change_holes-changed.new.io) c.requires.begins.space c.next_number-number.ensures c.in_ok-set.ensures.finds.judged c.change_holes-changed.ensures.changed
         (0, omega arith, c.change_holes-changed.ensures.works) (λ pool head told holds finds. c.change_holes-changed.ensures.works)));
     plans =

@@ -24,7 +24,7 @@ returns g c = record {
         let make = λ (pool : Pool). put_in pool c.args.object c.args.head c.args.bonus c.args.spill in
         runs_head (λ pool. on_head c.args.name.now pool (make pool)) (object_cost c.args.spill) c.args.kept.now c.args.name.now (slots_damage (g.D.Disk.state c.args.io.now.disk.now)) (io_of c.args.io.now) (io_of c.change_object-changed.new.io) c.in_ok-set.set c.change_object-changed.result c.commit_head.result
         c.requires.begins.space c.in_ok-set.ensures.there c.change_object-changed.ensures.damaged c.commit_head.ensures.honest c.commit_head.ensures.refuses.damaged
-        (c.commit_head.ensures.ran c.args.io.now.disk.now c.args.io.now.failed c.args.io.now.disk.ghost_name make (object_cost c.args.spill)
+        (c.commit_head.ensures.ran c.args.io.now.disk.now c.args.io.now.failed c.args.io.now.checksum_errors c.args.io.now.disk.ghost_name make (object_cost c.args.spill)
         (changed_head c.args.kept.now c.args.name.now make (object_cost c.args.spill) (io_of c.args.io.now) (io_of c.change_object-changed.new.io) c.requires.begins.space c.next_number-number.ensures c.in_ok-set.ensures.finds.judged c.change_object-changed.ensures.changed
         (spill_sectors c.args.spill, omega arith, c.change_object-changed.ensures.works) (λ pool head told holds finds. c.change_object-changed.ensures.works)));
     plans =

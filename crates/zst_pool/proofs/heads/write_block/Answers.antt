@@ -26,7 +26,7 @@ returns g c = record {
         let make = λ (pool : Pool). written pool c.args.object c.args.index c.args.bytes.now in
         runs_head (λ pool. on_head c.args.name.now pool (make pool)) (write_cost c.args.name.now c.args.object) c.args.kept.now c.args.name.now (block_damage (g.D.Disk.state c.args.io.now.disk.now)) (io_of c.args.io.now) (io_of c.change_block-changed.new.io) c.in_ok-set.set c.change_block-changed.result c.commit_head.result
         c.requires.begins.space c.in_ok-set.ensures.there c.change_block-changed.ensures.damaged c.commit_head.ensures.honest c.commit_head.ensures.refuses.damaged
-        (c.commit_head.ensures.ran c.args.io.now.disk.now c.args.io.now.failed c.args.io.now.disk.ghost_name make (write_cost c.args.name.now c.args.object)
+        (c.commit_head.ensures.ran c.args.io.now.disk.now c.args.io.now.failed c.args.io.now.checksum_errors c.args.io.now.disk.ghost_name make (write_cost c.args.name.now c.args.object)
         (changed_head c.args.kept.now c.args.name.now make (write_cost c.args.name.now c.args.object) (io_of c.args.io.now) (io_of c.change_block-changed.new.io) c.requires.begins.space c.next_number-number.ensures c.in_ok-set.ensures.finds.judged c.change_block-changed.ensures.changed
         c.change_block-changed.ensures.works
         (λ pool head told holds finds.

@@ -25,6 +25,7 @@ pieces-init g c = record {
   room = c.requires.room;
   ask = refl;
   later = later_none _;
+  counts = refl;
   input_later = omega arith;
 }
 
@@ -43,6 +44,7 @@ pieces-preserved g c =
       room = e.room ∙ i.room;
       ask = e.leaves.ask ∙ i.ask;
       later = later_then _ _ _ i.later e.later;
+      counts = e.leaves.told refl ∙ i.counts;
       input_later = let first = i.input_later in let next = e.input_later in omega arith;
     }
 
@@ -115,7 +117,7 @@ returns-in-Refused-clause-plans g c = λ rows text gave on.
     (subst (λ (a : RecvAsk). SaysOfPlan rows a (front ++ e.turns.piece) (Err c.in-Refused.refusal)) i.ask turn)
 
 pub returns-in-Received-clause-why : goal.returns-in-Received-clause-why
-returns-in-Received-clause-why g c = record { refused = tt; damaged = λ sector stated found honest is. absurd (cc is) }
+returns-in-Received-clause-why g c = record { refused = tt; told = λ whole. c.in-Received.ensures.leaves.told refl ∙ c.pieces.invariant.counts; damaged = λ sector stated found honest is. absurd (cc is) }
 
 pub returns-in-Over-clause-why : goal.returns-in-Over-clause-why
 returns-in-Over-clause-why g c =
@@ -127,6 +129,7 @@ returns-in-Over-clause-why g c =
       refused =
           cut_refused (g.D.Disk.state c.args.pool.now.io.disk.now) (g.D.Disk.state c.cut.new.pool.io.disk.now) start now c.in-Over.end count c.cut.result is
           (rose_behind start (g.S.Source.state c.pieces.input) now c.in-Over.end c.pieces.invariant.input_later c.in-Over.ensures.turns.input_is);
+      told = λ whole. ap (λ (io : _). io.checksum_errors) c.cut.ensures.io ∙ c.in-Over.ensures.leaves.told refl ∙ c.pieces.invariant.counts;
       damaged = λ sector stated found honest same. absurd (cut_undamaged c.in-Over.end count sector stated found (sym is ∙ err_refused c.cut.result _ same));
     }
 
@@ -138,6 +141,7 @@ returns-in-Refused-clause-why g c =
     let kept = c.pieces.pool.kept in
     record {
       refused = inl (refused_earlier _ old _ c.in-Refused.refusal i.later.faults e.leaves.ends);
+      told = λ whole. e.leaves.told whole ∙ i.counts;
       damaged = λ sector stated found honest is.
           damaged_behind (g.D.Disk.state c.args.pool.now.io.disk.now) old c.args.pool.now.kept.body kept c.args.recv.ask.target sector stated found i.blocks
           (subst (λ (a : RecvAsk). IsDamagedFeed old (free_by kept.body) kept.dir a.target sector stated found) i.ask

@@ -24,6 +24,7 @@ invariant-pieces g l =
       room : length l.room ≡ piece_size;
       ask : ask_of l.recv ≡ ask_of l.fn.recv;
       later : IsLater (io_of l.fn.pool.io) (io_of l.pool.io);
+      counts : l.pool.io.checksum_errors ≡ l.fn.pool.io.checksum_errors;
       input_later : (source.state l.fn.input).faults ≤ (source.state l.input).faults;
     }
 

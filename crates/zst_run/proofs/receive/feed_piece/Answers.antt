@@ -6,10 +6,10 @@ use Rattle.zst_run.proofs.PieceCosts.{grows_behind, short_behind}
 use Rattle.zst_run.proofs.TurnEnds.{turns_on, turns_received, turns_refused, turns_without}
 use Rattle.zst_recv.specs.Faults.{recv_refusal}
 use Rattle.zst_recv.proofs.FeedEnds.{fits_within}
-use Rattle.zst_run.specs.ReceiveTurns.{TurnPlans, turn_behind}
+use Rattle.zst_run.specs.ReceiveTurns.{TurnPlans, is_damaged, turn_behind}
 use Rattle.zst_run.specs.declared.receive.Turn.TheVariants as turns
 use Rattle.zst_model.specs.declared.refusals.refusal.Refusal.TheVariants as refusals
-use Rattle.zst_run.proofs.ReceiveDamage.{damaged_only, never_refused, turn_refused}
+use Rattle.zst_run.proofs.ReceiveDamage.{damage_refused, damaged_only, never_refused, turn_refused}
 use Rattle.zst_run.proofs.LaterDisks.{later_none}
 use Rattle.zst_run.proofs.LiveReceives.{lives_on, lives_without}
 use Rattle.zst_run.proofs.ReceiveLemmas.{feed_refused}
@@ -147,11 +147,12 @@ returns-then-piece-eq0-clause-leaves g c =
       ask = refl;
       fits = can.fits;
       ready = λ works. can.ready;
+      told = λ whole. refl;
     }
 
 pub returns-then-fed-clause-leaves : goal.returns-then-fed-clause-leaves
 returns-then-fed-clause-leaves g c =
-    let e = c.in-Ok.ensures in record { ends = e.receive.received c.if-fed.true; within = e.receive.within; ask = e.receive.ask; fits = e.receive.fits; ready = e.pool.ready }
+    let e = c.in-Ok.ensures in record { ends = e.receive.received c.if-fed.true; within = e.receive.within; ask = e.receive.ask; fits = e.receive.fits; ready = e.pool.ready; told = λ whole. e.pool.told refl }
 
 pub returns-else-fed-clause-leaves : goal.returns-else-fed-clause-leaves
 returns-else-fed-clause-leaves g c =
@@ -168,6 +169,7 @@ returns-else-fed-clause-leaves g c =
       ask = e.receive.ask;
       fits = e.receive.fits;
       ready = e.pool.ready;
+      told = λ whole. e.pool.told refl;
     }
 
 pub returns-in-Err-clause-leaves : goal.returns-in-Err-clause-leaves
@@ -184,6 +186,7 @@ returns-in-Err-clause-leaves g c =
       ask = e.receive.ask;
       fits = e.receive.fits;
       ready = e.pool.ready;
+      told = λ whole. e.pool.told (damage_refused c.in-Err.fault (ap is_damaged (sym c.from.ensures) ∙ whole));
     }
 
 pub returns-then-piece-eq0-clause-later : goal.returns-then-piece-eq0-clause-later

@@ -1,4 +1,4 @@
-use Rattle.std.proofs.Common.{ℕ, ◌∙◌, List, Err, IfErr, sym, subst, []}
+use Rattle.std.proofs.Common.{ℕ, ◌∙◌, List, Err, IfErr, refl, sym, subst, []}
 use Rattle.std.proofs.lemmas.Result.{err_from_is_err_and}
 use Rattle.zst_image.specs.Commits.{Ready}
 use Rattle.zst_image.specs.declared.pool_state.PoolState.{PoolState}
@@ -64,7 +64,7 @@ pub returns-in_default-clause-why : goal.returns-in_default-clause-why
 returns-in_default-clause-why g c =
     let here = g.D.Disk.state c.args.pool.now.io.disk.now in
     let input = g.S.Source.state c.args.input.now in
-    record { refused = without_memory here here input input; damaged = λ sector stated found honest is. absurd (cc is) }
+    record { refused = without_memory here here input input; told = λ whole. refl; damaged = λ sector stated found honest is. absurd (cc is) }
 
 pub returns-in_err-recv-clause-why : goal.returns-in_err-recv-clause-why
 returns-in_err-recv-clause-why g c =
@@ -73,6 +73,7 @@ returns-in_err-recv-clause-why g c =
     let input = g.S.Source.state c.args.input.now in
     record {
       refused = rw (p.1, p.2, known) (without_memory (g.D.Disk.state c.args.pool.now.io.disk.now) (g.D.Disk.state c.open.new.pool.io.disk.now) input input);
+      told = λ whole. c.in_err-recv.ensures.checksum_errors;
       damaged = λ sector stated found honest is. absurd (memory_undamaged sector stated found (rw (p.1, p.2, known) at is));
     }
 
@@ -83,6 +84,7 @@ returns-clause-why g c =
     let new = g.D.Disk.state c.feed_all.new.pool.io.disk.now in
     record {
       refused = subst (λ d. IfErr c.feed_all.result (IsEnd (g.D.Disk.state d) new (g.S.Source.state c.args.input.now) (g.S.Source.state c.feed_all.new.input))) e.disk why.refused;
+      told = λ whole. why.told whole ∙ e.checksum_errors;
       damaged = λ sector stated found honest is.
           let told : IsDamagedReceive (g.D.Disk.state c.open.new.pool.io.disk.now) c.open.new.pool.kept.body c.in_ok-recv.recv.ask.target sector stated found = why.damaged sector stated found honest is in
           rw (e.fresh.ask, e.disk, e.kept) at told;

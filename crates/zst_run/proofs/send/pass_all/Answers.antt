@@ -14,6 +14,7 @@ pieces-init g c = record {
   within = omega arith;
   reads = OnlyReads-none _;
   later = later_none _;
+  counts = refl;
   out_later = omega arith;
 }
 
@@ -29,6 +30,7 @@ pieces-preserved g c =
       within = e.advances.1;
       reads = OnlyReads-then _ _ _ i.reads e.reads;
       later = later_then _ _ _ i.later e.later;
+      counts = e.leaves.told refl ∙ i.counts;
       out_later = let first = i.out_later in let next = e.out_later in omega arith;
     }
 
@@ -41,6 +43,7 @@ returns-in-Some g c =
       why = record {
         refused = refused_earlier _ _ _ _ _ _ _ i.later.faults i.out_later e.why.refused;
         unplanned = e.why.unplanned;
+        told = λ done is. e.why.told done is ∙ i.counts;
         damaged = λ images among told knows.
             rw (i.reads.size, i.set) at (e.why.damaged images (among_on images _ _ i.reads.seen among) told (i.knows images (e.reads.honest told) among knows));
       };

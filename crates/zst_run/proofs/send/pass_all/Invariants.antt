@@ -25,6 +25,7 @@ invariant-pieces g l =
       within : l.count ≤ stream_limit;
       reads : OnlyReads (disk_of l.fn.pool.io) (disk_of l.pool.io);
       later : IsLater (io_of l.fn.pool.io) (io_of l.pool.io);
+      counts : l.pool.io.checksum_errors ≡ l.fn.pool.io.checksum_errors;
       out_later : (sink.state l.fn.out).faults ≤ (sink.state l.out).faults;
     }
 

@@ -1,4 +1,4 @@
-use Rattle.std.proofs.Common.{Bool, ◌||◌, ◌∙◌, Err, false, length, ap}
+use Rattle.std.proofs.Common.{Bool, ◌||◌, ◌∙◌, Err, false, length, ap, refl}
 use Rattle.std.proofs.lemmas.Bool.{ltb-true}
 use Rattle.zst_run.proofs.LaterDisks.{later_looked}
 use Rattle.zst_run.proofs.SendLemmas.{hands_end, passed, piece_ends, take_failed}
@@ -11,12 +11,12 @@ returns-in-Ok-clause-passed g c = λ start sent begun told s.
     c.write_piece.result (λ last. ltb-true c.in-Ok.taken (length c.take.new.into) last) c.write_piece.ensures
 
 pub returns-in-Ok-clause-why : goal.returns-in-Ok-clause-why
-returns-in-Ok-clause-why g c = piece_ends _ _ _ _ _ _ c.args.pool.now c.take.new.pool c.args.send.now c.write_piece.result c.write_piece.ensures
+returns-in-Ok-clause-why g c = piece_ends _ _ _ _ _ _ c.args.pool.now c.take.new.pool c.args.send.now (c.in-Ok.ensures.pool.looks.told refl) c.write_piece.result c.write_piece.ensures
 
 pub returns-in-Ok-clause-leaves : goal.returns-in-Ok-clause-leaves
 returns-in-Ok-clause-leaves g c =
     let e = c.in-Ok.ensures in
-    record { set = ap (λ (subject : _). subject.set) e.subject; knows = e.knows; fits = e.send; works = λ none. e.pool.looks.failed ∙ ap (λ (b : Bool). b || false) c.requires.gives.works }
+    record { set = ap (λ (subject : _). subject.set) e.subject; knows = e.knows; fits = e.send; works = λ none. e.pool.looks.failed ∙ ap (λ (b : Bool). b || false) c.requires.gives.works; told = λ none. e.pool.looks.told refl }
 
 pub returns-in-Ok-clause-reads : goal.returns-in-Ok-clause-reads
 returns-in-Ok-clause-reads g c = c.in-Ok.ensures.pool.looks.reads
@@ -41,7 +41,7 @@ returns-in-Err-clause-why g c =
 
 pub returns-in-Err-clause-leaves : goal.returns-in-Err-clause-leaves
 returns-in-Err-clause-leaves g c =
-    let e = c.in-Err.ensures in record { set = ap (λ (subject : _). subject.set) e.subject; knows = e.knows; fits = e.send; works = λ none. absurd (cc (none)) }
+    let e = c.in-Err.ensures in record { set = ap (λ (subject : _). subject.set) e.subject; knows = e.knows; fits = e.send; works = λ none. absurd (cc (none)); told = λ none. absurd (cc (none)) }
 
 pub returns-in-Err-clause-reads : goal.returns-in-Err-clause-reads
 returns-in-Err-clause-reads g c = c.in-Err.ensures.pool.looks.reads

@@ -1,13 +1,14 @@
-use Rattle.std.proofs.Common.{◌≡◌, ◌∙◌, ℕ, List, [], ◌∷◌, IfErr, ap, arith, rules, subst}
+use Rattle.std.proofs.Common.{◌≡◌, ◌∙◌, ℕ, List, [], ◌∷◌, IfErr, ap, arith, refl, rules, subst}
 use Rattle.std.proofs.lemmas.Result.{err_from_is_err_and}
 use Rattle.zst_block.specs.Blocks.{Has}
+use Rattle.zst_model.specs.declared.refusals.refusal.Refusal.{Refusal}
 use Rattle.zst_model.specs.declared.refusals.refusal.Refusal.TheVariants as refusals
 use Rattle.zst_run.specs.Sends.{IsSendRefusal, OfGiving, SendsBy, TellsOf, start_of, to_send}
 use Rattle.zst_run.specs.SendPieces.{Sending}
 use Rattle.zst_send.specs.Damage.{IsDamagedSend}
 use Rattle.zst_send.specs.KnownPointers.{IsAmong}
 use Rattle.zst_send.specs.Sends.{sent_set}
-use Rattle.std.specs.Prelude.{Contains, Ok}
+use Rattle.std.specs.Prelude.{Contains, Result, Ok, Err, OnOk}
 use Rattle.zst_outside.specs.Images.{OnlyReads}
 use Rattle.zst_run.proofs.LaterDisks.{later_from, later_same, reads_same}
 use Rattle.zst_run.proofs.SendLemmas.{among_one, memory_refused, open_refused, opened_planned, sends_from, set_damage, unopened_because, unopened_by, unopened_damage, unopened_planned, wants_memory}
@@ -117,3 +118,17 @@ returns-clause-later g c = later_from _ _ _ c.in_ok-send.ensures.pool c.pass_all
 pub pass_all-requires : goal.pass_all-requires
 pass_all-requires g c =
     let e = c.in_ok-send.ensures in record { room = first_of (omega arith, search rules); fits = e.answers.fits; works = ap (λ (pool : _). pool.io.failed) e.pool ∙ c.requires.works }
+
+-- one that ended well has met no damaged block
+on_ok : (Is : Type 0) (result : Result (Unit {0}) Refusal) → ((done : Unit {0}) → result ≡ Ok done → Is) → OnOk result Is
+on_ok Is (Ok done) is = is done refl
+on_ok Is (Err refusal) is = tt
+
+pub returns-in_err-send-clause-told : goal.returns-in_err-send-clause-told
+returns-in_err-send-clause-told g c = on_ok _ c.from_residual.result (λ done is. ap (λ (pool : _). pool.io.checksum_errors) c.in_err-send.ensures.pool)
+
+pub returns-in_default-clause-told : goal.returns-in_default-clause-told
+returns-in_default-clause-told g c = tt
+
+pub returns-clause-told : goal.returns-clause-told
+returns-clause-told g c = on_ok _ c.pass_all.result (λ done is. c.pass_all.ensures.why.told done is ∙ ap (λ (pool : _). pool.io.checksum_errors) c.in_ok-send.ensures.pool)

@@ -43,6 +43,7 @@ returns-in-Ok-clause-reopens g c =
       kept = tt;
       same_space = tt;
       failed = c.failed_after-self.ensures ∙ ap (failed_after opened.new.io.failed) c.in-Ok.is;
+      checksum_errors = opened.ensures.checksum_errors;
       reads = opened.ensures.reads.reads;
       cause = record { later = opened.ensures.reads.cause.later; fault = λ is. absurd (cc (is)) };
       same = opened.ensures.same;
@@ -59,6 +60,7 @@ returns-in-Err-clause-reopens g c =
       kept = refl;
       same_space = opened.ensures.space;
       failed = c.failed_after-self.ensures ∙ ap (failed_after opened.new.io.failed) c.in-Err.is ∙ ap (λ (failed : Bool). failed_after failed (Err fault)) opened.ensures.failed;
+      checksum_errors = opened.ensures.checksum_errors;
       reads = opened.ensures.reads.reads;
       cause = record { later = opened.ensures.reads.cause.later; fault = λ is. let disk : fault ≡ DiskFault = cc (is) in opened.ensures.reads.cause.fault (c.in-Err.is ∙ ap (λ (f : OpenFault). Err f) disk) };
       same = opened.ensures.same;

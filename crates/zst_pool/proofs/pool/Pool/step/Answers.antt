@@ -140,6 +140,7 @@ returns-in_err-reply g c =
         works = λ told. commit_next_of here c.new-2.result pool.kept.body free ready;
         ready = λ told. ready;
         failed = or_false pool.io.failed ∙ ap (λ (b : Bool). pool.io.failed || b) (sym (ap is_disk_fault same));
+        told = λ whole. refl;
         cause = record { later = omega arith; fault = λ is. absurd (cc (same, is)) };
         honest = λ told. told;
         same = refl;

@@ -9,7 +9,7 @@ use Rattle.zst_reader.specs.declared.reader.Reader.{Reader}
 use Rattle.zst_record.specs.Heads.{Covered, size_of}
 use Rattle.zst_outside.specs.Images.{DiskState}
 use Rattle.zst_block.specs.Blocks.{FillsFree, Has}
-use Rattle.zst_block.specs.IoCalls.{HasCause, fails}
+use Rattle.zst_block.specs.IoCalls.{HasCause, fails, is_damage}
 use Rattle.zst_image.specs.Commits.{Ready}
 use Rattle.zst_image.specs.Reads.{bound_of, free_by}
 use Rattle.zst_image.specs.declared.pool_state.PoolState.{PoolState}
@@ -38,7 +38,7 @@ use Rattle.zst_recv.specs.declared.stage.Stage as coded
 use Rattle.zst_recv.specs.declared.stage.Stage.TheVariants as stages
 use Rattle.zst_recv.proofs.BatchStages.{untaken}
 use Rattle.zst_recv.proofs.FeedAnswers.{due_some}
-use Rattle.zst_recv.proofs.FedPools.{behind_live, cause_none, cause_put, failed_put, kept_none, leaves_failed, leaves_fed, leaves_refused, receive_over}
+use Rattle.zst_recv.proofs.FedPools.{behind_live, cause_none, cause_put, damage_put, failed_put, kept_none, leaves_failed, leaves_fed, leaves_refused, receive_over}
 use Rattle.zst_recv.proofs.PieceStages.{done_is}
 use Rattle.zst_recv.proofs.CommitLemmas.{put_none, put_stands, same_ok}
 use Rattle.zst_recv.specs.declared.fault.RecvFault.{RecvFault}
@@ -85,7 +85,11 @@ read_fits g c =
 read_failed : (g : Over) (c : After-read g) → c.read.new.io.failed ≡ fails (stop_of c.read.result)
 read_failed g c = c.read.ensures.writes.fills.failed ∙ ap (λ (b : Bool). b || fails (stop_of c.read.result)) (c.renew.ensures.disk.failed ∙ c.if-pool.false)
 
--- and then its count of faults rose
+-- and a block that was found damaged is counted only where it says so
+read_told : (g : Over) (c : After-read g) → is_damage (stop_of c.read.result) ≡ false → c.read.new.io.checksum_errors ≡ c.args.pool.now.io.checksum_errors
+read_told g c whole = c.read.ensures.writes.fills.told whole ∙ c.renew.ensures.disk.checksum_errors
+
+-- where the disk failed its count of faults rose
 read_cause : (g : Over) (c : After-read g) → HasCause (g.D.Disk.state c.args.pool.now.io.disk.now).faults (g.D.Disk.state c.read.new.io.disk.now).faults (stop_of c.read.result)
 read_cause g c =
     subst (λ (n : ℕ). HasCause n (g.D.Disk.state c.read.new.io.disk.now).faults (stop_of c.read.result)) (ap (λ (d : g.row.D.Denot). (g.D.Disk.state d).faults) c.renew.ensures.disk.now) c.read.ensures.writes.fills.cause
@@ -389,7 +393,7 @@ returns-then-piece-started-clause-pool g c =
     let last = c.give_up.ensures.io in
     subst (λ (f : RecvFault). LeavesPool pool gave.new.pool (Err f)) (sym (gave.ensures.fault ∙ c.too_long.ensures))
     (leaves_refused pool gave.new.pool c.if-pool.false fault pool.io last tt (λ need largest is. gave.ensures.body)
-    (λ alive. subst (Ready (g.D.Disk.state pool.io.disk.now)) (sym gave.ensures.body) (c.requires.ready c.if-pool.false)) c.if-pool.false (record { later = omega arith; fault = λ is. absurd (cc is) }) (λ told. told) refl)
+    (λ alive. subst (Ready (g.D.Disk.state pool.io.disk.now)) (sym gave.ensures.body) (c.requires.ready c.if-pool.false)) (λ whole. refl) c.if-pool.false (record { later = omega arith; fault = λ is. absurd (cc is) }) (λ told. told) refl)
 
 pub returns-then-piece-started-clause-receive : goal.returns-then-piece-started-clause-receive
 returns-then-piece-started-clause-receive g c =
@@ -447,7 +451,7 @@ returns-in-Err-2-clause-pool g c =
     let can = can_commit g at in
     subst (λ (f : RecvFault). LeavesPool pool gave.new.pool (Err f)) (sym gave.ensures.fault)
     (leaves_refused pool gave.new.pool c.if-pool.false fault c.read.new.io gave.ensures.io c.in-Err.ensures.writes.known (λ need largest is. gave.ensures.body ∙ ap (λ (k : PoolState). k.body) c.renew.ensures.kept)
-    (λ alive. subst (Ready (g.D.Disk.state c.read.new.io.disk.now)) (sym gave.ensures.body) can.ready) (read_failed g at ∙ ap fails stop)
+    (λ alive. subst (Ready (g.D.Disk.state c.read.new.io.disk.now)) (sym gave.ensures.body) can.ready) (λ whole. read_told g at (ap is_damage stop ∙ whole)) (read_failed g at ∙ ap fails stop)
     (subst (HasCause (g.D.Disk.state pool.io.disk.now).faults (g.D.Disk.state c.read.new.io.disk.now).faults) stop (read_cause g at)) (read_honest g at) (read_same g at))
 
 pub returns-in-Err-2-clause-receive : goal.returns-in-Err-2-clause-receive
@@ -497,7 +501,7 @@ returns-in-Err-put-clause-pool g c =
     let read = read_cause g at in
     subst (λ (f : RecvFault). LeavesPool pool gave.new.pool (Err f)) (sym gave.ensures.fault)
     (leaves_refused pool gave.new.pool c.if-pool.false (faults.Pool fault) put.io gave.ensures.io (known_call fault e.known) (λ need largest is. gave.ensures.body ∙ ap (λ (k : PoolState). k.body) (e.stays ∙ c.renew.ensures.kept))
-    (λ alive. subst (Ready (g.D.Disk.state put.io.disk.now)) (sym gave.ensures.body) (e.ready alive)) (e.failed ∙ failed_put fault)
+    (λ alive. subst (Ready (g.D.Disk.state put.io.disk.now)) (sym gave.ensures.body) (e.ready alive)) (λ whole. e.told (damage_put fault whole) ∙ read_told g at (ap (λ (r : Result (Unit {0}) RecvFault). is_damage (stop_of r)) c.in-Ok.is)) (e.failed ∙ failed_put fault)
     (cause_put fault (g.D.Disk.state pool.io.disk.now).faults (g.D.Disk.state c.read.new.io.disk.now).faults (g.D.Disk.state put.io.disk.now).faults read.later e.cause) (λ told. read_honest g at (e.honest told)) (e.same ∙ read_same g at))
 
 pub returns-in-Err-put-clause-receive : goal.returns-in-Err-put-clause-receive
@@ -545,9 +549,10 @@ returns-in-Err-put-2-clause-pool g c =
     let fault = c.in-Err-put-2.other in
     let e = c.in-Err-put-2.ensures.commits in
     let read = read_cause g at in
+    let none = kept_none c.in-Err.fault (sym c.keeps_before.ensures ∙ c.if-keeps_before.true) in
     subst (λ (f : RecvFault). LeavesPool pool gave.new.pool (Err f)) (sym gave.ensures.fault)
     (leaves_refused pool gave.new.pool c.if-pool.false (faults.Pool fault) put.io gave.ensures.io (known_call fault e.known) (λ need largest is. gave.ensures.body ∙ ap (λ (k : PoolState). k.body) (e.stays ∙ c.renew.ensures.kept))
-    (λ alive. subst (Ready (g.D.Disk.state put.io.disk.now)) (sym gave.ensures.body) (e.ready alive)) (e.failed ∙ failed_put fault)
+    (λ alive. subst (Ready (g.D.Disk.state put.io.disk.now)) (sym gave.ensures.body) (e.ready alive)) (λ whole. e.told (damage_put fault whole) ∙ read_told g at (ap (λ (r : Result (Unit {0}) RecvFault). is_damage (stop_of r)) c.in-Err.is ∙ ap is_damage none)) (e.failed ∙ failed_put fault)
     (cause_put fault (g.D.Disk.state pool.io.disk.now).faults (g.D.Disk.state c.read.new.io.disk.now).faults (g.D.Disk.state put.io.disk.now).faults read.later e.cause) (λ told. read_honest g at (e.honest told)) (e.same ∙ read_same g at))
 
 pub returns-in-Err-put-2-clause-receive : goal.returns-in-Err-put-2-clause-receive
@@ -597,7 +602,7 @@ returns-in-Ok-put-2-clause-pool g c =
     let none = kept_none fault keeps in
     let read = read_cause g at in
     leaves_refused pool put c.if-pool.false fault put.io refl c.in-Err.ensures.writes.known (λ need largest is. absurd (full_keeps_none fault need largest keeps is))
-    e.ready (e.failed ∙ ap fails (sym none))
+    e.ready (λ whole. e.told refl ∙ read_told g at (ap (λ (r : Result (Unit {0}) RecvFault). is_damage (stop_of r)) c.in-Err.is ∙ whole)) (e.failed ∙ ap fails (sym none))
     (subst (HasCause (g.D.Disk.state pool.io.disk.now).faults (g.D.Disk.state put.io.disk.now).faults) (sym none)
     (cause_none (g.D.Disk.state pool.io.disk.now).faults (g.D.Disk.state c.read.new.io.disk.now).faults (g.D.Disk.state put.io.disk.now).faults _ read.later e.cause)) (λ told. read_honest g at (e.honest told)) (e.same ∙ read_same g at)
 
@@ -671,7 +676,7 @@ returns-in-Ok-put-clause-pool g c =
     keeps_behind old two three free c.read.new.io.space (free_by put.kept.body) batch.taken fills
     (λ idle. let same = c.put.ensures.idle idle in (ap (λ (d : g.row.D.Denot). g.D.Disk.state d) same.0, ap (λ (k : PoolState). free_by k.body) (same.1 ∙ c.renew.ensures.kept)))
     (λ taken. (c.in-Ok-put.ensures.free taken (live_partial batch.stage live (λ waits. let both = sym taken ∙ none waits in cc (both)))).1))
-    e.ready e.failed (cause_none old.faults two.faults three.faults _ read.later e.cause) (λ told. read_honest g at (e.honest told)) (e.same ∙ read_same g at)
+    e.ready (e.told refl ∙ read_told g at (ap (λ (r : Result (Unit {0}) RecvFault). is_damage (stop_of r)) c.in-Ok.is)) e.failed (cause_none old.faults two.faults three.faults _ read.later e.cause) (λ told. read_honest g at (e.honest told)) (e.same ∙ read_same g at)
 
 pub returns-in-Ok-put-clause-receive : goal.returns-in-Ok-put-clause-receive
 returns-in-Ok-put-clause-receive g c =
