@@ -1,6 +1,6 @@
 -- What a fault of leaves or of a commit says of the disk.
 use Rattle.std.specs.Prelude.{Result, Ok, Err, false}
-use Rattle.std.proofs.Common.{◌≡◌, inl, inr, ℕ, List, refl, sym, ap, subst}
+use Rattle.std.proofs.Common.{◌≡◌, ◌≢◌, ◌⊎◌, inl, inr, ℕ, List, refl, sym, ap, subst}
 use Rattle.zst_block.specs.IoCalls as blocks
 use Rattle.zst_block.specs.declared.fault.BlockFault.TheVariants as block_faults
 use Rattle.zst_fletcher.specs.WeightSum.{parts_of}
@@ -14,7 +14,7 @@ use Rattle.zst_tree.specs.declared.or_memory.OrMemory.{OrMemory}
 use Rattle.zst_block.specs.declared.fault.BlockFault.{BlockFault}
 use Rattle.zst_tree.specs.declared.or_memory.OrMemory.TheVariants.{Fault, Memory}
 use Rattle.zst_image.specs.Faults.{stop_of_commit}
-use Rattle.zst_image.specs.OpenAnswers.{IsOpenFault, LoadFault, ReadFault, TellsFault}
+use Rattle.zst_image.specs.OpenAnswers.{HasNoDir, IsOpenFault, LoadFault, ReadFault, TellsFault}
 use Rattle.zst_image.specs.declared.open_fault.OpenFault.{OpenFault}
 use Rattle.zst_image.specs.declared.open_fault.OpenFault.TheVariants as opens
 use Rattle.zst_image.specs.declared.commit_fault.CommitFault.{CommitFault}
@@ -46,8 +46,8 @@ pub commit_cause : {T : Type 0} (before now : ℕ) (result : Result T CommitFaul
 commit_cause {T = T} before now result cause = record { later = cause.later; fault = λ is. cause.fault (ap (λ (r : Result T CommitFault). stop_of_commit r) is) }
 
 -- E25 of a directory that isn't of its layout tells its root
-pub tells_root : (disk : DiskState) (uber : Uber) (answer : OpenFault) → answer ≡ opens.Damaged uber.dir_root.sector (parts_of uber.dir_root.sum) (parts_of uber.dir_root.sum) → TellsFault disk uber answer
-tells_root disk uber answer is = subst (TellsFault disk uber) (sym is) (inr (refl, refl, refl))
+pub tells_root : (disk : DiskState) (uber : Uber) (answer : OpenFault) → (uber.free_count ≢ 0) ⊎ HasNoDir disk uber → answer ≡ opens.Damaged uber.dir_root.sector (parts_of uber.dir_root.sum) (parts_of uber.dir_root.sum) → TellsFault disk uber answer
+tells_root disk uber answer why is = subst (TellsFault disk uber) (sym is) (inr (record { why = why; sector_is = refl; stated_is = refl; found_is = refl }))
 
 -- and E25 of its leaves what their read tells
 pub tells_leaves : (T : Type 0) (disk : DiskState) (uber : Uber) (fault : OrMemory BlockFault) (answer : OpenFault) → IsOpenFault fault answer

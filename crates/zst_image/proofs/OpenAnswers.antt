@@ -6,6 +6,7 @@ use Rattle.zst_outside.specs.Images.{DiskState, IsSynced, OnlyReads}
 use Rattle.zst_block.specs.Blocks.{Has}
 use Rattle.zst_block.specs.declared.fault.BlockFault.TheVariants as block_faults
 use Rattle.zst_leaves.specs.Damage.{TellsText}
+use Rattle.zst_leaves.specs.Leaves.{HasLeaves}
 use Rattle.zst_tree.specs.declared.or_memory.OrMemory.{OrMemory}
 use Rattle.zst_block.specs.declared.fault.BlockFault.{BlockFault}
 use Rattle.zst_tree.specs.declared.or_memory.OrMemory.TheVariants.{Fault}
@@ -19,7 +20,7 @@ use Rattle.zst_uber.specs.declared.uber.Uber.{Uber}
 use Rattle.zst_model.specs.pools.Pool.{Pool}
 use Rattle.zst_dir.specs.Rows.{Rows}
 use Rattle.zst_image.specs.Faults.{of_uber}
-use Rattle.zst_image.specs.OpenAnswers.{LoadFault, OpenAnswers, ReadFault, TellsFault, TellsBlock, TellsBody}
+use Rattle.zst_image.specs.OpenAnswers.{HasNoDir, LoadFault, OpenAnswers, ReadFault, TellsFault, TellsBlock, TellsBody}
 use Rattle.zst_image.specs.Reads.{ReadsAs, HasDir, Rests, free_by}
 use Rattle.zst_image.specs.declared.open_fault.OpenFault.{OpenFault}
 use Rattle.zst_image.specs.declared.open_fault.OpenFault.TheVariants.{Damaged, NoPool, BadVersion, DiskFault, OutOfMemory}
@@ -41,13 +42,27 @@ HasDir-same uber body rows image seen same_body same has =
 pub IsBody-latest : (size : ℕ) (uber : Uber) (image : List ℕ) → IsLatest size uber image → IsBody size uber (body_bytes uber)
 IsBody-latest size uber image is = record { spelled = refl; fits = is.fits; in_range = is.in_range }
 
+-- what all leaves of a disk are is what those of an equal one are
+HasNoDir-same : (old new : DiskState) (uber : Uber) → new.seen ≡ old.seen → HasNoDir new uber → HasNoDir old uber
+HasNoDir-same old new uber seen none = record {
+  text = none.text;
+  leaves = subst (λ (image : List ℕ). HasLeaves (Has image (free_by uber)) uber.dir_levels uber.dir_root none.text) seen none.leaves;
+  long = none.long;
+  no_dir = none.no_dir;
+}
+
 -- what is told of the blocks of a disk is told of those of an equal one
 TellsBlock-same : (old new : DiskState) (uber : Uber) (sector : ℕ) (stated found : List ℕ) → new.seen ≡ old.seen → new.size ≡ old.size → TellsBlock new uber sector stated found → TellsBlock old uber sector stated found
 TellsBlock-same old new uber sector stated found seen size tells =
     let fault : Result (Unit {0}) (OrMemory BlockFault) = Err (Fault (block_faults.Damaged sector stated found)) in
     ⊎_elim
     (λ text. inl (subst (λ (n : ℕ). TellsText uber.end old.seen n uber.dir_levels uber.dir_root uber.dir_bytes fault) size (subst (λ (l : List ℕ). TellsText uber.end l new.size uber.dir_levels uber.dir_root uber.dir_bytes fault) seen text)))
-    (λ root. inr root) tells
+    (λ root. inr (record {
+      why = ⊎_elim (λ extents. inl extents) (λ none. inr (HasNoDir-same old new uber seen none)) root.why;
+      sector_is = root.sector_is;
+      stated_is = root.stated_is;
+      found_is = root.found_is;
+    })) tells
 
 pub TellsFault-reads : (old new : DiskState) (uber : Uber) (fault : OpenFault) → OnlyReads old new → TellsFault new uber fault → TellsFault old uber fault
 TellsFault-reads old new uber (Damaged sector stated found) reads tells = TellsBlock-same old new uber sector stated found reads.seen reads.size tells

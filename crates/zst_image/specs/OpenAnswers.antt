@@ -1,5 +1,5 @@
 -- What opening a pool answers, and where.
-use Rattle.std.specs.Prelude.{◌≡◌, ◌≢◌, ◌⊎◌, ℕ, List, Some, None, Result, Ok, Err}
+use Rattle.std.specs.Prelude.{◌≡◌, ◌≢◌, ◌⊎◌, ℕ, List, length, Some, None, Result, Ok, Err}
 use Rattle.zst_outside.specs.Images.{DiskState}
 use Rattle.zst_bytes.specs.Bytes.{bytes_at, number_at}
 use Rattle.zst_fletcher.specs.WeightSum.{parts_of, weight_sum}
@@ -11,7 +11,9 @@ use Rattle.zst_uber.specs.Slots.{body_sector, latest, latest_slot}
 use Rattle.zst_uber.specs.declared.TheConstants.{VERSION}
 use Rattle.zst_uber.specs.declared.uber.Uber.{Uber}
 use Rattle.zst_dir.specs.Rows.{Rows}
+use Rattle.zst_dir.specs.Spelling.{IsDir}
 use Rattle.zst_leaves.specs.Damage.{TellsText}
+use Rattle.zst_leaves.specs.Leaves.{HasLeaves}
 use Rattle.zst_tree.specs.declared.or_memory.OrMemory.{OrMemory}
 use Rattle.zst_block.specs.declared.fault.BlockFault.{BlockFault}
 use Rattle.zst_tree.specs.declared.or_memory.OrMemory.TheVariants.{Fault, Memory}
@@ -68,11 +70,25 @@ pub record TellsBody (disk : DiskState) (sector : ℕ) (stated found : List ℕ)
   pub stated_is : stated ≡ parts_of (sum_at body 480)
   pub found_is : found ≡ parts_of (weight_sum (bytes_at body 0 480))
 
--- a block of the directory is told as the read of its leaves tells it, or, where these are a text, the root with both sums alike
+-- every block below the directory's root is there, with the sum that its pointer states, and the text of the leaves, as long as the body says, is of no directory
+pub record HasNoDir (disk : DiskState) (uber : Uber) : Type 0 where
+  pub text : List ℕ
+  pub leaves : HasLeaves (Has disk.seen (free_by uber)) uber.dir_levels uber.dir_root text
+  pub long : length text ≡ uber.dir_bytes
+  pub no_dir : (rows : Rows) → ¬ IsDir rows text
+
+-- the directory's root is told with both sums alike: the body names free extents, which no pool has as long as no sector is freed, or all leaves were read and aren't a directory
+pub record TellsDirRoot (disk : DiskState) (uber : Uber) (sector : ℕ) (stated found : List ℕ) : Type 0 where
+  pub why : (uber.free_count ≢ 0) ⊎ HasNoDir disk uber
+  pub sector_is : sector ≡ uber.dir_root.sector
+  pub stated_is : stated ≡ parts_of uber.dir_root.sum
+  pub found_is : found ≡ stated
+
+-- a block of the directory is told as the read of its leaves tells it, or the root where that read isn't what fails
 abbrev pub TellsBlock : DiskState → Uber → ℕ → List ℕ → List ℕ → Type 0
 TellsBlock disk uber sector stated found =
     TellsText {T = Unit {0}} uber.end disk.seen disk.size uber.dir_levels uber.dir_root uber.dir_bytes (Err (Fault (blocks.Damaged sector stated found)))
-    ⊎ ((sector ≡ uber.dir_root.sector) × (stated ≡ parts_of uber.dir_root.sum) × (found ≡ stated))
+    ⊎ TellsDirRoot disk uber sector stated found
 
 -- E25 of the directory: the latest body is of the layout, but no directory of the layout is there by it
 pub record TellsDir (disk : DiskState) (sector : ℕ) (stated found : List ℕ) : Type 0 where

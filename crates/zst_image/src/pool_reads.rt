@@ -28,8 +28,9 @@ impl PoolState {
     /// writes nothing. The session of a partial state that isn't kept has ended, so its row is left
     /// out.
     ///
-    /// A directory that isn't of its layout, or that doesn't stand where blocks may, is damaged,
-    /// with both sums alike.
+    /// A block of the directory with other sums than its pointer states is damaged, by its own numbers.
+    /// A directory that isn't of its layout, or that doesn't stand where blocks may, is damaged with
+    /// both sums alike.
     pub fn open<D: Disk>(alloc: Global, disk: &mut D) -> Result<PoolState, OpenFault>
         // An image that reads as a pool is opened as it, unless the disk or the memory fails.
         ensures there { (tight : Bool) (uber : Uber) (rows : Rows) (pool : Pool) → (D.state disk.new).honest → ReadsAs tight uber rows pool (D.state disk.old).seen → GivesPool uber rows result }

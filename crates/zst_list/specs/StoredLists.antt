@@ -7,11 +7,11 @@ use Rattle.zst_block.specs.declared.ptr.Ptr.{Ptr}
 use Rattle.zst_model.specs.fields.Lists.{Runs, IsRunList}
 use Rattle.zst_tree.specs.Indices.{Blocks, IsNoDamage}
 use Rattle.zst_leaves.specs.Damage.{TellsText}
-use Rattle.zst_leaves.specs.Leaves.{HasLeaves}
+use Rattle.zst_leaves.specs.Leaves.{BlocksBefore, HasLeaves}
 use Rattle.zst_tree.specs.Faults.{GivesOrTells, IfFault}
 use Rattle.zst_tree.specs.declared.or_memory.OrMemory.{OrMemory}
 use Rattle.zst_tree.specs.declared.or_memory.OrMemory.TheVariants.{Fault}
-use Rattle.zst_list.specs.Spelling.{list_bytes}
+use Rattle.zst_list.specs.Spelling.{IsList, list_bytes}
 
 -- how many bytes a list of so many runs has
 abbrev pub list_length : ℕ → ℕ
@@ -27,13 +27,20 @@ pub record HasList (has : Blocks) (levels : ℕ) (root : Ptr) (count : ℕ) (run
 abbrev pub GivesList : Runs → {T : Type 0} → (T → Runs) → Result T (OrMemory BlockFault) → Type 0
 GivesList runs read result = GivesOrTells (λ value. read value ≡ runs) IsNoDamage result
 
--- the damage of a root below which stands no list: both sums are told alike
+-- every block below the root is there, with the sum that its pointer states, and the text of the leaves, as long as one of so many runs, is the text of none
+pub record HasNoList (has : Blocks) (levels : ℕ) (root : Ptr) (count : ℕ) : Type 0 where
+  pub text : List ℕ
+  pub leaves : HasLeaves has levels root text
+  pub long : length text ≡ list_length count
+  pub no_list : (runs : Runs) → ¬ IsList count runs text
+
+-- the root is told as damaged, with both sums alike
 abbrev pub TellsRoot : Ptr → BlockFault → Type 0
 TellsRoot root (Damaged sector stated found) = (sector ≡ root.sector) × (stated ≡ parts_of root.sum) × (found ≡ stated)
 TellsRoot root (Full need largest) = ⊥
 TellsRoot root DiskFault = ⊥
 
--- a refusal tells a block of the list as the read of its leaves tells it, or, where these are a text, its root
+-- a refusal tells a block of the list as the read of its leaves tells it, or, only where these all were read and are the text of no list, its root
 abbrev pub TellsList : {T : Type 0} → ℕ → List ℕ → ℕ → ℕ → Ptr → ℕ → Result T (OrMemory BlockFault) → Type 0
 TellsList end image size levels root count result =
-    IfFault result (λ fault. TellsText {T = Unit {0}} end image size levels root (list_length count) (Err (Fault fault)) ⊎ TellsRoot root fault)
+    IfFault result (λ fault. TellsText {T = Unit {0}} end image size levels root (list_length count) (Err (Fault fault)) ⊎ (HasNoList (BlocksBefore end image) levels root count × TellsRoot root fault))

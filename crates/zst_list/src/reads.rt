@@ -38,7 +38,8 @@ fn no_list(root: &Ptr) -> OrMemory<BlockFault>
 
 /// Reads a list of so many runs from the leaves below the root of a tree. One of none stands nowhere.
 ///
-/// What isn't the text of a list there is damaged, with both sums alike.
+/// A block with other sums than its pointer states is damaged, by its own numbers. Where each block
+/// below the root was read, and their text is of no list, the root is, with both sums alike.
 pub fn read_list<D: Disk>(
     io: &mut Io<'_, D>,
     alloc: Global,
@@ -50,7 +51,8 @@ pub fn read_list<D: Disk>(
     ensures there { (runs : Runs) → IsHonest io.new → HasList (blocks_of io.old) levels root count runs → GivesList runs (λ list. list) result }
     ensures stands { IsHonest io.new → io.old.space.free ≡ [] → IfOk result (λ list. HasList (blocks_of io.old) levels root count list) }
 
-    // What is damaged is a block to which the root leads, or what stands there is the text of no list.
+    // What is damaged is a block to which the root leads. The root itself is told with both sums alike only where it
+    // can't be one of such a text, or where all leaves below it were read and are the text of no list.
     ensures damaged { IsHonest io.new → TellsList io.old.space.end (disk_of io.old).seen (disk_of io.old).size levels root count result }
 
     // It only reads.

@@ -70,7 +70,7 @@ GivesList name (Some bookmark) result = GivesListed (list_by bookmark.redact boo
 abbrev pub StandsBelow : Blocks → Bookmark → Option Runs → Type 0
 StandsBelow has row list = IfSome list (λ runs. HasList has row.levels row.root row.runs runs)
 
--- E25 tells a block to which the row's root leads, or the root, as the read of a list does
+-- E25 tells a block to which the row's root leads, or, where all leaves were read and are no list, the root, as the read of a list does
 abbrev pub TellsRow : ℕ → List ℕ → ℕ → Bookmark → PoolFault → Type 0
 TellsRow end image size row fault =
     (sector : ℕ) (stated found : List ℕ) → fault ≡ faults.Damaged sector stated found

@@ -1,5 +1,5 @@
 use Rattle.std.specs.Prelude.{Some}
-use Rattle.std.proofs.Common.{◌≡◌, sym, ◌∙◌, subst, arith, rules}
+use Rattle.std.proofs.Common.{◌≡◌, inl, inr, sym, ◌∙◌, subst, arith, rules}
 use Rattle.std.proofs.lemmas.Option.{MatchOption-at_some}
 use Rattle.zst_dir.specs.Rows.{Rows}
 use Rattle.zst_dir.specs.Spelling.{IsDir}
@@ -26,10 +26,20 @@ returns-in-Some-clause-only g c = λ told.
     (omega arith, DirStands-bytes _ body.dir_levels body.dir_root body.dir_bytes _ _ (subst (IsDir _) c.deref.ensures.value is) c.in_ok-bytes.ensures.length (c.in_ok-bytes.ensures.only told))
 
 pub returns-then-body-ne0-clause-damaged : goal.returns-then-body-ne0-clause-damaged
-returns-then-body-ne0-clause-damaged g c = λ told. tells_root (g.D.Disk.state c.args.disk.now) c.args.body.now c.of_layout.result c.of_layout.ensures
+returns-then-body-ne0-clause-damaged g c = λ told.
+    tells_root (g.D.Disk.state c.args.disk.now) c.args.body.now c.of_layout.result (inl (λ none. omega (arith, none))) c.of_layout.ensures
 
 pub returns-clause-damaged : goal.returns-clause-damaged
-returns-clause-damaged g c = λ told. tells_root (g.D.Disk.state c.args.disk.now) c.args.body.now c.of_layout-in-None.result c.of_layout-in-None.ensures
+returns-clause-damaged g c = λ told.
+    let read = c.in_ok-bytes.ensures in
+    tells_root (g.D.Disk.state c.args.disk.now) c.args.body.now c.of_layout-in-None.result (inr (record {
+      text = _;
+      leaves = read.only told;
+      long = read.length;
+      no_dir = λ rows is.
+          let found : c.in_ok-dir.field-0 ≡ Some rows = c.in_ok-dir.ensures.found rows (subst (IsDir rows) (sym c.deref.ensures.value) is) in
+          absurd (cc (found, c.in-None.is));
+    })) c.of_layout-in-None.ensures
 
 pub returns-then-body-ne0-clause-there : goal.returns-then-body-ne0-clause-there
 returns-then-body-ne0-clause-there g c = search rules

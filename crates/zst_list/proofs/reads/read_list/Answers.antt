@@ -4,7 +4,7 @@ use Rattle.std.proofs.Common.{◌≡◌, ℕ, length, sym, ap, ◌∙◌, arith}
 use Rattle.zst_list.specs.Spelling.{list_bytes}
 use Rattle.zst_list.specs.StoredLists.{list_length}
 use Rattle.zst_list.proofs.Sizes.{length-list}
-use Rattle.zst_list.proofs.ReadRefusals.{few_runs, leaves_told, none_told, root_told}
+use Rattle.zst_list.proofs.ReadRefusals.{few_runs, leaves_told, long_told, none_found, none_told, root_told}
 use Rattle.zst_list.proofs.reads.read_list.Goals as goal
 
 pub returns-then-count-gt-MOST_RUNS-clause-there : goal.returns-then-count-gt-MOST_RUNS-clause-there
@@ -12,7 +12,7 @@ returns-then-count-gt-MOST_RUNS-clause-there g c = λ runs honest is.
     absurd (omega (arith, is.count_is, few_runs _ c.args.levels c.args.root runs (is.leaves (omega arith)), c.if-count-gt-MOST_RUNS.true))
 
 pub returns-then-count-gt-MOST_RUNS-clause-damaged : goal.returns-then-count-gt-MOST_RUNS-clause-damaged
-returns-then-count-gt-MOST_RUNS-clause-damaged g c = λ honest. root_told _ _ _ c.args.levels c.args.root c.args.count c.no_list.result c.no_list.ensures
+returns-then-count-gt-MOST_RUNS-clause-damaged g c = λ honest. long_told _ _ _ c.args.levels c.args.root c.args.count c.no_list.result c.if-count-gt-MOST_RUNS.true c.no_list.ensures
 
 pub returns-in_err-bytes-clause-there : goal.returns-in_err-bytes-clause-there
 returns-in_err-bytes-clause-there g c = λ runs honest is.
@@ -38,4 +38,7 @@ returns-clause-there g c = λ runs honest is.
     absurd (cc (found, c.in-None.is))
 
 pub returns-clause-damaged : goal.returns-clause-damaged
-returns-clause-damaged g c = λ honest. root_told _ _ _ c.args.levels c.args.root c.args.count c.no_list-in-None.result c.no_list-in-None.ensures
+returns-clause-damaged g c = λ honest.
+    let read = c.in_ok-bytes.ensures in
+    root_told _ _ _ c.args.levels c.args.root c.args.count _ _ c.no_list-in-None.result (read.only honest) read.long c.length_of.ensures
+    (none_found c.args.count _ _ c.in_ok-list.field-0 c.deref.ensures.value c.in-None.is c.in_ok-list.ensures.found) c.no_list-in-None.ensures
