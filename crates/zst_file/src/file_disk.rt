@@ -6,11 +6,11 @@ ghost use Rattle.zst_file.specs.FileHistory.{is_usable};
 use crate::host::Host;
 use crate::start::Start;
 use std::fs::File;
-use std::io::{self, Seek, SeekFrom};
+use std::io;
 use std::marker::PhantomData;
 use zst_outside::{Disk, Fault};
 
-/// A file as a disk of the bytes that it had when it was opened.
+/// A file as a disk of so many bytes, as it had when it was opened.
 #[derive(Drop)]
 pub struct FileDisk<S: Start> {
     host: Host,
@@ -23,24 +23,24 @@ pub struct FileDisk<S: Start> {
 }
 
 impl<S: Start> FileDisk<S> {
-    ghost use Rattle.std.specs.Prelude.{◌≡◌, [], IfOk};
+    ghost use Rattle.std.specs.Prelude.{◌≡◌, []};
     ghost use Rattle.zst_file.specs.FileDisk.{history_of, state_of};
 
-    /// The disk of an open file, or of a block device. `_start` stands for what it holds.
-    pub fn new(mut file: File, _start: S) -> io::Result<FileDisk<S>>
-        ensures fresh { IfOk result (λ disk. history_of disk ≡ []) }
-        ensures calls { IfOk result (λ disk. (state_of S.Start disk).calls ≡ 0) }
-        ensures faults { IfOk result (λ disk. (state_of S.Start disk).faults ≡ 0) }
+    /// The disk of an open file, or of a block device, that has so many bytes (`length_of`). `_start` stands for what it holds.
+    pub fn new(file: File, bytes: u64, _start: S) -> FileDisk<S>
+        ensures fresh { history_of result ≡ [] }
+        ensures size { (state_of S.Start result).size ≡ bytes }
+        ensures calls { (state_of S.Start result).calls ≡ 0 }
+        ensures faults { (state_of S.Start result).faults ≡ 0 }
     {
-        let bytes = file.seek(SeekFrom::End(0))?;
-        Ok(FileDisk {
+        FileDisk {
             host: Host::new(file),
             start: PhantomData,
             bytes,
             calls: 0,
             faults: 0,
             usable: true,
-        })
+        }
     }
 }
 

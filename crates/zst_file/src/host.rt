@@ -1,11 +1,16 @@
-//! Each method makes one call of the system, and then notes it with its answer.
+//! The calls of the system. Each method makes one, and then notes it with its answer.
 ghost use Rattle.std.specs.Prelude.{◌≡◌, ◌∷◌, [], is_ok};
 ghost use Rattle.zst_file.specs.Event.{read, wrote, synced};
 
 use crate::record::Record;
 use std::fs::File;
-use std::io;
+use std::io::{self, Seek, SeekFrom};
 use std::os::unix::fs::FileExt;
+
+/// How many bytes a file has, or a block device: where its end is.
+pub fn length_of(file: &mut File) -> io::Result<u64> {
+    file.seek(SeekFrom::End(0))
+}
 
 /// An open file and the calls on it.
 #[derive(Drop)]

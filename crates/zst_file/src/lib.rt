@@ -16,8 +16,8 @@
 //! a writer tells its bytes, as one in memory does, it is proved that an `Input` drops none of them,
 //! and that an `Output` loses and repeats none, also at a fault.
 //!
-//! No proof shows that each method of `Host` makes the call that it notes, that the system does what
-//! it answers, that a call of a reader or a writer that failed took no byte, that a crash leaves one
+//! No proof shows that each method of `Host` makes the call that it notes, that `length_of` gives the
+//! length of a file (of a disk of another length the clauses on content say nothing), that the system does what it answers, that a call of a reader or a writer that failed took no byte, that a crash leaves one
 //! of the images, or that nobody else writes the file.
 #![tactic(auto)]
 
@@ -30,6 +30,7 @@ mod record;
 mod start;
 
 pub use file_disk::FileDisk;
+pub use host::length_of;
 pub use input::Input;
 pub use output::Output;
 pub use start::{Start, UnknownStart};

@@ -13,7 +13,9 @@ use Rattle.zst_dir.specs.Rows.{Rows, IsLawful}
 use Rattle.zst_image.specs.declared.commit_fault.CommitFault.{CommitFault}
 use Rattle.zst_image.specs.declared.commit_fault.CommitFault.TheVariants as commits
 use Rattle.zst_pool.specs.Calls.{IsAtRest, IsUnderWay}
+use Rattle.zst_tree.specs.Indices.{Blocks}
 use Rattle.zst_pool.specs.Checks.{next_of}
+use Rattle.zst_pool.specs.Cost.{MakesNamed}
 use Rattle.zst_pool.specs.Faults.{StepFault, of_committed}
 use Rattle.zst_pool.specs.RowChanges.{MakesRows}
 use Rattle.zst_image.specs.Reads.{Reads}
@@ -23,6 +25,7 @@ use Rattle.zst_pool.specs.CommandRuns.{Did}
 use Rattle.zst_pool.specs.declared.fault.PoolFault.{PoolFault}
 use Rattle.zst_pool.specs.declared.fault.PoolFault.TheVariants.{Plan, CannotApply, Redacted, Full, Damaged, DiskFault, Failed, OutOfMemory}
 use Rattle.zst_image.specs.declared.pool_state.PoolState.{PoolState}
+use Rattle.zst_pool.proofs.NamedPools.{rows_named}
 use Rattle.zst_pool.proofs.PoolsAtRest.{kept_is_next, next_lawful, rests_next, rests_on, rests_unless, since, way_runs}
 
 -- where the pool still stands, it does after each fault
@@ -57,6 +60,16 @@ module _ (start now : DiskState) (kept : PoolState) (rows : Rows) (running : Poo
   did (Err (commits.Full need largest)) event after before = record { moments = moments_of (Err (commits.Full need largest)) event; answer = ((done, is), before (λ disk. cc)) }
   did (Err commits.DiskFault) event after before = record { moments = moments_of (Err commits.DiskFault) event; answer = tt }
   did (Err commits.OutOfMemory) event after before = record { moments = moments_of (Err commits.OutOfMemory) event; answer = before (λ disk. cc) }
+
+-- the rows that a definition makes name the pool that it makes
+pub names_next : {tight : Bool} (has : Blocks) (definition : Result Stepped Refusal) (running : Pool) (guids : ℕ) (rows : Rows) → MakesRows tight has definition running guids rows → MakesNamed definition rows
+names_next has definition running guids rows makes =
+    let named = rows_named has rows makes.next makes.runs_by in
+    record {
+      done = next_of makes.next;
+      made = makes.made;
+      named = record { datasets = named.datasets; snapshots = named.snapshots; bookmarks = named.bookmarks; partials = named.partials };
+    }
 
 -- a command that came to the commit of the rows that its definition makes
 pub did_rows : {tight : Bool} (start : DiskState) (old new : IoState) (kept : PoolState) (running : Pool) (definition : Result Stepped Refusal) (guids : ℕ) (dir : Rows) (made : Result PoolState CommitFault)

@@ -1,14 +1,14 @@
 -- What a command does, from what its parts do.
 use Rattle.std.specs.Prelude.{Option, None, Result, Ok, Err, IfErr, IfOk, OnErr}
-use Rattle.std.proofs.Common.{◌≡◌, ℕ, ◌+◌, ◌≤◌, ◌^◌, Bool, false, ◌||◌, List, length, refl, sym, ap, ◌∙◌, subst, arith}
+use Rattle.std.proofs.Common.{◌≡◌, inl, inr, ℕ, ◌+◌, ◌≤◌, ◌^◌, Bool, false, ◌||◌, List, length, refl, sym, ap, ◌∙◌, subst, arith}
 use Rattle.std.proofs.lemmas.Result.{IfOk-weaker}
 use Rattle.zst_outside.specs.Causes.{Rose-earlier}
 use Rattle.zst_space.specs.FreeSectors.{FreeSectors}
-use Rattle.zst_block.specs.Blocks.{Has, FillsFree, SparesTaken}
+use Rattle.zst_block.specs.Blocks.{Has, FillsFree, KeepsBlocks, SparesTaken}
 use Rattle.zst_block.specs.IoCalls as blocks
 use Rattle.zst_block.specs.IoStates.{IoState}
 use Rattle.zst_block.specs.declared.fault.BlockFault.{BlockFault}
-use Rattle.zst_block.proofs.BlocksLaws.{FillsFree-then}
+use Rattle.zst_block.proofs.BlocksLaws.{FillsFree-then, KeepsBlocks-fills}
 use Rattle.zst_block.proofs.IoCallLemmas.{Looks-none, Works-looks}
 use Rattle.zst_model.specs.declared.refusals.refusal.Refusal.{Refusal}
 use Rattle.zst_model.specs.states.DatedState.{DatedState}
@@ -26,7 +26,7 @@ use Rattle.zst_objset.specs.declared.fault.ObjFault.TheVariants as set_faults
 use Rattle.zst_model.specs.declared.refusals.plan_fault.PlanFault.{PlanFault}
 use Rattle.zst_model.specs.refusals.Refusal.{refusal_of}
 use Rattle.zst_pool.specs.Calls.{IsAtRest}
-use Rattle.zst_pool.specs.Cost.{Cost, HasNoRoom, Spends}
+use Rattle.zst_pool.specs.Cost.{Cost, FindsLess, HasNoRoom, MakesNamed, Spends}
 use Rattle.zst_pool.specs.Damage.{HasHead, IsOf, OfHead}
 use Rattle.zst_tree.specs.declared.or_memory.OrMemory.TheVariants.{Fault}
 use Rattle.zst_pool.proofs.HeadAnswers.{memory_stops, plan_stops}
@@ -73,6 +73,10 @@ module _ (definition : Pool → Result Stepped Refusal) (cost : Cost) (kept : Po
         open_still = λ is. stops.open_still (cc);
         spends = (one.0, one.1, spends_fell kept cost.cells one.0 fault stops works);
         exact = λ running told rests. spends_fell kept cost.cells (cost.block running) fault stops (wrote.1 running told rests);
+        short = λ running told rests need largest same.
+            let worked = wrote.1 running told rests in
+            let full = worked.full need largest (stops.full need largest same) in
+            inl (omega (arith, full.before));
         spares = λ apart. works.fills.seen;
         commits = record {
           ready = tt;
@@ -86,6 +90,7 @@ module _ (definition : Pool → Result Stepped Refusal) (cost : Cost) (kept : Po
           };
           cause = record { later = works.cause.later; fault = λ is. works.cause.fault (stops.disk (cc)) };
         };
+        blocks = tt;
       } in
       subst (Ran definition cost kept old new) (sym same) fell_so
 
@@ -93,10 +98,10 @@ module _ (definition : Pool → Result Stepped Refusal) (cost : Cost) (kept : Po
   pub runs_committed : (old mid new : IoState) (dir : Rows) (made : Result PoolState CommitFault) {answer : Result PoolState PoolFault} → answer ≡ of_committed made
       → Ready mid.disk kept.body → Wrote kept cost old mid None
       → ((tight : Bool) (running : Pool) → new.disk.honest → IsAtRest tight old.disk kept running → Did tight old.disk new.disk kept running (definition running) (of_committed made))
-      → length (dir_bytes dir) ≤ length (dir_bytes kept.dir) + 1024
+      → length (dir_bytes dir) ≤ length (dir_bytes kept.dir) + 1024 → ((running : Pool) → new.disk.honest → IsAtRest false old.disk kept running → MakesNamed (definition running) dir)
       → IfOk made (CommittedDir kept.body dir mid new) → TakesForDir dir mid.space new.space made → RefusedDir kept.body mid new made → KeepsDisk (blocks.fails (stop_of_commit made)) false mid new
       → HasDiskCause commits.DiskFault mid.disk.faults new.disk.faults made → Ran definition cost kept old new answer
-  runs_committed old mid new dir made is old_ready wrote did grows done takes refused keeps cause =
+  runs_committed old mid new dir made is old_ready wrote did grows makes done takes refused keeps cause =
       let one = wrote.0 in
       let works = one.2 in
       let answer = of_committed made in
@@ -106,6 +111,7 @@ module _ (definition : Pool → Result Stepped Refusal) (cost : Cost) (kept : Po
         open_still = committed_open made;
         spends = (one.0, one.1, spends made done takes refused one.0 works);
         exact = λ running told rests. spends made done takes refused (cost.block running) (wrote.1 running (keeps.honest told) rests);
+        short = λ running told rests. finds_less made takes running (makes running told rests) (wrote.1 running (keeps.honest told) rests);
         spares = λ apart. spares made works.fills refused apart;
         commits = record {
           ready = committed_ok (λ next. Ready new.disk next.body) made (IfOk-weaker made (CommittedDir kept.body dir mid new) (λ next. Ready new.disk next.body) (λ next is. is.ready) done);
@@ -119,9 +125,16 @@ module _ (definition : Pool → Result Stepped Refusal) (cost : Cost) (kept : Po
           };
           cause = record { later = omega (arith, works.cause.later, disk.later); fault = λ is. Rose-earlier old.disk.faults mid.disk.faults new.disk.faults works.cause.later (disk.fault is) };
         };
+        blocks =
+            committed_ok Stand made
+            (IfOk-weaker made (CommittedDir kept.body dir mid new) Stand (λ next is ptr bytes has. is.blocks ptr bytes (KeepsBlocks-fills old.disk mid.disk (free_by kept.body) mid.space works.fills ptr bytes has)) done);
       } in
       subst (Ran definition cost kept old new) (sym is) runs
     where
+      -- the blocks that were there before the command are there by this body
+      abbrev Stand : PoolState → Type 0
+      Stand next = KeepsBlocks old.disk.seen (free_by kept.body) new.disk.seen (free_by next.body)
+
       spends : (r : Result PoolState CommitFault) → IfOk r (CommittedDir kept.body dir mid new) → TakesForDir dir mid.space new.space r → RefusedDir kept.body mid new r
           → (block : ℕ) → Works cost.cells block (rested old.disk old.failed old.checksum_errors old.reference kept) mid None → Spends cost.cells block kept new.space as_kept (of_committed r)
       spends (Ok next) done takes refused block works =
@@ -138,6 +151,14 @@ module _ (definition : Pool → Result Stepped Refusal) (cost : Cost) (kept : Po
           }
       spends (Err commits.DiskFault) done takes refused block works = record { full = λ n l same. absurd (cc); grows = tt }
       spends (Err commits.OutOfMemory) done takes refused block works = record { full = λ n l same. absurd (cc); grows = tt }
+
+      finds_less : (r : Result PoolState CommitFault) → TakesForDir dir mid.space new.space r → (running : Pool) → MakesNamed (definition running) dir
+          → Works cost.cells (cost.block running) (rested old.disk old.failed old.reference kept) mid None → IfErr (of_committed r) (FindsLess cost.cells (cost.block running) kept.body (definition running))
+      finds_less (Ok next) takes running named works = tt
+      finds_less (Err (commits.Full need largest)) takes running named works = λ n l same.
+          let told = takes.full need largest refl in inr (dir, named, omega (arith, told.before, works.takes.longest))
+      finds_less (Err commits.DiskFault) takes running named works = λ n l same. absurd (cc)
+      finds_less (Err commits.OutOfMemory) takes running named works = λ n l same. absurd (cc)
 
       spares : (r : Result PoolState CommitFault) → FillsFree old.disk (free_by kept.body) mid.disk mid.space → RefusedDir kept.body mid new r → ¬ (of_committed r ≡ Err DiskFault)
           → OnErr (of_committed r) (SparesTaken (free_by kept.body) old.disk.seen new.disk.seen)

@@ -100,7 +100,7 @@ module _ (made : Result PoolState CommitFault) (answer : Result PoolState PoolFa
   -- and what is kept then follows by the directory that was committed
   pub answers_follows : (kept : PoolState) (dir : Rows) (old new : IoState) → kept.body.number < 2 ^ 63 → IfOk made (CommittedDir kept.body dir old new) → IfOk answer (FollowsBy old.space kept dir)
   answers_follows kept dir old new below done = answers_ok (FollowsBy old.space kept dir)
-      (IfOk-weaker made (CommittedDir kept.body dir old new) (FollowsBy old.space kept dir) (λ next is. record { rows = is.dir; below = below; sectors = is.ends.1; ends = is.bounded }) done)
+      (IfOk-weaker made (CommittedDir kept.body dir old new) (FollowsBy old.space kept dir) (λ next is. record { rows = is.dir; number = is.number; below = below; sectors = is.ends.1; ends = is.bounded }) done)
 
 pub disk_told : false ≡ true → ⊥
 disk_told same = cc
@@ -122,5 +122,5 @@ pub call_grows : (space : FreeSectors) (kept : PoolState) (dir : Rows) (answer :
 call_grows space kept dir (Ok next) longer follows =
     let same = ap (λ (rows : Rows). length (dir_bytes rows)) follows.rows in
     let more = dir-more (length (dir_bytes dir)) (length (dir_bytes kept.dir) + 2048) longer in
-    record { directory = omega (arith, same, longer); sectors = follows.sectors; end = λ none. omega (arith, follows.ends none, more) }
+    record { number = follows.number; directory = omega (arith, same, longer); sectors = follows.sectors; end = λ none. omega (arith, follows.ends none, more) }
 call_grows space kept dir (Err fault) longer follows = tt

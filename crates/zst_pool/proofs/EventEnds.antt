@@ -188,8 +188,10 @@ module _ {D : Type 0} {g : Ghosts D} where
         open_still = λ works. absurd (cc (failed, works));
         spends = λ works. absurd (cc (failed, works));
         exact = λ running told works. absurd (cc (failed, works));
+        short = λ running told works. absurd (cc (failed, works));
         spares = λ apart. spares_read here here pool.kept (OnlyReads-none here);
         damaged = λ told sector stated found is. absurd (cc (is));
+        blocks = λ apart ptr bytes has. has;
       }
 
   -- a call that found nothing out of a pool did nothing, and no disk failed it

@@ -1,5 +1,5 @@
 -- A command that only answers leaves a pool as it was.
-use Rattle.std.specs.Prelude.{Some, Result, Ok, Err, OnErr}
+use Rattle.std.specs.Prelude.{Some, Result, Ok, Err, IfErr, OnErr}
 use Rattle.std.proofs.Common.{◌≡◌, inl, ℕ, List, refl, ap, arith, Bool}
 use Rattle.zst_outside.specs.Images.{DiskState, Leaves, Leaves-weaker, OnlyReads}
 use Rattle.zst_space.specs.FreeSectors.{FreeSectors}
@@ -15,7 +15,8 @@ use Rattle.zst_image.specs.Commits.{Ready}
 use Rattle.zst_image.specs.Reads.{Reads, free_by}
 use Rattle.zst_image.specs.declared.pool_state.PoolState.{PoolState}
 use Rattle.zst_pool.specs.Calls.{IsAtRest, IsUnderWay}
-use Rattle.zst_pool.specs.Cost.{Spends}
+use Rattle.zst_uber.specs.declared.uber.Uber.{Uber}
+use Rattle.zst_pool.specs.Cost.{FindsLess, Spends}
 use Rattle.zst_pool.specs.Faults.{HasDiskCause, is_disk_fault}
 use Rattle.zst_pool.specs.StepAnswers.{BeforeOrAfter, StepAnswer}
 use Rattle.zst_pool.specs.Queries.{TellsAnswer, stop_of}
@@ -60,6 +61,12 @@ pub spends_none : (cells block : ℕ) (kept : PoolState) (left : FreeSectors) (r
     → Spends cells block kept left (λ reply. kept) result
 spends_none cells block kept left (Ok reply) never = record { full = tt; grows = record { sectors = refl; end = omega arith } }
 spends_none cells block kept left (Err fault) never = record { full = λ need largest is. absurd (never need largest (ap (λ (f : PoolFault). stop_of {T = List (List ℕ)} (Err f)) is)); grows = tt }
+
+-- and finds room for all that it takes
+pub finds_none : (cells block : ℕ) (uber : Uber) (definition : Result Stepped Refusal) (result : Result (List (List ℕ)) PoolFault) → ((need largest : ℕ) → ¬ (stop_of result ≡ Some (blocks.Full need largest)))
+    → IfErr result (FindsLess cells block uber definition)
+finds_none cells block uber definition (Ok reply) never = tt
+finds_none cells block uber definition (Err fault) never = λ need largest is. absurd (never need largest (ap (λ (f : PoolFault). stop_of {T = List (List ℕ)} (Err f)) is))
 
 -- it stops at a fault of the disk where it answers one
 pub fails_told : (result : Result (List (List ℕ)) PoolFault) → fails (stop_of result) ≡ is_disk_fault result

@@ -1,8 +1,11 @@
 -- What a step spends and spares, from what its run did.
 use Rattle.std.specs.Prelude.{◌||◌, Bool, true, false, Result, Ok, Err, OnErr}
 use Rattle.std.proofs.lemmas.Bool.{or_parts}
-use Rattle.std.proofs.Common.{◌≡◌, ℕ, sym, ap, ◌∙◌, subst}
+use Rattle.std.proofs.Common.{◌≡◌, ℕ, List, sym, ap, ◌∙◌, subst}
 use Rattle.zst_space.specs.FreeSectors.{FreeSectors}
+use Rattle.zst_block.specs.Blocks.{Has, KeepsBlocks, SparesTaken}
+use Rattle.zst_block.proofs.BlocksLaws.{Has-spared}
+use Rattle.zst_image.specs.Reads.{free_by}
 use Rattle.zst_pool.specs.Cost.{FindsNoRoom, HasNoRoom, Spends}
 use Rattle.zst_pool.specs.Faults.{is_full, tells_full}
 use Rattle.zst_pool.specs.CommandRuns.{as_kept}
@@ -33,6 +36,16 @@ module _ {T : Type 0} (cells block : ℕ) (kept : PoolState) (left : FreeSectors
 pub spares_err : {T : Type 0} (P : Type 0) (fault : PoolFault) (r : Result T PoolFault) → r ≡ Err fault → (¬ (◌≡◌ {A = Result PoolState PoolFault} (Err fault) (Err DiskFault)) → P) → ¬ (r ≡ Err DiskFault) → OnErr r P
 spares_err {T = T} P fault r same spares apart =
     subst (λ (x : Result T PoolFault). OnErr x P) (sym same) (spares (λ is. let disk : fault ≡ DiskFault = cc in apart (same ∙ ap (λ (f : PoolFault). Err f) disk)))
+
+-- free sectors alone were written, and what is kept stays: so do the blocks that were there
+pub blocks_spared : (old new : List ℕ) (kept after : PoolState) → after ≡ kept → SparesTaken (free_by kept.body) old new → KeepsBlocks old (free_by kept.body) new (free_by after.body)
+blocks_spared old new kept after same spares = λ ptr bytes has. subst (λ (k : PoolState). Has new (free_by k.body) ptr bytes) (sym same) (Has-spared (free_by kept.body) old new ptr bytes spares has)
+
+-- so it is where a step fell with this fault, unless the disk failed
+pub blocks_err : {T : Type 0} (old new : List ℕ) (kept after : PoolState) (fault : PoolFault) (r : Result T PoolFault) → r ≡ Err fault → after ≡ kept
+    → (¬ (◌≡◌ {A = Result PoolState PoolFault} (Err fault) (Err DiskFault)) → SparesTaken (free_by kept.body) old new) → ¬ (r ≡ Err DiskFault) → KeepsBlocks old (free_by kept.body) new (free_by after.body)
+blocks_err old new kept after fault r same stays spares apart =
+    blocks_spared old new kept after stays (spares (λ is. let disk : fault ≡ DiskFault = cc in apart (same ∙ ap (λ (f : PoolFault). Err f) disk)))
 
 -- a run whose fault isn't a full disk is none
 pub free_again : {T U : Type 0} (fault : PoolFault) (failed : Bool) (r : Result T PoolFault) (run : Result U PoolFault) → r ≡ Err fault → Err fault ≡ run → (failed || is_full r) ≡ false → is_full run ≡ false

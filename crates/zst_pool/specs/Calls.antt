@@ -88,8 +88,9 @@ pub record IsCallFull (space left : FreeSectors) (rows : Rows) (need largest : �
   pub is_longest : largest ≡ largest_of left
   pub before : largest_of space < dir_sectors (length (dir_bytes rows) + 2048)
 
--- what a call of a receive committed over these free sectors: the directory has at most 2,048 bytes more; the body has as many sectors, and where all that is free stands behind the end, it ends no later than such a directory may
+-- what a call of a receive committed over these free sectors: the number is one more, and the directory has at most 2,048 bytes more; the body has as many sectors, and where all that is free stands behind the end, it ends no later than such a directory may
 pub record CallGrows (space : FreeSectors) (before after : PoolState) : Type 0 where
+  pub number : after.body.number ≡ before.body.number + 1
   pub directory : length (dir_bytes after.dir) ≤ length (dir_bytes before.dir) + 2048
   pub sectors : after.body.sectors ≡ before.body.sectors
   pub end : space.free ≡ [] → after.body.end ≤ space.end + dir_sectors (length (dir_bytes before.dir) + 2048)

@@ -1,13 +1,13 @@
 -- What running a command does.
-use Rattle.std.specs.Prelude.{◌≡◌, ◌≤◌, ℕ, Bool, false, Result, Ok, Err, OnErr, IfErr}
+use Rattle.std.specs.Prelude.{◌≡◌, ◌≤◌, ℕ, Bool, false, Result, Ok, Err, OnErr, IfErr, IfOk}
 use Rattle.zst_outside.specs.Images.{DiskState, Leaves}
-use Rattle.zst_block.specs.Blocks.{SparesTaken}
+use Rattle.zst_block.specs.Blocks.{KeepsBlocks, SparesTaken}
 use Rattle.zst_block.specs.IoStates.{IoState}
 use Rattle.zst_model.specs.declared.refusals.refusal.Refusal.{Refusal}
 use Rattle.zst_model.specs.pools.Pool.{Pool}
 use Rattle.zst_model.specs.pools.Step.{Stepped}
 use Rattle.zst_objset.specs.Damage.{DamageFact}
-use Rattle.zst_pool.specs.Cost.{Cost, Spends}
+use Rattle.zst_pool.specs.Cost.{Cost, FindsLess, Spends}
 use Rattle.zst_pool.specs.Damage.{IsOf}
 use Rattle.zst_pool.specs.Faults.{StepFault}
 use Rattle.zst_image.specs.Commits.{Ready}
@@ -41,9 +41,13 @@ pub record Ran (definition : Pool → Result Stepped Refusal) (cost : Cost) (kep
   -- it takes no more than the cost at most, and no more than the cost in the pool
   pub spends : (block : ℕ) × (block ≤ cost.most) × Spends cost.cells block kept new.space as_kept result
   pub exact : (running : Pool) → new.disk.honest → IsAtRest false old.disk kept running → Spends cost.cells (cost.block running) kept new.space as_kept result
+  -- and where it finds no room there, fewer sectors were free than it takes with the directory that it would leave
+  pub short : (running : Pool) → new.disk.honest → IsAtRest false old.disk kept running → IfErr result (FindsLess cost.cells (cost.block running) kept.body (definition running))
   -- where it is refused, unless the disk failed, free sectors alone were written
   pub spares : ¬ (result ≡ Err DiskFault) → OnErr result (SparesTaken (free_by kept.body) old.disk.seen new.disk.seen)
   pub commits : EndsCommit kept old new result
+  -- where it commits, the blocks that were there still are, over the sectors that the new body leaves free
+  pub blocks : IfOk result (λ next. KeepsBlocks old.disk.seen (free_by kept.body) new.disk.seen (free_by next.body))
 
 -- and which damage it told
 pub record Runs (definition : Pool → Result Stepped Refusal) (cost : Cost) (damage : DamageFact) (kept : PoolState) (old new : IoState) (result : Result PoolState PoolFault) : Type 0 where

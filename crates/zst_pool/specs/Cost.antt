@@ -1,5 +1,5 @@
 -- What a command costs of the free sectors, and where it finds no room.
-use Rattle.std.specs.Prelude.{◌≡◌, ◌⊎◌, ◌+◌, ◌*◌, ◌-◌, ◌/◌, ◌<◌, ◌≤◌, ℕ, List, length, Option, Some, None, Result, IfErr, IfOk}
+use Rattle.std.specs.Prelude.{◌≡◌, ◌⊎◌, ◌+◌, ◌*◌, ◌-◌, ◌/◌, ◌<◌, ◌≤◌, ℕ, List, length, Option, Some, None, Result, Ok, IfErr, IfOk}
 use Rattle.zst_space.specs.FreeSectors.{FreeSectors, largest_of}
 use Rattle.zst_uber.specs.declared.uber.Uber.{Uber}
 use Rattle.zst_model.specs.declared.pools.command.Command.{Command}
@@ -7,6 +7,9 @@ use Rattle.zst_model.specs.declared.pools.command.Command.TheVariants as command
 use Rattle.zst_model.specs.states.DatedState.{size_at}
 use Rattle.zst_model.specs.pools.Pool.{Pool, dataset_named}
 use Rattle.zst_model.specs.pools.Pool as plain
+use Rattle.zst_model.specs.pools.Step.{Stepped}
+use Rattle.zst_model.specs.declared.refusals.refusal.Refusal.{Refusal}
+use Rattle.zst_dir.specs.RowNames.{AreNamed}
 use Rattle.zst_dir.specs.Rows.{Rows}
 use Rattle.zst_dir.specs.Spelling.{dir_bytes}
 use Rattle.zst_block.specs.IoCalls.{TakesAtMost}
@@ -80,6 +83,22 @@ pub record HasNoRoom (cells block : ℕ) (uber : Uber) (rows : Rows) (left : Fre
 -- E24 comes only so
 abbrev pub FindsNoRoom : ℕ → ℕ → PoolState → FreeSectors → PoolFault → Type 0
 FindsNoRoom cells block kept left fault = (need largest : ℕ) → fault ≡ Full need largest → HasNoRoom cells block kept.body kept.dir left need largest
+
+-- these rows name the pool that a definition makes
+pub record MakesNamed (definition : Result Stepped Refusal) (rows : Rows) : Type 0 where
+  pub done : Stepped
+  pub made : definition ≡ Ok done
+  pub named : AreNamed rows done.pool
+
+-- fewer sectors are free by a body than an event takes: those for its cells and its data alone, or with them those of a directory of rows that name the pool that the definition makes
+abbrev pub CostsMore : ℕ → ℕ → Uber → Result Stepped Refusal → Type 0
+CostsMore cells block uber definition =
+    (uber.sectors - uber.end < block + 640 * cells)
+    ⊎ ((rows : Rows) × MakesNamed definition rows × (uber.sectors - uber.end < block + 640 * cells + dir_sectors (length (dir_bytes rows))))
+
+-- E24 comes only so
+abbrev pub FindsLess : ℕ → ℕ → Uber → Result Stepped Refusal → PoolFault → Type 0
+FindsLess cells block uber definition fault = (need largest : ℕ) → fault ≡ Full need largest → CostsMore cells block uber definition
 
 -- a body of as many sectors, in which so many more are taken at most
 pub record Grows (most : ℕ) (before after : Uber) : Type 0 where

@@ -18,7 +18,7 @@ use Rattle.zst_image.specs.Commits.{KeepsDisk, Ready}
 use Rattle.zst_image.specs.Reads.{PartialIs, bound_of, dir_sectors, free_by}
 use Rattle.zst_image.specs.declared.pool_state.PoolState.{PoolState}
 use Rattle.zst_pool.specs.Calls.{CallDid, CallGrows, CanCommit, IsAtRest, IsCallFault, IsCallFull, IsUnderWay, keeping}
-use Rattle.zst_pool.specs.Cost.{Spends, cost_of}
+use Rattle.zst_pool.specs.Cost.{FindsLess, Spends, cost_of}
 use Rattle.zst_pool.specs.Damage.{IsOf, TellsDamage}
 use Rattle.zst_pool.specs.Faults.{HasDiskCause, is_disk_fault, is_full}
 use Rattle.zst_pool.specs.Queries.{stop_of}
@@ -35,9 +35,10 @@ pub record EndsCommit (kept : PoolState) (old new : IoState) (result : Result Po
   pub disk : KeepsDisk (is_disk_fault result) (is_damage (stop_of result)) old new
   pub cause : HasDiskCause old.disk.faults new.disk.faults result
 
--- what is kept once this directory was committed over these free sectors: it has its rows, and where all that is free stands behind the end, it ends no later than the directory's sectors reach
+-- what is kept once this directory was committed over these free sectors: its number is one more, it has its rows, and where all that is free stands behind the end, it ends no later than the directory's sectors reach
 pub record FollowsBy (space : FreeSectors) (kept : PoolState) (dir : Rows) (next : PoolState) : Type 0 where
   pub rows : next.dir ≡ dir
+  pub number : next.body.number ≡ kept.body.number + 1
   -- the last number is committed only once
   pub below : kept.body.number < 2 ^ 63
   pub sectors : next.body.sectors ≡ kept.body.sectors
@@ -127,10 +128,15 @@ module _ {D : Type 0} {g : Ghosts D} where
     -- where a pool was at rest, no more is taken than the command costs there
     pub exact : (running : Plain) → IsHonest new.io → old.io.failed ≡ false → IsAtRest false (disk_of old.io) old.kept running
         → Spends (cost_of command).cells ((cost_of command).block running) old.kept new.io.space (λ reply. new.kept) result
+    -- and E24 comes there only where fewer sectors were free than it takes with the directory that it would leave
+    pub short : (running : Plain) → IsHonest new.io → old.io.failed ≡ false → IsAtRest false (disk_of old.io) old.kept running
+        → IfErr result (FindsLess (cost_of command).cells ((cost_of command).block running) old.kept.body (stepped [] now command running))
     -- what is refused wrote free sectors alone, unless the disk failed
     pub spares : ¬ (result ≡ Err DiskFault) → OnErr result (SparesTaken (free_by old.kept.body) (disk_of old.io).seen (disk_of new.io).seen)
     -- E25 tells a damage of the object set of the command's dataset, also where the image reads as no pool
     pub damaged : IsHonest new.io → IfErr result (IsOf (TellsDamage command old.kept.dir (disk_of old.io) (free_by old.kept.body)))
+    -- unless the disk failed, the blocks that were there still are, over the sectors that the latest body then leaves free
+    pub blocks : ¬ (result ≡ Err DiskFault) → KeepsBlocks (disk_of old.io).seen (free_by old.kept.body) (disk_of new.io).seen (free_by new.kept.body)
 
   -- a call that only answers reads the disk, and leaves what is kept
   pub record OnlyAnswers (old new : Pool D g) : Type 0 where

@@ -102,9 +102,10 @@ module _ {D : Type 0} {g : Ghosts D} where
   leaves_failed pool failed = record {
     failed_pool = λ is. refl;
     idle_disk = λ is. refl;
+    idle_kept = λ is. refl;
     known = λ alive. absurd (let both : true ≡ false = sym failed ∙ alive in cc both);
     open_still = λ alive is. let both : true ≡ false = sym failed ∙ alive in cc both;
-    stays = λ need largest is. refl;
+    stays = λ fault is keeps. refl;
     blocks = λ goes. absurd (cc goes);
     ready = λ alive. absurd (let both : true ≡ false = sym failed ∙ alive in cc both);
     failed = failed ∙ ap (λ (b : Bool). b || false) (sym failed);
@@ -116,15 +117,16 @@ module _ {D : Type 0} {g : Ghosts D} where
 
   module _ (old new : Pool D g) (alive : old.io.failed ≡ false) where
     -- a piece was refused, and the disk is as it was then
-    pub leaves_refused : (fault : RecvFault) (io : Io D g) → new.io ≡ io → IsFeedFault fault → ((need largest : ℕ) → fault ≡ faults.Pool (pools.Full need largest) → new.kept.body ≡ old.kept.body)
+    pub leaves_refused : (fault : RecvFault) (io : Io D g) → new.io ≡ io → IsFeedFault fault → (keeps_before fault ≡ false → new.kept.body ≡ old.kept.body)
         → (io.failed ≡ false → Ready (disk_of io) new.kept.body) → (is_damage (stop_at fault) ≡ false → io.checksum_errors ≡ old.io.checksum_errors) → io.failed ≡ fails (stop_at fault) → HasCause (disk_of old.io).faults (disk_of io).faults (stop_at fault)
         → (IsHonest io → IsHonest old.io) → io.disk.ghost_name ≡ old.io.disk.ghost_name → LeavesPool old new (answer fault)
     leaves_refused fault io is known stays ready counts failed cause honest same = record {
       failed_pool = λ fell. absurd (let both : true ≡ false = sym fell ∙ alive in cc both);
       idle_disk = λ fell. absurd (let both : true ≡ false = sym fell ∙ alive in cc both);
+      idle_kept = λ fell. absurd (let both : true ≡ false = sym fell ∙ alive in cc both);
       known = λ open_pool. known;
       open_still = λ open_pool told. still_open (answer fault) known told;
-      stays = λ need largest told. stays need largest (told_fault fault (faults.Pool (pools.Full need largest)) told);
+      stays = λ other told keeps. stays (ap keeps_before (told_fault fault other told) ∙ keeps);
       blocks = λ goes. absurd (cc goes);
       ready = λ still. subst (λ (i : Io D g). Ready (disk_of i) new.kept.body) (sym is) (ready (sym (ap (λ (i : Io D g). i.failed) is) ∙ still));
       failed = ap (λ (i : Io D g). i.failed) is ∙ failed ∙ ap (λ (b : Bool). b || fails (stop_at fault)) (sym alive);
@@ -144,9 +146,10 @@ module _ {D : Type 0} {g : Ghosts D} where
     leaves_fed told blocks ready counts failed cause honest same = record {
       failed_pool = λ fell. absurd (let both : true ≡ false = sym fell ∙ alive in cc both);
       idle_disk = λ fell. absurd (let both : true ≡ false = sym fell ∙ alive in cc both);
+      idle_kept = λ fell. absurd (let both : true ≡ false = sym fell ∙ alive in cc both);
       known = λ open_pool. tt;
       open_still = λ open_pool is. cc is;
-      stays = λ need largest is. absurd (cc is);
+      stays = λ fault is keeps. absurd (cc is);
       blocks = λ goes. blocks (not_done told.done goes);
       ready = ready;
       failed = failed ∙ ap (λ (b : Bool). b || false) (sym alive);
@@ -171,6 +174,7 @@ receive_over rows piece old new fault ask over fits = record {
   fed = λ goes. absurd (cc goes);
   within = fits_within rows new fits;
   received = tt;
+  of_target = tt;
   waited = λ waits. absurd (over_waits (stage_of new) over waits);
 }
 

@@ -1,6 +1,7 @@
 -- What a feed answers at each of its ends.
 use Rattle.std.proofs.Common.{◌≡◌, ◌⊎◌, inl, inr, ℕ, ◌+◌, ◌-◌, ◌^◌, ◌<◌, ◌≤◌, ◌++◌, min, arith, ◌&&◌, Bool, true, false, cond, List, length, Option, Some, None, Ok, Err, refl, sym, ap, ◌∙◌, subst}
-use Rattle.std.specs.Prelude.{IsSome, not, sum_by, IfErr, Result}
+use Rattle.std.specs.Prelude.{IsSome, not, sum_by, IfErr, IfSome, Result}
+use Rattle.zst_uber.specs.declared.uber.Uber.{Uber}
 use Rattle.std.proofs.lemmas.List.{length-drop}
 use Rattle.zst_outside.specs.Images.{DiskState, Leaves-none}
 use Rattle.zst_space.specs.FreeSectors.{FreeSectors}
@@ -30,7 +31,7 @@ use Rattle.zst_recv.specs.Faults.{IsFeedFault, keeps_before, recv_refusal}
 use Rattle.zst_recv.specs.Feeds.{fed_piece, new_records}
 use Rattle.zst_recv.specs.ReceiveSteps.{Stage, Waits, Lives, Ends, Batch, at_stage, is_kept, left_by, pool_of, put}
 use Rattle.zst_recv.specs.Commits.{Puts}
-use Rattle.zst_recv.specs.Stages.{HasRead, IsStage, IsBatch, LivesOn, RecvFits, StageFits, StandsBehind, WaitsAtBegin, fed_of, has_partial, is_live, keeps_partial, point_in, received_at, stage_behind, waits_at}
+use Rattle.zst_recv.specs.Stages.{HasRead, IsStage, IsBatch, LivesOn, RecvFits, StageFits, StandsBehind, WaitsAtBegin, fed_of, has_partial, is_live, kept_without, keeps_partial, point_in, received_at, stage_behind, waits_at}
 use Rattle.zst_recv.specs.TakenRecords.{ReadFault, TakesAll, fault_in, taken_of}
 use Rattle.zst_recv.specs.declared.batch.Batch as batches
 use Rattle.zst_recv.specs.declared.fault.RecvFault.{RecvFault}
@@ -61,6 +62,21 @@ module _ (old one : DiskState) (kept same : PoolState) (space : FreeSectors) (di
       (subst (λ (d : DiskState). IsStage (bound_of tight number) (Has d.seen space) code stage) (sym disk) (subst (λ (s : FreeSectors). IsStage (bound_of tight number) (Has old.seen s) code stage) (sym free) is))
 
 -- ---- what is left
+
+abbrev state_of : Uber → Rows → PoolState
+state_of body rows = record { body = body; dir = rows }
+
+-- what is kept of a pool whose rows alone changed
+pub dropped_is : (target : List ℕ) (before after : PoolState) → after.dir ≡ (kept_without true target before).dir → after.body ≡ before.body → after ≡ kept_without true target before
+dropped_is target before after rows body = ap (λ (b : Uber). state_of b after.dir) body ∙ ap (state_of before.body) rows
+
+-- a receive that is over has no partial state under way
+pub over_leaves : (code : coded.Stage) (target : List ℕ) (kept : PoolState) → is_live code ≡ false → kept ≡ kept_without (has_partial code) target kept
+over_leaves stages.Waits target kept over = refl
+over_leaves (stages.Lives flags row) target kept over = absurd (cc over)
+over_leaves (stages.Ends row) target kept over = refl
+over_leaves (stages.Done received) target kept over = refl
+over_leaves stages.Over target kept over = refl
 
 pub left_rests : {tight : Bool} (bound : Option ℕ) (has : Blocks) (rows : Rows) (target : List ℕ) (code : coded.Stage) (stage : Stage) (running : Pool) (now : DiskState) (after : PoolState) (held : Bool) → held ≡ has_partial code
     → IsStage bound has code stage → LivesOn rows target code → IsAtRest tight now after (cond held (without_unkept target running) running) → IsAtRest tight now after (left_by stage running)
@@ -161,6 +177,14 @@ received_then rows target (stages.Lives flags row) fits over = absurd cc
 received_then rows target (stages.Ends row) fits over = refl
 received_then rows target (stages.Done received) fits over = absurd fits
 received_then rows target stages.Over fits over = absurd fits
+
+-- which is the target's
+pub received_for : (rows : Rows) (target : List ℕ) (code : coded.Stage) → StageFits rows target code → IfSome (received_at (stage_behind code)) (λ made. made.target ≡ target)
+received_for rows target stages.Waits fits = tt
+received_for rows target (stages.Lives flags row) fits = tt
+received_for rows target (stages.Ends row) fits = fits.of_target
+received_for rows target (stages.Done received) fits = absurd fits
+received_for rows target stages.Over fits = absurd fits
 
 -- where it still waits nothing was taken
 pub waits_behind : (code : coded.Stage) → waits_at (stage_behind code) ≡ true → waits_at code ≡ true

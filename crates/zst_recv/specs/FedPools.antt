@@ -1,5 +1,5 @@
 -- What a feed leaves of its pool, whatever the image is.
-use Rattle.std.specs.Prelude.{◌≡◌, ◌||◌, ℕ, true, false, Result, Err, IfErr}
+use Rattle.std.specs.Prelude.{◌≡◌, ◌||◌, true, false, Result, Err, IfErr}
 use Rattle.zst_outside.specs.declared.disk.Disk.{Ghosts}
 use Rattle.zst_block.specs.Blocks.{KeepsBlocks}
 use Rattle.zst_block.specs.IoCalls.{HasCause, fails, is_damage}
@@ -9,7 +9,7 @@ use Rattle.zst_image.specs.Reads.{free_by}
 use Rattle.zst_pool.specs.declared.fault.PoolFault.TheVariants as pools
 use Rattle.zst_pool.specs.declared.pool.Pool.{Pool}
 use Rattle.zst_recv.specs.Answers.{goes_on}
-use Rattle.zst_recv.specs.Faults.{IsFeedFault, stop_of}
+use Rattle.zst_recv.specs.Faults.{IsFeedFault, keeps_before, stop_of}
 use Rattle.zst_recv.specs.declared.fault.RecvFault.{RecvFault}
 use Rattle.zst_recv.specs.declared.fault.RecvFault.TheVariants as faults
 use Rattle.zst_recv.specs.declared.recv.FeedReport as coded
@@ -20,11 +20,12 @@ module _ {D : Type 0} {g : Ghosts D} where
     -- a pool that has failed answers nothing else, and does nothing
     pub failed_pool : old.io.failed ≡ true → result ≡ Err (faults.Pool pools.Failed)
     pub idle_disk : old.io.failed ≡ true → new.io.disk.now ≡ old.io.disk.now
+    pub idle_kept : old.io.failed ≡ true → new.kept ≡ old.kept
     -- there is no other refusal, and only a pool that has failed answers so
     pub known : old.io.failed ≡ false → IfErr result IsFeedFault
     pub open_still : old.io.failed ≡ false → ¬ (result ≡ Err (faults.Pool pools.Failed))
-    -- after E24 the body is as it was
-    pub stays : (need largest : ℕ) → result ≡ Err (faults.Pool (pools.Full need largest)) → new.kept.body ≡ old.kept.body
+    -- a refusal that keeps no records before it commits nothing: the body is as it was
+    pub stays : (fault : RecvFault) → result ≡ Err fault → keeps_before fault ≡ false → new.kept.body ≡ old.kept.body
     -- where the receive goes on, the blocks that were there still are, over the sectors that the latest body leaves free
     pub blocks : goes_on result ≡ true → KeepsBlocks (disk_of old.io).seen (free_by old.kept.body) (disk_of new.io).seen (free_by new.kept.body)
     pub ready : new.io.failed ≡ false → Ready (disk_of new.io) new.kept.body

@@ -1,5 +1,5 @@
 -- What a receive is once it was opened, and what a feed leaves of it.
-use Rattle.std.specs.Prelude.{◌≡◌, ◌+◌, ◌≤◌, ℕ, true, List, [], length, Option, Result, IfOk, IsSome}
+use Rattle.std.specs.Prelude.{◌≡◌, ◌+◌, ◌≤◌, ℕ, true, List, [], length, Option, Result, IfOk, IfSome, IsSome}
 use Rattle.zst_space.specs.FreeSectors.{FreeSectors}
 use Rattle.zst_block.specs.Blocks.{Has}
 use Rattle.zst_dir.specs.Rows.{Rows}
@@ -33,5 +33,7 @@ pub record LeavesReceive (rows : Rows) (piece : List ℕ) (old new : Recv) (resu
   pub within : fed_of new ≤ stream_limit
   -- with END there is the snapshot
   pub received : IfOk result (λ told. told.done ≡ true → IsSome (received_by new))
+  -- of the target that was asked for
+  pub of_target : IfOk result (λ told. told.done ≡ true → IfSome (received_by new) (λ made. made.target ≡ (ask_of old).target))
   -- it never waits for BEGIN again
   pub waited : is_waiting new ≡ true → is_waiting old ≡ true

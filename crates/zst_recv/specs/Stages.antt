@@ -1,8 +1,9 @@
 -- What the code keeps of a receive, and what it stands for.
-use Rattle.std.specs.Prelude.{◌≡◌, ℕ, ◌-◌, ◌^◌, Bool, true, false, min, List, [], All, Option, Some, None, is_some}
-use Rattle.zst_dir.specs.Rows.{Rows}
+use Rattle.std.specs.Prelude.{◌≡◌, ℕ, ◌-◌, ◌^◌, Bool, true, false, not, min, List, [], All, filter, Option, Some, None, is_some}
+use Rattle.zst_dir.specs.Rows.{Rows, is_unkept_for}
 use Rattle.zst_dir.specs.declared.rows.Partial.{Partial as Row}
 use Rattle.zst_image.specs.Reads.{PartialIs}
+use Rattle.zst_image.specs.declared.pool_state.PoolState.{PoolState}
 use Rattle.zst_model.specs.declared.sends.header.Point.{Point}
 use Rattle.zst_model.specs.sends.Items.{origin}
 use Rattle.zst_model.specs.pools.Pool.{Pool, dataset_named}
@@ -80,6 +81,11 @@ keeps_partial (stages.Lives flags row) = row.keep
 keeps_partial (stages.Ends row) = false
 keeps_partial (stages.Done received) = false
 keeps_partial stages.Over = false
+
+-- what stays in memory of a pool where the receive ends: all, but for the partial state of this target where one is under way that isn't kept
+abbrev pub kept_without : (under_way : Bool) → List ℕ → PoolState → PoolState
+kept_without true target kept = record kept { dir = record kept.dir { partials = filter (λ partial. not (is_unkept_for target partial)) kept.dir.partials } }
+kept_without false target kept = kept
 
 -- where the stream goes on
 abbrev pub point_in : coded.Stage → Point

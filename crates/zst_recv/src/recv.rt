@@ -51,12 +51,12 @@ impl Recv {
     ghost use Rattle.zst_recv.specs.Answers.{Feeds};
     ghost use Rattle.zst_recv.specs.Costs.{CostsPiece, records_behind};
     ghost use Rattle.zst_recv.specs.Damage.{IsDamagedFeed};
-    ghost use Rattle.zst_recv.specs.Faults.{cut_of};
+    ghost use Rattle.zst_recv.specs.Faults.{cut_of, keeps_before};
     ghost use Rattle.zst_recv.specs.FedPools.{LeavesPool};
     ghost use Rattle.zst_recv.specs.FedReceives.{IsFresh, LeavesReceive};
     ghost use Rattle.zst_recv.specs.ReadTexts.{ReadsText};
     ghost use Rattle.zst_recv.specs.ReceiveSteps.{Stage as PlainStage, left_by};
-    ghost use Rattle.zst_recv.specs.Stages.{Receives, RecvFits, TellsBefore, ask_of, fed_of, is_live, is_waiting, point_in, reader_of, received_by, stage_behind, stage_of};
+    ghost use Rattle.zst_recv.specs.Stages.{Receives, RecvFits, TellsBefore, ask_of, fed_of, has_partial, is_live, is_waiting, kept_without, point_in, reader_of, received_by, stage_behind, stage_of};
 
     /// Begins a receive, and takes all of its memory. Nothing is read or committed.
     pub fn open<D: Disk>(
@@ -132,6 +132,9 @@ impl Recv {
             → IsDamagedFeed (disk_of pool.old.io) (free_by pool.old.kept.body) pool.old.kept.dir (ask_of self.old).target sector stated found }
         // As long as BEGIN isn't covered nothing is committed.
         ensures waits { is_waiting self.new ≡ true → pool.new.kept ≡ pool.old.kept }
+        // After a refusal that keeps no records before it, what is kept of the pool stays, but for a partial state under way that isn't kept.
+        ensures refused { (fault : RecvFault) → pool.old.io.failed ≡ false → result ≡ Err fault → keeps_before fault ≡ false
+            → pool.new.kept ≡ kept_without (has_partial (stage_of self.old)) (ask_of self.old).target pool.old.kept }
         ensures pool { LeavesPool pool.old pool.new result }
         ensures receive { LeavesReceive pool.new.kept.dir piece.now self.old self.new result }
     {
@@ -165,6 +168,8 @@ impl Recv {
     pub fn cut<D: Disk>(self, pool: &mut Pool<'_, D>) -> Result<(), StreamFault>
         requires recv { RecvFits pool.old.kept.dir self }
         ensures result { result ≡ cut_of (is_live (stage_of self)) (fed_of self) }
+        // Whatever the image: one that is over, or waits for BEGIN, changes nothing; and else a partial state of the target that isn't kept goes.
+        ensures leaves { pool.new.kept ≡ kept_without (has_partial (stage_of self)) (ask_of self).target pool.old.kept }
         ensures rests { (tight : Bool) (bound : Option ℕ) (disk : D) (running : Plain) (image : List ℕ) (space : FreeSectors) (stage : PlainStage) (text : List ℕ) → IsAtRest tight (D.state disk) pool.old.kept running
             → Receives bound (Has image space) self text stage → IsAtRest tight (D.state disk) pool.new.kept (left_by stage running) }
         ensures body { pool.new.kept.body ≡ pool.old.kept.body }
@@ -216,6 +221,7 @@ impl Recv {
         ensures reader { reader_of self.new ≡ reader_of self.old }
         ensures rests { (tight : Bool) (disk : D) (running : Plain) → IsAtRest tight (D.state disk) pool.old.kept running
             → IsAtRest tight (D.state disk) pool.new.kept (if held then without_unkept (ask_of self.old).target running else running) }
+        ensures kept { pool.new.kept ≡ kept_without held (ask_of self.old).target pool.old.kept }
         ensures body { pool.new.kept.body ≡ pool.old.kept.body }
         ensures io { pool.new.io ≡ pool.old.io }
     {
@@ -238,6 +244,7 @@ impl Recv {
         ensures reader { reader_of self.new ≡ reader_of self.old }
         ensures rests { (tight : Bool) (disk : D) (running : Plain) → IsAtRest tight (D.state disk) pool.old.kept running
             → IsAtRest tight (D.state disk) pool.new.kept (if held then without_unkept (ask_of self.old).target running else running) }
+        ensures kept { pool.new.kept ≡ kept_without held (ask_of self.old).target pool.old.kept }
         ensures body { pool.new.kept.body ≡ pool.old.kept.body }
         ensures io { pool.new.io ≡ pool.old.io }
     {

@@ -29,7 +29,7 @@ use Rattle.zst_image.specs.declared.pool_state.PoolState.{PoolState}
 use Rattle.zst_image.specs.declared.open_fault.OpenFault.{OpenFault}
 use Rattle.zst_image.specs.declared.open_fault.OpenFault.TheVariants as opens
 use Rattle.zst_pool.specs.Calls.{IsAtRest}
-use Rattle.zst_pool.specs.Cost.{FindsNoRoom, Grows, HasNoRoom, cost_of, most_sectors}
+use Rattle.zst_pool.specs.Cost.{FindsLess, FindsNoRoom, Grows, HasNoRoom, cost_of, most_sectors}
 use Rattle.zst_pool.specs.Damage.{IsOf, OfHead, OfSet, TellsDamage}
 use Rattle.zst_pool.specs.Faults.{HasDiskCause, StepFault, pool_refusal}
 use Rattle.zst_pool.specs.Plans.{Plans, indices_end, numbers_end}
@@ -188,25 +188,26 @@ with_rows P kept rows same is = subst P same is
 
 -- what a refused command leaves
 pub answers_refused : {tight : Bool} (command : Command) (here' : DiskState) (kept : PoolState) (rows : Rows) (pool : Pool) (after : Result Stepped Refusal) (fault : PoolFault) → kept.dir ≡ kept_rows rows
-    → ((left : FreeSectors) × FindsNoRoom (cost_of command).cells ((cost_of command).block pool) kept left fault) → (fault ≢ faults.DiskFault → IsAtRest tight here' kept pool → Rests tight here' kept.body rows pool) → StepFault (IsAtRest tight here' kept pool) after fault
+    → ((left : FreeSectors) × FindsNoRoom (cost_of command).cells ((cost_of command).block pool) kept left fault) → FindsLess (cost_of command).cells ((cost_of command).block pool) kept.body after fault → (fault ≢ faults.DiskFault → IsAtRest tight here' kept pool → Rests tight here' kept.body rows pool) → StepFault (IsAtRest tight here' kept pool) after fault
     → Answers tight command kept.body rows pool here' after (Err (pool_refusal fault))
-answers_refused {tight = tight} command here' kept rows pool after (faults.Plan fault) same room still is =
+answers_refused {tight = tight} command here' kept rows pool after (faults.Plan fault) same room less still is =
     let rests = still (λ e. absurd (cc e)) is.1 in
     plan_cases (λ f r. after ≡ Err r → Answers tight command kept.body rows pool here' after (Err r)) (λ f e. (e, rests)) (λ w n e. (e, rests)) fault is.0
-answers_refused {tight = tight} command here' kept rows pool after (faults.CannotApply fault) same room still is = (is.0, still (λ e. absurd (cc e)) is.1)
-answers_refused {tight = tight} command here' kept rows pool after (faults.Redacted object block) same room still is = (is.0, still (λ e. absurd (cc e)) is.1)
-answers_refused {tight = tight} command here' kept rows pool after (faults.Full need largest) same room still is = (
+answers_refused {tight = tight} command here' kept rows pool after (faults.CannotApply fault) same room less still is = (is.0, still (λ e. absurd (cc e)) is.1)
+answers_refused {tight = tight} command here' kept rows pool after (faults.Redacted object block) same room less still is = (is.0, still (λ e. absurd (cc e)) is.1)
+answers_refused {tight = tight} command here' kept rows pool after (faults.Full need largest) same room less still is = (
   record {
     done = is.0.0;
     accepts = is.0.1;
     short = (room.0, with_rows (λ r. HasNoRoom (cost_of command).cells ((cost_of command).block pool) kept.body r room.0 need largest) kept rows same (room.1 need largest refl));
+    costs = less need largest refl;
   },
   still (λ e. absurd (cc e)) is.1,
 )
-answers_refused {tight = tight} command here' kept rows pool after (faults.Damaged sector stated found) same room still is = absurd is
-answers_refused {tight = tight} command here' kept rows pool after faults.DiskFault same room still is = tt
-answers_refused {tight = tight} command here' kept rows pool after faults.Failed same room still is = absurd is
-answers_refused {tight = tight} command here' kept rows pool after faults.OutOfMemory same room still is = still (λ e. absurd (cc e)) is
+answers_refused {tight = tight} command here' kept rows pool after (faults.Damaged sector stated found) same room less still is = absurd is
+answers_refused {tight = tight} command here' kept rows pool after faults.DiskFault same room less still is = tt
+answers_refused {tight = tight} command here' kept rows pool after faults.Failed same room less still is = absurd is
+answers_refused {tight = tight} command here' kept rows pool after faults.OutOfMemory same room less still is = still (λ e. absurd (cc e)) is
 
 -- ---- what answers say of any image
 
@@ -416,16 +417,17 @@ module _ (laws : KeepLaws) (one : ReadsOne) (stay : ReadsStay) (now : ℕ) (comm
       → (here'.honest → IsOf (TellsDamage command kept.dir mid (free_by kept.body)) fault)
       → (fault ≢ faults.OutOfMemory → Plans {T = List (List ℕ)} (λ pool. stepped [] now command pool) (numbers_end command) (indices_end command) kept (Err fault))
       → ((pool : Pool) → here'.honest → IsAtRest false mid kept pool → (left : FreeSectors) × FindsNoRoom (cost_of command).cells ((cost_of command).block pool) kept left fault)
+      → ((pool : Pool) → here'.honest → IsAtRest false mid kept pool → FindsLess (cost_of command).cells ((cost_of command).block pool) kept.body (stepped [] now command pool) fault)
       → ((tight : Bool) (pool : Pool) → here'.honest → IsAtRest tight mid kept pool → StepAnswer tight here' kept' pool (stepped [] now command pool) (Err fault))
       → Stepping now command here here' (Err (pool_refusal fault))
-  stepping_refused fault same cause alive spares bounded damaged plan room did = record {
+  stepping_refused fault same cause alive spares bounded damaged plan room less did = record {
     moments = moments;
     images = images;
     answers = λ tight uber rows pool told is.
         let before = rests tight uber rows pool told is in
         let gives = there tight uber rows pool (falls told) is in
         for_kept (λ u. Answers tight command u rows pool here' (stepped [] now command pool) (Err (pool_refusal fault))) kept uber rows gives
-        (answers_refused command here' kept rows pool (stepped [] now command pool) fault gives.1 (room pool told (rest_plain mid kept pool before))
+        (answers_refused command here' kept rows pool (stepped [] now command pool) fault gives.1 (room pool told (rest_plain mid kept pool before)) (less pool told (rest_plain mid kept pool before))
         (λ not at_rest. still_rests tight uber rows pool told is (spares not) at_rest) (left_as tight fault pool same (did tight pool told before)));
     opened = λ told. let was = answer (falls told) in opened_then now command here here' kept was.1 fault alive
         (λ not. ran_refused now command here mid here' kept was.1 fault was.4 (was.0, was.2, was.3) reads

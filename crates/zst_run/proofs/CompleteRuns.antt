@@ -1,5 +1,5 @@
 -- Runs that nothing stands in the way of.
-use Rattle.std.proofs.Common.{◌≡◌, ◌≢◌, inl, inr, ◌⊎◌, ℕ, ◌≤◌, ◌+◌, ◌-◌, ◌*◌, Bool, List, [], ◌∷◌, ◌++◌, length, None, Result, Ok, Err, refl, sym, ap, ◌∙◌, subst, arith}
+use Rattle.std.proofs.Common.{◌≡◌, ◌≢◌, inl, inr, ◌⊎◌, ⊎_elim, ℕ, ◌≤◌, ◌+◌, ◌-◌, ◌*◌, Bool, List, [], ◌∷◌, ◌++◌, length, None, Result, Ok, Err, refl, sym, ap, ◌∙◌, subst, arith}
 use Rattle.std.specs.Prelude.{IfErr}
 use Rattle.std.specs.List.{concat}
 use Rattle.std.specs.Result.{result_map_both}
@@ -27,8 +27,8 @@ use Rattle.zst_stream.specs.Laws.{FrontsAgree}
 use Rattle.zst_stream.specs.Reading.{complete, faulty, reading, waiting}
 use Rattle.zst_token.specs.Spelling.{token_text}
 use Rattle.zst_token.specs.declared.token.Token.{Token}
-use Rattle.zst_run.specs.Commands.{Answers, IsPoolRefusal, Makes, OfMaking, OfStepping, most_of}
-use Rattle.zst_run.specs.Completeness.{AreOfFront, DoneIsTold, DoneOrNoMemory, HasText, NoneCounted, ReceivesComplete, SendsComplete, StepsComplete, CreatesComplete, TokensComplete, DumpsComplete, Takes}
+use Rattle.zst_run.specs.Commands.{Answers, IsPoolRefusal, Makes, OfMaking, OfStepping}
+use Rattle.zst_run.specs.Completeness.{AreOfFront, DoneIsTold, DoneOrNoMemory, HasRoomFor, HasText, NoneCounted, ReceivesComplete, SendsComplete, StepsComplete, CreatesComplete, TokensComplete, DumpsComplete, Takes}
 use Rattle.zst_run.specs.Dumps.{Ends}
 use Rattle.zst_run.specs.Receives.{ArePieces, IsReceiveRefusal, ReceiveEnds, Refused}
 use Rattle.zst_run.specs.Replies.{Replied}
@@ -128,11 +128,11 @@ receives_complete here here' tight ask uber rows pool text input input' out out'
 -- ---- the other lines
 
 step_refusal : (tight : Bool) (command : Command) (uber : Uber) (rows : Rows) (pool : Pool) (done : Stepped) (here here' : DiskState) (after : Result Stepped Refusal) (refusal : Refusal)
-    → after ≡ Ok done → most_of command rows pool ≤ uber.sectors - uber.end → NoneCounted here.faults here'.faults → IsPoolRefusal OfStepping here here' refusal
+    → after ≡ Ok done → HasRoomFor command uber rows pool after → NoneCounted here.faults here'.faults → IsPoolRefusal OfStepping here here' refusal
     → Answers tight command uber rows pool here' after (Err refusal) → refusal ≡ refusals.OutOfMemory
 step_refusal tight command uber rows pool done here here' after refusals.DiskFault is room disk refused answers = absurd (disk (refused.cause refl))
 step_refusal tight command uber rows pool done here here' after (refusals.Full need largest) is room disk refused answers =
-    absurd (let short = answers.0.short.1.room in omega (arith, short, room))
+    absurd (⊎_elim (λ most. let short = answers.0.short.1.room in omega (arith, short, most)) (λ less. less answers.0.costs) room)
 step_refusal tight command uber rows pool done here here' after refusals.OutOfMemory is room disk refused answers = refl
 step_refusal tight command uber rows pool done here here' after refusal is room disk refused answers =
     absurd (let both : Ok done ≡ Err refusal = sym is ∙ answers.0 in cc)

@@ -33,7 +33,7 @@ use Rattle.zst_stream.specs.Findings.{IsFound}
 use Rattle.zst_stream.specs.Reading.{Reading, complete, reading}
 use Rattle.zst_reader.specs.StandsFor.{StandsFor}
 use Rattle.zst_run.specs.Receives.{CostMore, ReceiveEnds, SaysOfText, Waited, piece_size, receipt_line}
-use Rattle.zst_run.specs.ReceiveTurns.{ReadsAlong, Fed, Feeding, GrewBy, HasFed, HasHanded, IsEnd, IsFeedRefusal, IsInputOf, IsReady, IsReceived, TurnReads, Turned, Turns, WaitsForMore, cut_refusal, line_of, told, with_piece}
+use Rattle.zst_run.specs.ReceiveTurns.{ReadsAlong, Fed, Feeding, GrewBy, HasHanded, IsEnd, IsFeedRefusal, IsInputOf, IsReady, IsReceived, TurnReads, Turned, Turns, WaitsForMore, cut_refusal, line_of, told, with_piece}
 use Rattle.zst_run.specs.Dumps.{NoFault}
 use Rattle.zst_run.specs.declared.receive.End.{End}
 use Rattle.zst_run.specs.declared.receive.End.TheVariants.{Ended, Failed}
@@ -119,10 +119,10 @@ says_refused pieces input input' recv refusal reads = record {
 }
 
 says_cut : (pieces : List (List ℕ)) (input mid input' : SourceState) (recv : Recv) (end : End) (refusal : Refusal) → refusal ≡ cut_refusal end (fed_of recv) → NoFault input mid → IsInputOf mid input' (turns.Over end)
-    → HasFed recv (concat pieces) → SaysOfText pieces input input' (Err refusal)
+    → HasHanded recv (concat pieces) → SaysOfText pieces input input' (Err refusal)
 says_cut pieces input mid input' recv Ended refusal is none after has = record {
   stream = λ fault found e. let same : fault ≡ Truncated (fed_of recv) = cc (is, e) in absurd (subst IsFound same found);
-  cut = λ at e. let same : at ≡ fed_of recv = cc (is, e) in (same ∙ has.1.pushed, after.0, after.1 ∙ none);
+  cut = λ at e. let same : at ≡ fed_of recv = cc (is, e) in (ap (λ (r : Reading). r.outcome) has.1.whole, same ∙ has.1.stands.pushed, after.0, after.1 ∙ none);
   whole = λ lines e. absurd (cc e);
 }
 says_cut pieces input mid input' recv Failed refusal is none after has = says_other pieces input input' refusal (λ fault e. cc (is, e))
@@ -255,7 +255,7 @@ module _ (start old now : DiskState) (first kept kept' : PoolState) (begun recv 
         → Fed (λ tight pool. WaitsForMore tight start first begun begun.ask pool [] 0) first start now begun.ask input input' (told (Err refusal))
     cut_fed end refusal t is =
         ended start old now first kept kept' begun recv recv' items items' input mid input' (turns.Over end) f t same falls (Err refusal) t.sized
-        (says_cut (with_piece f.pieces t.piece) input mid input' recv' end refusal is f.no_fault t.input_is (reads start old now first kept kept' begun recv recv' items items' input mid input' (turns.Over end) f t same falls))
+        (says_cut (with_piece f.pieces t.piece) input mid input' recv' end refusal is f.no_fault t.input_is (subst (HasHanded recv') (sym (concat_with f.pieces t.piece)) (t.spends (concat f.pieces) f.hands)))
         (λ need largest e. absurd (cut_no_full end (fed_of recv') need largest (sym is ∙ err_same refusal (refusals.Full need largest) e)))
         (λ tight pool honest done. cut_so end refusal t is tight pool (with_piece f.pieces t.piece) done.stands)
 

@@ -94,9 +94,15 @@ module _ (input input' : SourceState) (room : List ℕ) (count : ℕ) (end : Opt
         let nothing : take count room ≡ [] = nil_from_length (take count room) (long ∙ none) in
         subst (HasFed recv) (sym (ap (λ (piece : List ℕ). text ++ piece) nothing ∙ append-nil text)) has
 
-    spends_none : (e : Option End) → Fills input input' (length room) count e → (text : List ℕ) → TurnSpends kept kept recv text (take count room) (turn_behind e)
-    spends_none None is text = absurd (let full = is.0 in omega (arith, full, none, size))
-    spends_none (Some e) is text = tt
+    -- and has handed out the same
+    same_handed : (text : List ℕ) → HasHanded recv text → HasHanded recv (text ++ take count room)
+    same_handed text has =
+        let nothing : take count room ≡ [] = nil_from_length (take count room) (long ∙ none) in
+        subst (HasHanded recv) (sym (ap (λ (piece : List ℕ). text ++ piece) nothing ∙ append-nil text)) has
+
+    spends_none : (e : Option End) → Fills input input' (length room) count e → (text : List ℕ) → HasHanded recv text → TurnSpends kept kept recv text (take count room) (turn_behind e)
+    spends_none None is text has = absurd (let full = is.0 in omega (arith, full, none, size))
+    spends_none (Some e) is text has = same_handed text has
 
     pub turns_without : Turns now now kept kept recv recv items items input input' (turn_behind end)
     turns_without = record {
@@ -105,7 +111,7 @@ module _ (input input' : SourceState) (room : List ℕ) (count : ℕ) (end : Opt
       sized = sized end fills;
       input_is = input_is end fills;
       reads = λ text has. goes_reads end recv (text ++ take count room) (same_text text has);
-      spends = λ text has. spends_none end fills text;
+      spends = λ text has. spends_none end fills text has;
       says = without end fills;
     }
 
@@ -130,7 +136,7 @@ module _ (input input' : SourceState) (room : List ℕ) (count : ℕ) (end : Opt
 
       spends_on : (e : Option End) (text : List ℕ) → HasHanded recv' (text ++ take count room) × PieceGrows (new_records text (take count room)) kept kept' → TurnSpends kept kept' recv' text (take count room) (turn_behind e)
       spends_on None text both = both
-      spends_on (Some e) text both = tt
+      spends_on (Some e) text both = both.0
 
       -- more is waited for
       pub turns_on : told.done ≡ false → (is_waiting recv' ≡ true → kept' ≡ kept)

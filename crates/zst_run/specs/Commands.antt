@@ -27,7 +27,7 @@ use Rattle.zst_image.specs.Reads.{IsNamedBy, Reads, ReadsAs, Rests, free_by, kep
 use Rattle.zst_image.specs.declared.create_fault.CreateFault.{CreateFault}
 use Rattle.zst_image.specs.declared.open_fault.OpenFault.{OpenFault}
 use Rattle.zst_image.specs.declared.pool_state.PoolState.{PoolState}
-use Rattle.zst_pool.specs.Cost.{Grows, HasNoRoom, cost_of, most_sectors}
+use Rattle.zst_pool.specs.Cost.{CostsMore, Grows, HasNoRoom, cost_of, most_sectors}
 use Rattle.zst_pool.specs.Damage.{TellsDamage}
 use Rattle.zst_pool.specs.Faults.{pool_refusal}
 use Rattle.zst_pool.specs.Plans.{IsLimitOf, indices_end, is_by_rows, numbers_end}
@@ -70,11 +70,12 @@ pub record IsDone (tight : Bool) (command : Command) (uber : Uber) (rows : Rows)
 abbrev pub IsShort : ℕ → ℕ → Uber → Rows → ℕ → ℕ → Type 0
 IsShort cells block uber rows need largest = (left : FreeSectors) × HasNoRoom cells block uber (kept_rows rows) left need largest
 
--- E24: the definition accepts, and there was less room than the command costs
+-- E24: the definition accepts, and there was less room than the command takes at most, and than it takes with the directory that it would leave
 pub record IsFull (command : Command) (uber : Uber) (rows : Rows) (pool : Pool) (after : Result Stepped Refusal) (need largest : ℕ) : Type 0 where
   pub done : Stepped
   pub accepts : after ≡ Ok done
   pub short : IsShort (cost_of command).cells ((cost_of command).block pool) uber rows need largest
+  pub costs : CostsMore (cost_of command).cells ((cost_of command).block pool) uber after
 
 -- What stands after a command on the pool of this body and these rows. A refusal leaves the pool as it was, unless the
 -- disk failed, and is the definition's, unless the disk is full or no memory is left.

@@ -15,6 +15,7 @@ use Rattle.zst_model.specs.sends.Headers.{Sent}
 use Rattle.zst_dir.specs.Rows.{Rows}
 use Rattle.zst_image.specs.Reads.{Reads, ReadsAs, kept_rows}
 use Rattle.zst_plan.specs.declared.receive.RecvAsk.{RecvAsk}
+use Rattle.zst_pool.specs.Cost.{CostsMore, cost_of}
 use Rattle.zst_reader.specs.InputReads.{stream_limit}
 use Rattle.zst_recv.specs.Feeds.{receives}
 use Rattle.zst_recv.specs.ReceiveSteps.{Stops}
@@ -90,12 +91,16 @@ ReceivesComplete here here' =
 
 -- ---- the other lines
 
--- A run of a command on an image that reads as a pool: where the definition accepts it, as many sectors are free by the latest body as it takes at most, and neither
+-- there is room for a command: as many sectors are free by this body as it takes at most, or as it takes with each directory of rows that name the pool that it makes
+abbrev pub HasRoomFor : Command → Uber → Rows → Pool → Result Stepped Refusal → Type 0
+HasRoomFor command uber rows pool after = (most_of command rows pool ≤ uber.sectors - uber.end) ⊎ ¬ (CostsMore (cost_of command).cells ((cost_of command).block pool) uber after)
+
+-- A run of a command on an image that reads as a pool: where the definition accepts it, there is room for it by the latest body, and neither
 -- the disk nor the output counted a fault, it is done, or no memory was left.
 abbrev pub StepsComplete : (here here' : DiskState) → Type 0
 StepsComplete here here' =
     (tight : Bool) (now : ℕ) (command : Command) (uber : Uber) (rows : Rows) (pool : Pool) (done : Stepped) (out out' : SinkState) (result : Result (Unit {0}) Refusal)
-    → here'.honest → ReadsAs tight uber rows pool here.seen → stepped [] now command pool ≡ Ok done → most_of command rows pool ≤ uber.sectors - uber.end
+    → here'.honest → ReadsAs tight uber rows pool here.seen → stepped [] now command pool ≡ Ok done → HasRoomFor command uber rows pool (stepped [] now command pool)
     → NoneCounted here.faults here'.faults → NoneCounted out.faults out'.faults
     → Replies (Stepping now command here here') out out' result → DoneOrNoMemory result
 

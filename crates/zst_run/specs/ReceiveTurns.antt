@@ -160,11 +160,11 @@ TurnPlans rows ask kept recv text (turns.Refused refusal) = SaysOfPlan rows ask 
 abbrev pub HasHanded : Recv → List ℕ → Type 0
 HasHanded recv text = (handed : List Covered) × HandsOut (reader_of recv) text handed waiting
 
--- and behind a piece more that is taken it has again, and no more is taken than it costs; where it found no room, it costs more than was free.
+-- and behind a piece more that is taken it has again, and where it goes on no more is taken than that costs; where it found no room, it costs more than was free.
 abbrev pub TurnSpends : (kept kept' : PoolState) → Recv → (text piece : List ℕ) → Turn → Type 0
 TurnSpends kept kept' recv text piece turns.More = HasHanded recv (text ++ piece) × PieceGrows (new_records text piece) kept kept'
 TurnSpends kept kept' recv text piece turns.Received = Unit {0}
-TurnSpends kept kept' recv text piece (turns.Over end) = Unit {0}
+TurnSpends kept kept' recv text piece (turns.Over end) = HasHanded recv (text ++ piece)
 TurnSpends kept kept' recv text piece (turns.Refused refusal) =
     (need largest : ℕ) → refusal ≡ refusals.Full need largest → kept.body.sectors - kept.body.end < piece_cost (new_records text piece) kept.dir
 

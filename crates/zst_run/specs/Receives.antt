@@ -192,11 +192,11 @@ pub record ReceiveRan (ask : RecvAsk) (pieces : List (List ℕ)) (here : DiskSta
   pub planned : SaysOfPlan (kept_rows rows) ask (concat pieces) answer
   pub damaged : (sector : ℕ) (stated found : List ℕ) → answer ≡ Err (refusals.Damaged sector stated found) → IsDamagedReceive here uber ask.target sector stated found
 
--- What an answer says of the pieces that were read, whatever the image: a fault that is found in a stream is that of their reading, E20 tells the count of
--- their bytes at the end of an input that didn't fail, and there is a line only where their reading is complete.
+-- What an answer says of the pieces that were read, whatever the image: a fault that is found in a stream is that of their reading, E20 comes where their
+-- reading waits for more, and tells the count of their bytes at the end of an input that didn't fail, and there is a line only where their reading is complete.
 pub record SaysOfText (pieces : List (List ℕ)) (input input' : SourceState) (answer : Result (List (List ℕ)) Refusal) : Type 0 where
   pub stream : (fault : StreamFault) → IsFound fault → answer ≡ Err (refusals.Stream fault) → (reading (concat pieces)).outcome ≡ faulty fault
-  pub cut : (at : ℕ) → answer ≡ Err (refusals.Stream (Truncated at)) → (at ≡ length (concat pieces)) × IsTrue input'.ended × NoFault input input'
+  pub cut : (at : ℕ) → answer ≡ Err (refusals.Stream (Truncated at)) → ((reading (concat pieces)).outcome ≡ waiting) × (at ≡ length (concat pieces)) × IsTrue input'.ended × NoFault input input'
   pub whole : (lines : List (List ℕ)) → answer ≡ Ok lines → (reading (concat pieces)).outcome ≡ complete
 
 -- the sets of a pool tell the dates that a plan may look at: of tight ones nothing has to be said

@@ -8,7 +8,7 @@ use std::alloc::{AllocError, Global};
 use std::fs::{self, File};
 use std::io::{self, ErrorKind};
 use std::path::Path;
-use zst_file::{FileDisk, Start};
+use zst_file::{FileDisk, Start, length_of};
 use zst_line::{Line, LineFault, Text, parse};
 
 /// The bytes of a sector.
@@ -147,5 +147,7 @@ pub fn open<S: Start>(
             file
         }
     };
-    FileDisk::new(file.try_clone()?, start)
+    let mut kept = file.try_clone()?;
+    let bytes = length_of(&mut kept)?;
+    Ok(FileDisk::new(kept, bytes, start))
 }

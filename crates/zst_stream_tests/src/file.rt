@@ -6,7 +6,7 @@ use std::fs;
 use std::fs::File;
 use std::process::Abort;
 use std::test::Fail;
-use zst_file::{FileDisk, Input, Output, UnknownStart};
+use zst_file::{FileDisk, Input, Output, UnknownStart, length_of};
 use zst_outside::{Disk, Fault, Sink, Source, write_all};
 
 // Writes a block into the middle of a disk of zeros, and reads it with the bytes around it.
@@ -32,16 +32,22 @@ fn check_kept<D: Disk>(rt: &impl Abort, disk: &mut D) {
     assert_eq!(rt; read, *b"block");
 }
 
+// A file as a disk.
+fn disk_of(mut file: File) -> Result<FileDisk<UnknownStart>, Fail> {
+    let bytes = length_of(&mut file)?;
+    Ok(FileDisk::new(file, bytes, UnknownStart))
+}
+
 // A new file of 4,096 zeros as a disk.
 fn made(rt: &HostRuntime) -> Result<FileDisk<UnknownStart>, Fail> {
     fs::write(rt, "disk", [0; 4096].as_slice())?;
     let file = File::options().read(true).write(true).open(rt, "disk")?;
-    Ok(FileDisk::new(file, UnknownStart)?)
+    disk_of(file)
 }
 
 // A file as a disk that is only read.
 fn opened(rt: &HostRuntime, path: &str) -> Result<FileDisk<UnknownStart>, Fail> {
-    Ok(FileDisk::new(File::open(rt, path)?, UnknownStart)?)
+    disk_of(File::open(rt, path)?)
 }
 
 #[test]

@@ -1,11 +1,12 @@
-use Rattle.std.specs.Prelude.{None}
+use Rattle.std.specs.Prelude.{None, false}
 use Rattle.std.proofs.Common.{refl, sym, ◌∙◌}
+use Rattle.zst_block.specs.Blocks.{Has}
 use Rattle.zst_block.specs.IoStates.{io_of}
 use Rattle.zst_model.specs.pools.KeptPool.{kept_of}
 use Rattle.zst_pool.specs.Cost.{cells_only}
 use Rattle.zst_pool.specs.Damage.{NoDamage}
 use Rattle.zst_pool.proofs.CommitAnswers.{committed_sound}
-use Rattle.zst_pool.proofs.CommandEnds.{did_rows}
+use Rattle.zst_pool.proofs.CommandEnds.{did_rows, names_next}
 use Rattle.zst_pool.proofs.PlanLemmas.{no_plan-commit}
 use Rattle.zst_pool.proofs.PoolsAtRest.{begun, way_runs}
 use Rattle.zst_pool.proofs.CommandRuns.{idle_wrote, runs_committed, runs_sound}
@@ -26,7 +27,11 @@ returns-clause-runs g c = λ definition makes.
     let way = begun old kept running rested space c.requires.begins.space in
     did_rows old io (io_of c.commit_dir.new.io) kept running (definition running) c.args.guids c.args.dir made way (makes tight old.seen space running (way_runs old old space kept running way)) c.datasets-lawful.ensures.lawful c.requires.number
     (λ next is. commit.commits tight c.args.io.now.disk.now way.rested.rows (kept_of running) next told way.rested.rests way.fills is) commit.made commit.refused)
-    c.requires.grows commit.made commit.takes commit.refused commit.disk commit.cause)
+    c.requires.grows
+    (λ running told rested.
+    let way = begun old kept running rested space c.requires.begins.space in
+    names_next (Has old.seen space) (definition running) running c.args.guids c.args.dir (makes false old.seen space running (way_runs old old space kept running way)))
+    commit.made commit.takes commit.refused commit.disk commit.cause)
 
 pub returns-clause-unplanned : goal.returns-clause-unplanned
 returns-clause-unplanned g c = λ fault is. no_plan-commit c.commit_dir.result c.of_committed.ensures fault is

@@ -1,4 +1,4 @@
-use Rattle.std.specs.Prelude.{Result, Err, None}
+use Rattle.std.specs.Prelude.{Bool, false, Result, Err, None}
 use Rattle.std.proofs.Common.{◌≡◌, ◌+◌, ◌≤◌, length, refl, sym, ap, ◌∙◌, subst, arith}
 use Rattle.zst_tree.specs.Sets.{SetFits}
 use Rattle.zst_block.specs.Blocks.{Has}
@@ -12,7 +12,8 @@ use Rattle.zst_dir.specs.Spelling.{dir_bytes}
 use Rattle.zst_model.specs.pools.KeptPool.{kept_of}
 use Rattle.zst_model.proofs.Results.{err_is}
 use Rattle.zst_image.specs.Reads.{RunsBy, bound_of}
-use Rattle.zst_pool.specs.Calls.{IsUnderWay}
+use Rattle.zst_model.specs.pools.Pool.{Pool}
+use Rattle.zst_pool.specs.Calls.{IsAtRest, IsUnderWay}
 use Rattle.zst_pool.specs.Checks.{with_head_of}
 use Rattle.zst_pool.specs.RowChanges.{MakesRows}
 use Rattle.zst_pool.specs.Faults.{StepFault}
@@ -20,7 +21,7 @@ use Rattle.zst_pool.specs.Heads.{rested}
 use Rattle.zst_objset.specs.OrMemory.{stop_of}
 use Rattle.zst_pool.specs.declared.fault.PoolFault.{PoolFault}
 use Rattle.zst_pool.specs.declared.fault.PoolFault.TheVariants.{Damaged, OutOfMemory, Plan}
-use Rattle.zst_pool.proofs.CommandEnds.{did_rows}
+use Rattle.zst_pool.proofs.CommandEnds.{did_rows, names_next}
 use Rattle.zst_pool.proofs.Bounds.{RunsBy-later}
 use Rattle.zst_pool.proofs.NextPools.{head_runs}
 use Rattle.zst_pool.proofs.PoolsAtRest.{few_guids, way_runs}
@@ -69,15 +70,13 @@ returns-clause-ran g c = λ start failed checksum_errors reference make cost cha
     let grows : length (dir_bytes c.set_head.new.self) ≤ length (dir_bytes kept.dir) + 1024 = omega (arith, long) in
     let dir = c.set_head.ensures.headed ∙ ap (λ (d : Rows). record d { datasets = with_head name set d.datasets }) c.in_ok-dir.ensures in
     let rest = rested from failed checksum_errors reference kept in
-    runs_committed (λ pool. on_head name pool (make pool)) cost kept rest (io_of c.args.io.now) (io_of c.commit_dir.new.io) c.set_head.new.self c.commit_dir.result c.of_committed.ensures c.requires.ready
-    (subst (Wrote kept cost rest (io_of c.args.io.now)) c.in_ok-judge.ensures.went_well (changed.works, changed.exact))
-    (λ tight running told rests.
+    let makes : (tight : Bool) (running : Pool) → last.honest → IsAtRest tight from kept running → MakesRows tight (Has old.seen space) (on_head name running (make running)) running kept.body.guids c.set_head.new.self = λ tight running told rests.
     let made = changed.made {tight = tight} running (commit.disk.honest told) rests in
     let head = c.in_ok-judge.ensures.judged (bound_of tight (running.number + 1)) old.seen space set name running (make running made.0) rests.rests.reads.described.number made.1 in
     let is = made.2 ∙ ap (λ (r : Result DatedState Refusal). r >>= λ after. committed (with_head_of name after running)) head.1 ∙ head.3 in
     let way : IsUnderWay tight from old space kept running = record { rested = rests; fills = fills } in
     let runs = way_runs from old space kept running way in
-    let makes : MakesRows tight (Has old.seen space) (on_head name running (make running)) running kept.body.guids c.set_head.new.self = record {
+    record {
       next = with_head_of name head.0 running;
       made = is;
       id = refl;
@@ -86,9 +85,14 @@ returns-clause-ran g c = λ start failed checksum_errors reference make cost cha
       few = few_guids (Has old.seen space) kept running runs;
       runs_by = subst (λ (r : Rows). RunsBy (bound_of tight (running.number + 1)) (Has old.seen space) r (with_head_of name head.0 running)) (sym dir) (head_runs (Has old.seen space) kept.dir running name set head.0 (RunsBy-later tight running.number (running.number + 1) (omega arith) (Has old.seen space) kept.dir running runs.runs_by) head.2);
     } in
-    did_rows from (io_of c.args.io.now) (io_of c.commit_dir.new.io) kept running (on_head name running (make running)) kept.body.guids c.set_head.new.self c.commit_dir.result way makes c.datasets-lawful.ensures.lawful c.in_ok-judge.ensures.below
+    runs_committed (λ pool. on_head name pool (make pool)) cost kept rest (io_of c.args.io.now) (io_of c.commit_dir.new.io) c.set_head.new.self c.commit_dir.result c.of_committed.ensures c.requires.ready
+    (subst (Wrote kept cost rest (io_of c.args.io.now)) c.in_ok-judge.ensures.went_well (changed.works, changed.exact))
+    (λ tight running told rests.
+    let way : IsUnderWay tight from old space kept running = record { rested = rests; fills = fills } in
+    did_rows from (io_of c.args.io.now) (io_of c.commit_dir.new.io) kept running (on_head name running (make running)) kept.body.guids c.set_head.new.self c.commit_dir.result way (makes tight running told rests) c.datasets-lawful.ensures.lawful c.in_ok-judge.ensures.below
     (λ next told_next. commit.commits tight start rests.rows (kept_of running) next told rests.rests fills told_next) commit.made commit.refused)
-    grows commit.made commit.takes commit.refused commit.disk commit.cause
+    grows (λ running told rests. names_next (Has old.seen space) (on_head name running (make running)) running kept.body.guids c.set_head.new.self (makes false running told rests))
+    commit.made commit.takes commit.refused commit.disk commit.cause
 
 pub returns-in_err-judge-clause-refuses : goal.returns-in_err-judge-clause-refuses
 returns-in_err-judge-clause-refuses g c = record {

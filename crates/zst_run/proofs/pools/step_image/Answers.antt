@@ -32,6 +32,7 @@ returns-in_err-reply g c =
     (λ not. rw (n.kept) at (s.did.spares (λ is. not (cc is)))) (c.step-reply.new.self.io.space, most.0, most.1, rw (n.kept) at most.2.full) (λ told. rw (n.kept) at (s.did.damaged told))
     (λ memory. rw (n.kept) at (s.planned n.failed (λ is. memory (cc is))))
     (λ pool told rests. (c.step-reply.new.self.io.space, rw (n.kept) at ((s.did.exact pool told n.failed (rw (n.kept) rests)).full)))
+    (λ pool told rests. rw (n.kept) at (s.did.short pool told n.failed (rw (n.kept) rests)))
     (λ tight pool told rests. s.did.answer tight pool told n.failed (rw (n.kept) rests)) in
     rw (p.1, p.2) (subst (λ d. Stepping c.args.now c.args.command (g.D.Disk.state c.args.here.now) (g.D.Disk.state d) (Err (pool_refusal c.in_err-reply.field-0.0))) (sym c.into_disk.ensures.disk ∙ sym (c.here-1.given.1 (sym (c.into_disk.ensures.same ∙ (s.settles.same ∙ n.same))))) stepping)
 

@@ -1,7 +1,9 @@
 use Rattle.std.proofs.Common.{ℕ, ◌<◌, Err, ap, take, ◌∙◌, arith, ◌≡◌, ◌||◌, Bool, false, List, [], ◌++◌, Ok, refl, sym, subst}
 use Rattle.std.specs.Prelude.{not}
 use Rattle.std.proofs.lemmas.List.Elements.{All-take}
+use Rattle.zst_pool.specs.declared.fault.PoolFault.TheVariants as pools
 use Rattle.zst_recv.specs.declared.fault.RecvFault.{RecvFault}
+use Rattle.zst_recv.specs.declared.fault.RecvFault.TheVariants as faults
 use Rattle.zst_run.proofs.PieceCosts.{grows_behind, short_behind}
 use Rattle.zst_run.proofs.TurnEnds.{turns_on, turns_received, turns_refused, turns_without}
 use Rattle.zst_recv.specs.Faults.{recv_refusal}
@@ -55,7 +57,7 @@ returns-in-Err-clause-turns g c =
     (λ text handed told stands is. (e.texts c.requires.can_feed.works text handed stands).stream told (ap (λ (f : RecvFault). Err f) is))
     (λ text handed need largest hands is.
     let full = ap (λ (f : RecvFault). Err f) is in
-    short_behind c.args.recv.now.reader text (take p.result.count p.new.room) handed _ _ _ need largest hands (e.pool.stays need largest full) ((e.costs text handed hands.stands).short need largest full)))
+    short_behind c.args.recv.now.reader text (take p.result.count p.new.room) handed _ _ _ need largest hands (e.pool.stays (faults.Pool (pools.Full need largest)) full refl) ((e.costs text handed hands.stands).short need largest full)))
 
 pub returns-then-piece-eq0-clause-plans : goal.returns-then-piece-eq0-clause-plans
 returns-then-piece-eq0-clause-plans g c = λ rows text piece gave on.

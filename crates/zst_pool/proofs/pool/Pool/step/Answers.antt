@@ -8,7 +8,7 @@ use Rattle.zst_block.specs.Blocks.{FitsDisk, Has}
 use Rattle.zst_outside.specs.Images.{OnlyReads-none}
 use Rattle.zst_space.specs.FreeSectors.{FreeSectors}
 use Rattle.zst_image.specs.Reads.{RunsBy, bound_of, free_by}
-use Rattle.zst_pool.specs.Cost.{cost_of}
+use Rattle.zst_pool.specs.Cost.{FindsLess, cost_of}
 use Rattle.zst_pool.specs.Damage.{IsOf, TellsDamage}
 use Rattle.zst_pool.specs.Faults.{is_disk_fault, is_full, tells_full}
 use Rattle.zst_pool.specs.Plans.{Plans, indices_end, numbers_end}
@@ -16,12 +16,12 @@ use Rattle.zst_pool.specs.StepAnswers.{StepAnswer}
 use Rattle.zst_pool.specs.declared.fault.PoolFault.{PoolFault}
 use Rattle.zst_pool.specs.declared.fault.PoolFault.TheVariants.{Failed, OutOfMemory}
 use Rattle.zst_image.proofs.PlainReads.{RunsBy-plain}
-use Rattle.zst_pool.proofs.QuerySteps.{on_err, rests_read, since_read, spares_read, spends_none, told_rests}
+use Rattle.zst_pool.proofs.QuerySteps.{finds_none, on_err, rests_read, since_read, spares_read, spends_none, told_rests}
 use Rattle.zst_pool.proofs.CommandParts.{or_false}
 use Rattle.zst_pool.proofs.EventEnds.{settles_committed, settles_err, settles_failed, runs_settled, settles_ok, settles_told, step_failed}
 use Rattle.zst_pool.proofs.PlanLemmas.{plans_err, plans_ok}
 use Rattle.zst_pool.proofs.Replies.{step_reply}
-use Rattle.zst_pool.proofs.StepCosts.{spends_apart, spends_err, spends_ok, spares_err}
+use Rattle.zst_pool.proofs.StepCosts.{blocks_err, blocks_spared, spends_apart, spends_err, spends_ok, spares_err}
 use Rattle.zst_pool.proofs.PoolsAtRest.{commit_next_of, free_by_fits}
 use Rattle.zst_pool.proofs.pool.Pool.step.Goals as goal
 
@@ -60,8 +60,10 @@ returns g c =
             let spends = runs.ran.spends in
             (spends.0, spends.1, spends_ok cost.cells spends.0 pool.kept c.run-ran.new.io.space settled.new.self.kept c.in_ok-reply.reply settled.new.self.io.space spends.2);
         exact = λ running told standing rested. spends_ok cost.cells (cost.block running) pool.kept c.run-ran.new.io.space settled.new.self.kept c.in_ok-reply.reply settled.new.self.io.space (runs.ran.exact running told rested);
+        short = λ running told standing rested. tt;
         spares = λ apart. tt;
         damaged = λ told. tt;
+        blocks = λ apart. runs.ran.blocks;
       };
       planned = λ standing left. plans_ok (stepped [] c.args.now c.args.command) (numbers_end c.args.command) (indices_end c.args.command) pool.kept settled.new.self.kept c.in_ok-reply.reply (subst plans (sym keeps.kept) c.run-ran.ensures.does.plans);
       sound = λ running done rested sound made. c.steps_keep_sound.ensures [] c.args.now c.args.command running done c.requires.command rested.lawful sound made;
@@ -97,8 +99,11 @@ returns-in_err-settle_command g c =
         spends = λ standing. let spends = runs.ran.spends in (spends.0, spends.1, spends_err cost.cells spends.0 pool.kept c.run-ran.new.io.space settled.new.self.kept fault fell.result settled.new.self.io.space same left spends.2);
         exact = λ running told standing rested.
             spends_err cost.cells (cost.block running) pool.kept c.run-ran.new.io.space settled.new.self.kept fault fell.result settled.new.self.io.space same left (runs.ran.exact running told rested);
+        short = λ running told standing rested.
+            subst (λ (r : Result (List (List ℕ)) PoolFault). IfErr r (FindsLess cost.cells (cost.block running) pool.kept.body (stepped [] c.args.now c.args.command running))) (sym same) (runs.ran.short running told rested);
         spares = spares_err _ fault fell.result same runs.ran.spares;
         damaged = λ told. subst (λ (r : Result (List (List ℕ)) PoolFault). IfErr r (IsOf Is)) (sym same) (runs.damaged told);
+        blocks = blocks_err (g.D.Disk.state pool.io.disk.now).seen here.seen pool.kept settled.new.self.kept fault fell.result same keeps.stays runs.ran.spares;
       };
       planned = λ standing none. plans_err (stepped [] c.args.now c.args.command) (numbers_end c.args.command) (indices_end c.args.command) pool.kept fault same (subst plans (sym keeps.kept) c.run-ran.ensures.does.plans);
       sound = λ running done rested sound made. c.steps_keep_sound.ensures [] c.args.now c.args.command running done c.requires.command rested.lawful sound made;
@@ -126,8 +131,11 @@ returns-in_err-reply g c =
         open_still = λ standing is. cc (same, is);
         spends = λ standing. (0, omega arith, spends_apart cost.cells 0 pool.kept c.new-2.result pool.kept OutOfMemory fell.result same (λ need largest is. cc));
         exact = λ running told standing rested. spends_apart cost.cells (cost.block running) pool.kept c.new-2.result pool.kept OutOfMemory fell.result same (λ need largest is. cc);
+        short = λ running told standing rested.
+            subst (λ (r : Result (List (List ℕ)) PoolFault). IfErr r (FindsLess cost.cells (cost.block running) pool.kept.body (stepped [] c.args.now c.args.command running))) (sym same) (λ need largest is. absurd (cc));
         spares = λ apart. on_err fell.result (spares_read here here pool.kept reads);
         damaged = λ told. subst (λ (r : Result (List (List ℕ)) PoolFault). IfErr r (IsOf Is)) (sym same) (λ sector stated found is. absurd (cc));
+        blocks = λ apart ptr bytes has. has;
       };
       planned = λ standing left. absurd (left same);
       sound = λ running done rested sound made. c.steps_keep_sound.ensures [] c.args.now c.args.command running done c.requires.command rested.lawful sound made;
@@ -181,8 +189,10 @@ returns-then-not-commits g c =
         open_still = λ standing. is.open_still;
         spends = λ standing. (0, omega arith, spends_none cost.cells 0 pool.kept c.tell.new.io.space result looks.never_full);
         exact = λ running told standing rested. spends_none cost.cells (cost.block running) pool.kept c.tell.new.io.space result looks.never_full;
+        short = λ running told standing rested. finds_none cost.cells (cost.block running) pool.kept.body (stepped [] c.args.now c.args.command running) result looks.never_full;
         spares = λ apart. on_err result (spares_read old new pool.kept looks.reads);
         damaged = is.damaged;
+        blocks = λ apart. blocks_spared old.seen new.seen pool.kept pool.kept refl (spares_read old new pool.kept looks.reads);
       };
       planned = λ standing left. (c.tell.ensures.does c.args.now).plans;
       sound = λ running done rested sound made. c.steps_keep_sound.ensures [] c.args.now c.args.command running done c.requires.command rested.lawful sound made;

@@ -1,5 +1,5 @@
 use Rattle.std.proofs.Common.{◌≡◌, ◌&&◌, ◌++◌, ◌||◌, Bool, true, false, cond, Some, None, Ok, Err, refl, sym, ap, ◌∙◌, subst, arith, ◌⊎◌}
-use Rattle.std.specs.Prelude.{◌+◌, ◌-◌, ◌≤◌, ℕ, IsSome, List, [], Result, length, not, sum_by}
+use Rattle.std.specs.Prelude.{◌+◌, ◌-◌, ◌≤◌, ℕ, IfSome, IsSome, List, [], Result, length, not, sum_by}
 use Rattle.std.proofs.lemmas.List.{length-append}
 use Rattle.std.proofs.lemmas.Bool.{not-true, not-false}
 use Rattle.zst_space.specs.FreeSectors.{FreeSectors}
@@ -29,7 +29,7 @@ use Rattle.zst_recv.specs.ReceiveSteps.{Batch, Stage, at_stage, is_kept, left_by
 use Rattle.zst_recv.specs.Answers.{is_done}
 use Rattle.zst_recv.specs.Feeds.{new_records}
 use Rattle.zst_recv.specs.Commits.{Puts}
-use Rattle.zst_recv.specs.Stages.{HasRead, IsBatch, IsStage, Receives, StageFits, TellsBefore, has_partial, is_live, received_at, waits_at}
+use Rattle.zst_recv.specs.Stages.{HasRead, IsBatch, IsStage, Receives, StageFits, TellsBefore, has_partial, is_live, kept_without, received_at, waits_at}
 use Rattle.zst_recv.specs.TakenRecords.{Reads, TakesAll, fault_in, taken_of}
 use Rattle.zst_recv.specs.declared.batch.Batch as batches
 use Rattle.zst_recv.specs.declared.recv.FeedReport as coded_recv
@@ -45,7 +45,7 @@ use Rattle.zst_recv.specs.declared.fault.RecvFault.{RecvFault}
 use Rattle.zst_recv.specs.declared.fault.RecvFault.TheVariants as faults
 use Rattle.zst_recv.proofs.DamageLemmas.{damaged_renewed, err_told, told_call}
 use Rattle.zst_recv.proofs.HandedRecords.{over_reads}
-use Rattle.zst_recv.proofs.FeedEnds.{behind_fits, both_false, by_test, fed_so, first_stage, first_way, fits_within, kept_is, known_call, left_rests, live_behind, live_fits, loose, lost, over_fits, received_then, stopped, too_long, unmade, untaken_stands, waits_behind}
+use Rattle.zst_recv.proofs.FeedEnds.{behind_fits, both_false, by_test, fed_so, first_stage, first_way, fits_within, kept_is, known_call, left_rests, live_behind, live_fits, loose, lost, over_fits, received_for, received_then, stopped, too_long, unmade, untaken_stands, waits_behind}
 use Rattle.zst_stream.specs.Reading.{reading, waiting}
 use Rattle.zst_recv.specs.Costs.{PieceIsShort, Spends, records_behind}
 use Rattle.zst_recv.proofs.CostLemmas.{full_keeps_none, piece_grows, same_pool, short_put, short_read}
@@ -147,6 +147,13 @@ left g c {tight = tight} running text stage is now after rests =
     let recv = c.args.self.now in
     left_rests (bound_of tight running.number) (Has (g.D.Disk.state c.args.pool.now.io.disk.now).seen (free_by c.args.pool.now.kept.body)) c.args.pool.now.kept.dir recv.ask.target recv.stage stage running now after
     c.has_partial-held.result c.has_partial-held.ensures is.stands c.requires.recv.stage rests
+
+-- and all that was kept, but for a partial state of the target that isn't kept
+left_kept : (g : Over) (c : After-has_partial-held g) (before after : PoolState) → after ≡ kept_without c.has_partial-held.result c.args.self.now.ask.target before → before ≡ c.args.pool.now.kept
+    → after ≡ kept_without (has_partial c.args.self.now.stage) c.args.self.now.ask.target c.args.pool.now.kept
+left_kept g c before after left same =
+    let target = c.args.self.now.ask.target in
+    left ∙ ap (λ (k : PoolState). kept_without c.has_partial-held.result target k) same ∙ ap (λ (held : Bool). kept_without held target c.args.pool.now.kept) c.has_partial-held.ensures
 
 pub returns-then-piece-started-clause-feeds : goal.returns-then-piece-started-clause-feeds
 returns-then-piece-started-clause-feeds g c = λ tight running text stage told alive rested tells is.
@@ -392,7 +399,7 @@ returns-then-piece-started-clause-pool g c =
     let fault = faults.Pool (pools.Plan (plans.Limit quantities.Stream stream_limit)) in
     let last = c.give_up.ensures.io in
     subst (λ (f : RecvFault). LeavesPool pool gave.new.pool (Err f)) (sym (gave.ensures.fault ∙ c.too_long.ensures))
-    (leaves_refused pool gave.new.pool c.if-pool.false fault pool.io last tt (λ need largest is. gave.ensures.body)
+    (leaves_refused pool gave.new.pool c.if-pool.false fault pool.io last tt (λ keeps. gave.ensures.body)
     (λ alive. subst (Ready (g.D.Disk.state pool.io.disk.now)) (sym gave.ensures.body) (c.requires.ready c.if-pool.false)) (λ whole. refl) c.if-pool.false (record { later = omega arith; fault = λ is. absurd (cc is) }) (λ told. told) refl)
 
 pub returns-then-piece-started-clause-receive : goal.returns-then-piece-started-clause-receive
@@ -450,7 +457,7 @@ returns-in-Err-2-clause-pool g c =
     let stop = ap (λ (r : Result (Unit {0}) RecvFault). stop_of r) c.in-Err.is in
     let can = can_commit g at in
     subst (λ (f : RecvFault). LeavesPool pool gave.new.pool (Err f)) (sym gave.ensures.fault)
-    (leaves_refused pool gave.new.pool c.if-pool.false fault c.read.new.io gave.ensures.io c.in-Err.ensures.writes.known (λ need largest is. gave.ensures.body ∙ ap (λ (k : PoolState). k.body) c.renew.ensures.kept)
+    (leaves_refused pool gave.new.pool c.if-pool.false fault c.read.new.io gave.ensures.io c.in-Err.ensures.writes.known (λ keeps. gave.ensures.body ∙ ap (λ (k : PoolState). k.body) c.renew.ensures.kept)
     (λ alive. subst (Ready (g.D.Disk.state c.read.new.io.disk.now)) (sym gave.ensures.body) can.ready) (λ whole. read_told g at (ap is_damage stop ∙ whole)) (read_failed g at ∙ ap fails stop)
     (subst (HasCause (g.D.Disk.state pool.io.disk.now).faults (g.D.Disk.state c.read.new.io.disk.now).faults) stop (read_cause g at)) (read_honest g at) (read_same g at))
 
@@ -500,7 +507,7 @@ returns-in-Err-put-clause-pool g c =
     let e = c.in-Err-put.ensures.commits in
     let read = read_cause g at in
     subst (λ (f : RecvFault). LeavesPool pool gave.new.pool (Err f)) (sym gave.ensures.fault)
-    (leaves_refused pool gave.new.pool c.if-pool.false (faults.Pool fault) put.io gave.ensures.io (known_call fault e.known) (λ need largest is. gave.ensures.body ∙ ap (λ (k : PoolState). k.body) (e.stays ∙ c.renew.ensures.kept))
+    (leaves_refused pool gave.new.pool c.if-pool.false (faults.Pool fault) put.io gave.ensures.io (known_call fault e.known) (λ keeps. gave.ensures.body ∙ ap (λ (k : PoolState). k.body) (e.stays ∙ c.renew.ensures.kept))
     (λ alive. subst (Ready (g.D.Disk.state put.io.disk.now)) (sym gave.ensures.body) (e.ready alive)) (λ whole. e.told (damage_put fault whole) ∙ read_told g at (ap (λ (r : Result (Unit {0}) RecvFault). is_damage (stop_of r)) c.in-Ok.is)) (e.failed ∙ failed_put fault)
     (cause_put fault (g.D.Disk.state pool.io.disk.now).faults (g.D.Disk.state c.read.new.io.disk.now).faults (g.D.Disk.state put.io.disk.now).faults read.later e.cause) (λ told. read_honest g at (e.honest told)) (e.same ∙ read_same g at))
 
@@ -551,7 +558,7 @@ returns-in-Err-put-2-clause-pool g c =
     let read = read_cause g at in
     let none = kept_none c.in-Err.fault (sym c.keeps_before.ensures ∙ c.if-keeps_before.true) in
     subst (λ (f : RecvFault). LeavesPool pool gave.new.pool (Err f)) (sym gave.ensures.fault)
-    (leaves_refused pool gave.new.pool c.if-pool.false (faults.Pool fault) put.io gave.ensures.io (known_call fault e.known) (λ need largest is. gave.ensures.body ∙ ap (λ (k : PoolState). k.body) (e.stays ∙ c.renew.ensures.kept))
+    (leaves_refused pool gave.new.pool c.if-pool.false (faults.Pool fault) put.io gave.ensures.io (known_call fault e.known) (λ keeps. gave.ensures.body ∙ ap (λ (k : PoolState). k.body) (e.stays ∙ c.renew.ensures.kept))
     (λ alive. subst (Ready (g.D.Disk.state put.io.disk.now)) (sym gave.ensures.body) (e.ready alive)) (λ whole. e.told (damage_put fault whole) ∙ read_told g at (ap (λ (r : Result (Unit {0}) RecvFault). is_damage (stop_of r)) c.in-Err.is ∙ ap is_damage none)) (e.failed ∙ failed_put fault)
     (cause_put fault (g.D.Disk.state pool.io.disk.now).faults (g.D.Disk.state c.read.new.io.disk.now).faults (g.D.Disk.state put.io.disk.now).faults read.later e.cause) (λ told. read_honest g at (e.honest told)) (e.same ∙ read_same g at))
 
@@ -601,7 +608,7 @@ returns-in-Ok-put-2-clause-pool g c =
     let keeps = sym c.keeps_before.ensures ∙ c.if-keeps_before.true in
     let none = kept_none fault keeps in
     let read = read_cause g at in
-    leaves_refused pool put c.if-pool.false fault put.io refl c.in-Err.ensures.writes.known (λ need largest is. absurd (full_keeps_none fault need largest keeps is))
+    leaves_refused pool put c.if-pool.false fault put.io refl c.in-Err.ensures.writes.known (λ none. absurd (let both : true ≡ false = sym keeps ∙ none in cc both))
     e.ready (λ whole. e.told refl ∙ read_told g at (ap (λ (r : Result (Unit {0}) RecvFault). is_damage (stop_of r)) c.in-Err.is ∙ whole)) (e.failed ∙ ap fails (sym none))
     (subst (HasCause (g.D.Disk.state pool.io.disk.now).faults (g.D.Disk.state put.io.disk.now).faults) (sym none)
     (cause_none (g.D.Disk.state pool.io.disk.now).faults (g.D.Disk.state c.read.new.io.disk.now).faults (g.D.Disk.state put.io.disk.now).faults _ read.later e.cause)) (λ told. read_honest g at (e.honest told)) (e.same ∙ read_same g at)
@@ -697,7 +704,43 @@ returns-in-Ok-put-clause-receive g c =
       received = λ done.
           let over : is_live batch.stage ≡ false = not-true (is_live batch.stage) (sym c.go_on.ensures.done ∙ done) in
           subst (λ (s : coded.Stage). IsSome (received_at s)) (sym c.go_on.ensures.stage) (received_then c.renew.new.self.kept.dir target batch.stage (read_fits g (goal.at.returns-in-Ok-put-clause-receive g c).After-read) over);
+      of_target = λ done.
+          subst (λ (s : coded.Stage). IfSome (received_at s) (λ made. made.target ≡ target)) (sym c.go_on.ensures.stage)
+          (received_for c.renew.new.self.kept.dir target batch.stage (read_fits g (goal.at.returns-in-Ok-put-clause-receive g c).After-read));
       waited = λ waits.
           let still = waits_behind batch.stage (ap waits_at (sym c.go_on.ensures.stage) ∙ waits) in
           ap waits_at (sym (ap (λ (b : batches.Batch). b.stage) (c.read.ensures.gathers.waits still) ∙ c.new-batch.ensures.stage ∙ c.replace.ensures.value)) ∙ still;
     }
+
+-- ---- what a refusal leaves
+
+pub returns-then-pool-clause-refused : goal.returns-then-pool-clause-refused
+returns-then-pool-clause-refused g c = λ fault alive is keeps. absurd (let both : true ≡ false = sym c.if-pool.true ∙ alive in cc both)
+
+pub returns-then-piece-started-clause-refused : goal.returns-then-piece-started-clause-refused
+returns-then-piece-started-clause-refused g c = λ fault alive is keeps.
+    left_kept g (goal.at.returns-then-piece-started-clause-refused g c).After-has_partial-held c.args.pool.now.kept c.give_up.new.pool.kept c.give_up.ensures.kept refl
+
+pub returns-in-Err-2-clause-refused : goal.returns-in-Err-2-clause-refused
+returns-in-Err-2-clause-refused g c = λ fault alive is keeps.
+    let gave = c.give_up-in-Err-2 in
+    left_kept g (goal.at.returns-in-Err-2-clause-refused g c).After-has_partial-held c.renew.new.self.kept gave.new.pool.kept gave.ensures.kept c.renew.ensures.kept
+
+pub returns-in-Err-put-clause-refused : goal.returns-in-Err-put-clause-refused
+returns-in-Err-put-clause-refused g c = λ fault alive is keeps.
+    let gave = c.give_up-in-Err-put in
+    left_kept g (goal.at.returns-in-Err-put-clause-refused g c).After-has_partial-held c.put.new.pool.kept gave.new.pool.kept gave.ensures.kept (c.in-Err-put.ensures.commits.stays ∙ c.renew.ensures.kept)
+
+pub returns-in-Err-put-2-clause-refused : goal.returns-in-Err-put-2-clause-refused
+returns-in-Err-put-2-clause-refused g c = λ fault alive is keeps.
+    let gave = c.give_up-in-Err-put-2 in
+    left_kept g (goal.at.returns-in-Err-put-2-clause-refused g c).After-has_partial-held c.put-in-Err.new.pool.kept gave.new.pool.kept gave.ensures.kept (c.in-Err-put-2.ensures.commits.stays ∙ c.renew.ensures.kept)
+
+pub returns-in-Ok-put-2-clause-refused : goal.returns-in-Ok-put-2-clause-refused
+returns-in-Ok-put-2-clause-refused g c = λ fault alive is keeps.
+    absurd (let kept : keeps_before c.in-Err.fault ≡ true = sym c.keeps_before.ensures ∙ c.if-keeps_before.true in
+    let none : keeps_before c.in-Err.fault ≡ false = ap keeps_before (err_told coded_recv.FeedReport c.in-Err.fault fault is) ∙ keeps in
+    let both : true ≡ false = sym kept ∙ none in cc both)
+
+pub returns-in-Ok-put-clause-refused : goal.returns-in-Ok-put-clause-refused
+returns-in-Ok-put-clause-refused g c = λ fault alive is keeps. absurd (cc is)
