@@ -27,8 +27,13 @@ pub(crate) enum Trial {
     Cut,
     /// These bits of a byte of the input are turned.
     Turned(u8),
-    /// These bits of a byte of the image are turned, from a place to another.
-    ImageTurned { bits: u8, from: usize, to: usize },
+    /// These bits of a byte of the image are turned, from a place to another, of every so many bytes.
+    ImageTurned {
+        bits: u8,
+        from: usize,
+        to: usize,
+        every: usize,
+    },
 }
 
 /// What is asked of the line that follows.
@@ -52,15 +57,20 @@ fn fills_of(alloc: Global, words: &str) -> Result<Vec<u8>, AllocError> {
     Ok(fills)
 }
 
-/// The bits that are turned in each byte of the image from a place to another, as words say them.
-fn turned_image(alloc: Global, words: &str) -> Result<Option<Ask>, AllocError> {
+/// The bits that are turned in one of every so many bytes of the image, from a place to another, as words say them.
+fn turned_image(alloc: Global, words: &str, every: usize) -> Result<Option<Ask>, AllocError> {
     let mut words = words.split(' ');
     let (Some(bits), Some(from), Some(to)) = (words.next(), words.next(), words.next()) else {
         return Ok(None);
     };
     let bits = bytes_of(alloc, bits)?.and_then(|bits| bits.first().copied());
     Ok(match (bits, from.parse::<usize>(), to.parse::<usize>()) {
-        (Some(bits), Ok(from), Ok(to)) => Some(Ask::Each(Trial::ImageTurned { bits, from, to })),
+        (Some(bits), Ok(from), Ok(to)) => Some(Ask::Each(Trial::ImageTurned {
+            bits,
+            from,
+            to,
+            every,
+        })),
         _ => None,
     })
 }
@@ -68,7 +78,10 @@ fn turned_image(alloc: Global, words: &str) -> Result<Option<Ask>, AllocError> {
 /// What the words of a line ask of the one that follows.
 pub(crate) fn ask_of(alloc: Global, text: &str) -> Result<Option<Ask>, AllocError> {
     if let Some(words) = text.strip_prefix("each byte of the image turned ") {
-        return turned_image(alloc, words);
+        return turned_image(alloc, words, 1);
+    }
+    if let Some(words) = text.strip_prefix("each sector of the image turned ") {
+        return turned_image(alloc, words, 512);
     }
     if let Some(bits) = text.strip_prefix("each byte turned ") {
         let bits = bytes_of(alloc, bits)?.and_then(|bits| bits.first().copied());
@@ -203,8 +216,14 @@ fn one_try(
         }
         Trial::NoteFails => noted(alloc, line, whole, ends, number),
         Trial::DiskStopsEachWay => Ok(None),
-        Trial::ImageTurned { bits, from, to } => {
-            on_turned_image(alloc, line, whole, *bits, (*from, *to), number)
+        Trial::ImageTurned {
+            bits,
+            from,
+            to,
+            every,
+        } => {
+            let skipped = number.saturating_mul(*every as u64);
+            on_turned_image(alloc, line, whole, *bits, (*from, *to), skipped)
         }
         Trial::Cut | Trial::Turned(_) => given(alloc, line, trial, whole, ends, number),
     }
@@ -331,16 +350,16 @@ fn given(
     Ok(Some(label))
 }
 
-/// A line on whose image these bits of the byte of this number in a range are turned, None where the range has no such byte.
+/// A line on whose image these bits of a byte in a range are turned, behind so many others; None where the range has no such byte.
 fn on_turned_image(
     alloc: Global,
     line: &Line,
     whole: &Answer,
     bits: u8,
     (from, to): (usize, usize),
-    number: u64,
+    skipped: u64,
 ) -> Result<Option<String>, AllocError> {
-    let place = usize::try_from(number)
+    let place = usize::try_from(skipped)
         .unwrap_or(usize::MAX)
         .saturating_add(from);
     let Some(image) = &line.image else {

@@ -153,7 +153,7 @@ module _ (definition : Pool → Result Stepped Refusal) (cost : Cost) (kept : Po
       spends (Err commits.OutOfMemory) done takes refused block works = record { full = λ n l same. absurd (cc); grows = tt }
 
       finds_less : (r : Result PoolState CommitFault) → TakesForDir dir mid.space new.space r → (running : Pool) → MakesNamed (definition running) dir
-          → Works cost.cells (cost.block running) (rested old.disk old.failed old.reference kept) mid None → IfErr (of_committed r) (FindsLess cost.cells (cost.block running) kept.body (definition running))
+          → Works cost.cells (cost.block running) (rested old.disk old.failed old.checksum_errors old.reference kept) mid None → IfErr (of_committed r) (FindsLess cost.cells (cost.block running) kept.body (definition running))
       finds_less (Ok next) takes running named works = tt
       finds_less (Err (commits.Full need largest)) takes running named works = λ n l same.
           let told = takes.full need largest refl in inr (dir, named, omega (arith, told.before, works.takes.longest))

@@ -28,11 +28,9 @@ use Rattle.zst_pool.specs.declared.fault.PoolFault.{PoolFault}
 use Rattle.zst_pool.specs.declared.fault.PoolFault.TheVariants as pools
 use Rattle.zst_recv.specs.Faults.{recv_refusal}
 use Rattle.zst_recv.specs.ReceiveSteps.{Waits}
-use Rattle.zst_recv.specs.Stages.{TellsTarget}
 use Rattle.zst_recv.specs.declared.fault.RecvFault.{RecvFault}
 use Rattle.zst_recv.specs.declared.fault.RecvFault.TheVariants as faults
-use Rattle.zst_send.proofs.SetDates.{rows_tell}
-use Rattle.zst_run.specs.Receives.{DatesAreTold, IsDamagedReceive, IsOnTheWay, IsReceiveRefusal, ReceiveEnds, ReceiveRan, Receiving, SaysOfPlan, Stopped, CostMore}
+use Rattle.zst_run.specs.Receives.{IsTightOrNew, IsDamagedReceive, IsOnTheWay, IsReceiveRefusal, ReceiveEnds, ReceiveRan, Receiving, SaysOfPlan, Stopped, CostMore}
 use Rattle.zst_run.specs.ReceiveTurns.{ReadsAlong, Fed, IsEnd, IsReady, told}
 use Rattle.zst_run.specs.declared.receive.Receipt.{Receipt}
 use Rattle.zst_run.proofs.CommandLemmas.{images_after, open_alive, open_disk, rests_read}
@@ -97,10 +95,10 @@ unopened whole ask here here' input fault there answer reads synced cause = reco
   pieces = [];
   are_pieces = tt;
   consumed = sym (append-nil input.given);
-  wanted = λ tight uber rows pool told is dates n less. absurd (omega (arith, less));
-  moments = λ tight uber rows pool told is dates. Leaves-weaker here here' here.images (IsOnTheWay tight here ask pool []) reads.time (λ c image. inl image);
-  images = λ tight uber rows pool told is dates c image. inl (reads.crash c image);
-  ends = λ tight uber rows pool told is dates.
+  wanted = λ tight uber rows pool told is may n less. absurd (omega (arith, less));
+  moments = λ tight uber rows pool told is may. Leaves-weaker here here' here.images (IsOnTheWay tight here ask pool []) reads.time (λ c image. inl image);
+  images = λ tight uber rows pool told is may c image. inl (reads.crash c image);
+  ends = λ tight uber rows pool told is may.
       unopened_ends tight ask here' input uber rows pool fault (whole.0 pool (whole.1 tight uber rows pool here.seen is)) (there tight uber rows pool told is)
       (λ alive. rests_read here here' uber rows pool is reads (synced alive));
   opened = λ told. idle_says (List (List ℕ)) (OnlyReads here here' × (input ≡ input)) here (ReceiveRan ask [] here (Err (open_refusal fault))) fault (reads, refl) (answer told);
@@ -174,11 +172,6 @@ module _ (here mid here' : DiskState) (input input' : SourceState) where
   refused_in (Ok lines) later is = tt
   refused_in (Err refusal) later is = whole_refusal refusal later is
 
--- tight sets tell the dates of their heads
-told_target : (tight : Bool) (ask : RecvAsk) (uber : Uber) (rows : Rows) (pool : Pool) (image : List ℕ) → ReadsAs tight uber rows pool image → DatesAreTold tight ask rows pool → TellsTarget ask rows pool
-told_target true ask uber rows pool image is dates = λ there. rows_tell pool.number image (free_by uber) (kept_rows rows) pool is.described.rows_are
-told_target false ask uber rows pool image is dates = dates
-
 told_err : (old now : DiskState) (input input' : SourceState) (result : Result Receipt Refusal) → IfErr result (IsEnd old now input input') → IfErr (told result) (IsEnd old now input input')
 told_err old now input input' (Ok receipt) is = tt
 told_err old now input input' (Err refusal) is = is
@@ -191,15 +184,15 @@ module _ (ask : RecvAsk) (here mid here' : DiskState) (input input' : SourceStat
     (later : here.faults ≤ mid.faults) (falls : here'.honest → mid.honest) (f : Fed (λ tight. IsReady ask tight mid kept) kept mid here' ask input input' (told result)) (plans : (text : List ℕ) → Gave input input' text → SaysOfPlan kept.dir ask text (told result))
     (damaged : (sector : ℕ) (stated found : List ℕ) → here'.honest → result ≡ Err (refusals.Damaged sector stated found) → IsDamagedReceive mid kept.body ask.target sector stated found)
     (only : (c : List ℕ) → here.left_since here.moment c → here.images c) (now_left : (t : ℕ) (c : List ℕ) → t ≤ here'.moment → here'.images c → here'.left_since t c) where
-  ready : (tight : Bool) (uber : Uber) (rows : Rows) (pool : Pool) → here'.honest → ReadsAs tight uber rows pool here.seen → DatesAreTold tight ask rows pool → IsReady ask tight mid kept pool
-  ready tight uber rows pool honest is dates =
+  ready : (tight : Bool) (uber : Uber) (rows : Rows) (pool : Pool) → here'.honest → ReadsAs tight uber rows pool here.seen → IsTightOrNew tight ask pool → IsReady ask tight mid kept pool
+  ready tight uber rows pool honest is may =
       let same = (there tight uber rows pool (falls honest) is).1 in
-      (at_rest tight rows pool (stands tight uber rows pool (falls honest) is) same, subst (λ (r : Rows). TellsTarget ask r pool) (sym same) (told_target tight ask uber rows pool here.seen is dates))
+      (at_rest tight rows pool (stands tight uber rows pool (falls honest) is) same, may)
 
-  moments : (tight : Bool) (uber : Uber) (rows : Rows) (pool : Pool) → here'.honest → ReadsAs tight uber rows pool here.seen → DatesAreTold tight ask rows pool → Leaves here here' (IsOnTheWay tight here ask pool f.pieces)
-  moments tight uber rows pool honest is dates =
+  moments : (tight : Bool) (uber : Uber) (rows : Rows) (pool : Pool) → here'.honest → ReadsAs tight uber rows pool here.seen → IsTightOrNew tight ask pool → Leaves here here' (IsOnTheWay tight here ask pool f.pieces)
+  moments tight uber rows pool honest is may =
       Leaves-then here mid here' (IsOnTheWay tight here ask pool f.pieces) (ReadsAlong tight ask pool f.pieces)
-      (Leaves-weaker here mid here.images (IsOnTheWay tight here ask pool f.pieces) reads.time (λ c image. inl image)) (f.says tight pool honest (ready tight uber rows pool honest is dates)).moments (λ c along. inr along)
+      (Leaves-weaker here mid here.images (IsOnTheWay tight here ask pool f.pieces) reads.time (λ c image. inl image)) (f.says tight pool honest (ready tight uber rows pool honest is may)).moments (λ c along. inr along)
 
   pub opened : IfErr result (IsEnd mid here' input input') → mid.faults ≤ here'.faults → input.faults ≤ input'.faults → Receiving ask here here' input input' (told result)
   opened refused still input_later =
@@ -208,11 +201,11 @@ module _ (ask : RecvAsk) (here mid here' : DiskState) (input input' : SourceStat
         pieces = f.pieces;
         are_pieces = f.are_pieces;
         consumed = f.consumed;
-        wanted = λ tight uber rows pool honest is dates. (f.says tight pool honest (ready tight uber rows pool honest is dates)).wanted;
+        wanted = λ tight uber rows pool honest is may. (f.says tight pool honest (ready tight uber rows pool honest is may)).wanted;
         moments = moments;
-        images = λ tight uber rows pool honest is dates.
-            images_after here here' (IsOnTheWay tight here ask pool f.pieces) (moments tight uber rows pool honest is dates) (λ c image. inl image) only now_left;
-        ends = λ tight uber rows pool honest is dates. (f.says tight pool honest (ready tight uber rows pool honest is dates)).ends;
+        images = λ tight uber rows pool honest is may.
+            images_after here here' (IsOnTheWay tight here ask pool f.pieces) (moments tight uber rows pool honest is may) (λ c image. inl image) only now_left;
+        ends = λ tight uber rows pool honest is may. (f.says tight pool honest (ready tight uber rows pool honest is may)).ends;
         opened = λ honest. let was = answers (falls honest) in
             ran_says (OnlyReads here here' × (input' ≡ input)) here (ReceiveRan ask f.pieces here (told result)) (told result) (
               kept.body,

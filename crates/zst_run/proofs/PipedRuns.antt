@@ -35,7 +35,7 @@ use Rattle.zst_replication.specs.Outcomes.{HasNothing, HasOneMore, Progress, bas
 use Rattle.zst_replication.specs.Replicas.{AreOfStream, CutLeavesNothing, IsSendable, LeftIsKept, MatchesBase, SentIsReceived, WaitedForEach}
 use Rattle.zst_replication.specs.Replicas as replicas
 use Rattle.zst_replication.specs.Soundness.{ReceivesKeepSound}
-use Rattle.zst_run.specs.Receives.{DatesAreTold, IsOnTheWay, Keeps, ReceiveEnds, Received, Receiving, Refused, Stopped, Waited}
+use Rattle.zst_run.specs.Receives.{IsTightOrNew, IsOnTheWay, Keeps, ReceiveEnds, Received, Receiving, Refused, Stopped, Waited}
 use Rattle.zst_run.specs.Replication.{IsReadOf, IsReceiver, IsSender, RefusedLeavesNothing, SentSnapshotStands, SoundStaysSound, SourcesStillRemember, StopsAreProgress}
 use Rattle.zst_run.specs.Replies.{Replied, Replies}
 use Rattle.zst_run.specs.declared.send.SendRequest.{SendRequest}
@@ -128,7 +128,7 @@ snapshot_stands keeps fits law kept here here' there there' tight ask receive fr
     let text = text_sent (Named ask) from sent here here' out out' piped.0 sender.reads sender.is honest sends piped.1 in
     let of : AreOfStream run.pieces sent None =
     pieces_read (begun_text sent None) input input' run.pieces (subst (λ (t : List ℕ). IsReadOf t input input') text piped.2) run.consumed in
-    let end = received_so tight receive into run.pieces there' input input' other other' received.answer (run.ends tight receiver.uber receiver.rows into receiver.honest receiver.reads receiver.tells) received.replied in
+    let end = received_so tight receive into run.pieces there' input input' other other' received.answer (run.ends tight receiver.uber receiver.rows into receiver.honest receiver.reads receiver.may) received.replied in
     let done = end.1 in
     let one = law sent receive into done.after done.partial run.pieces (sendable fits tight ask receive from into sent here there there' sender receiver)
     (into_is fits tight ask receive from into sent here there there' sender receiver) receiver.alone
@@ -203,7 +203,7 @@ EachImage Holds tight there there' =
 
 pub each_image : (Holds : Pool → Type 0) (there there' : DiskState) (tight : Bool) (ask : RecvAsk) (uber : Uber) (rows : Rows) (into : Pool) (result : Result (Unit {0}) Refusal)
     (out out' : SinkState) (input input' : SourceState)
-    → there'.honest → ReadsAs tight uber rows into there.seen → DatesAreTold tight ask rows into → (received : Replies (Receiving ask there there' input input') out out' result)
+    → there'.honest → ReadsAs tight uber rows into there.seen → IsTightOrNew tight ask into → (received : Replies (Receiving ask there there' input input') out out' result)
     → ((n : ℕ) → Holds (kept_of (pool_of (receives ask into (take n received.does.pieces))))) → EachImage Holds tight there there'
 each_image Holds there there' tight ask uber rows into result out out' input input' honest reads tells received holds =
     let run = received.does in
@@ -221,7 +221,7 @@ stops_so keeps fits law here there there' tight ask receive from into sent compo
     let run = received.does in
     let of : AreOfStream run.pieces sent None = pieces_read (begun_text sent None) input input' run.pieces read run.consumed in
     let course = course_from component base in
-    each_image (Progress receive (sent_view sent) course into) there there' tight receive receiver.uber receiver.rows into result out out' input input' receiver.honest receiver.reads receiver.tells received
+    each_image (Progress receive (sent_view sent) course into) there there' tight receive receiver.uber receiver.rows into result out out' input input' receiver.honest receiver.reads receiver.may received
     (λ n. subst (λ (p : Pool). Progress receive (sent_view sent) course p (kept_of (pool_of (receives receive into (take n run.pieces)))))
     (whole keeps tight receiver.uber receiver.rows into there.seen receiver.reads)
     (law sent receive into component base (take n run.pieces) (sendable fits tight ask receive from into sent here there there' sender receiver)

@@ -24,7 +24,7 @@ use Rattle.zst_recv.specs.Answers.{received_of}
 use Rattle.zst_recv.specs.Faults.{IsFeedFault, recv_refusal, stop_at}
 use Rattle.zst_recv.specs.ReceiveSteps.{Stage, Waits, left_by}
 use Rattle.zst_recv.specs.Stages as standing
-use Rattle.zst_recv.specs.Stages.{TellsTarget, fed_of, received_by}
+use Rattle.zst_recv.specs.Stages.{fed_of, received_by}
 use Rattle.zst_recv.specs.declared.fault.RecvFault.{RecvFault}
 use Rattle.zst_recv.specs.declared.fault.RecvFault.TheVariants as faults
 use Rattle.zst_recv.specs.declared.received_snapshot.ReceivedSnapshot.{ReceivedSnapshot as Snapshot}
@@ -32,7 +32,7 @@ use Rattle.zst_recv.specs.declared.recv.Recv.{Recv}
 use Rattle.zst_stream.specs.Findings.{IsFound}
 use Rattle.zst_stream.specs.Reading.{Reading, complete, reading}
 use Rattle.zst_reader.specs.StandsFor.{StandsFor}
-use Rattle.zst_run.specs.Receives.{CostMore, ReceiveEnds, SaysOfText, Waited, piece_size, receipt_line}
+use Rattle.zst_run.specs.Receives.{CostMore, IsTightOrNew, ReceiveEnds, SaysOfText, Waited, piece_size, receipt_line}
 use Rattle.zst_run.specs.ReceiveTurns.{ReadsAlong, Fed, Feeding, GrewBy, HasHanded, IsEnd, IsFeedRefusal, IsInputOf, IsReady, IsReceived, TurnReads, Turned, Turns, WaitsForMore, cut_refusal, line_of, told, with_piece}
 use Rattle.zst_run.specs.Dumps.{NoFault}
 use Rattle.zst_run.specs.declared.receive.End.{End}
@@ -285,7 +285,7 @@ begins tight start first recv pool opens ask same ready =
       is = none_fed recv.ask pool;
       live = tt;
       rests = ready.0;
-      tells = subst (λ (a : RecvAsk). TellsTarget a first.dir pool) (sym same) ready.1;
+      may = subst (λ (a : RecvAsk). IsTightOrNew tight a pool) (sym same) ready.1;
       fed = fed;
       bytes = All-nil (λ (byte : ℕ). byte < 256);
       counted = (ap (λ (r : Reading). r.covered) fed.reads.whole ∙ fed.waits, refl);

@@ -23,7 +23,7 @@ use Rattle.zst_recv.specs.Answers.{Feeds}
 use Rattle.zst_recv.specs.Faults.{IsFeedFault, recv_refusal}
 use Rattle.zst_recv.specs.ReceiveSteps.{Stage}
 use Rattle.zst_recv.specs.Stages as standing
-use Rattle.zst_recv.specs.Stages.{TellsBefore, is_waiting}
+use Rattle.zst_recv.specs.Stages.{TellsBefore}
 use Rattle.zst_recv.specs.declared.fault.RecvFault.{RecvFault}
 use Rattle.zst_recv.specs.declared.fault.RecvFault.TheVariants as faults
 use Rattle.zst_recv.specs.declared.recv.FeedReport as coded
@@ -38,7 +38,7 @@ use Rattle.zst_recv.specs.Costs.{PieceGrows}
 use Rattle.zst_recv.specs.Feeds.{new_records}
 use Rattle.zst_run.proofs.ReceiveLemmas.{recv_full}
 use Rattle.zst_run.proofs.PieceCosts.{IsShortBehind}
-use Rattle.zst_run.proofs.TurnLemmas.{turn_without, turned_more, turned_over, turned_received, turned_refused}
+use Rattle.zst_run.proofs.TurnLemmas.{dates_told, turn_without, turned_more, turned_over, turned_received, turned_refused}
 
 -- ---- faults of the stream
 
@@ -127,29 +127,29 @@ module _ (input input' : SourceState) (room : List ℕ) (count : ℕ) (end : Opt
         → standing.Receives (bound_of tight running.number) (Has old.seen (free_by kept.body)) recv text stage → Feeds tight old now kept' recv' text (take count room) stage running result
 
     module _ (told : coded.FeedReport) (items' : ℕ) (adds : items' ≡ min (items + told.applied) (2 ^ 64 - 1)) (feeds : FedSo (Ok told)) where
-      behind : (e : Option End) → told.done ≡ false → (is_waiting recv' ≡ true → kept' ≡ kept) → (tight : Bool) (pool : Pool) (pieces : List (List ℕ)) → now.honest
+      behind : (e : Option End) → told.done ≡ false → (tight : Bool) (pool : Pool) (pieces : List (List ℕ)) → now.honest
           → WaitsForMore tight old kept recv recv.ask pool pieces items → Turned tight old now kept' recv' recv.ask pool (with_piece pieces (take count room)) items' (turn_behind e)
-      behind None not still tight pool pieces honest u =
-          turned_more law tight old now kept kept' recv recv' recv.ask pool pieces (take count room) items u has_some same told (feeds tight u.after _ u.stage honest u.rests u.tells u.fed) bytes most items' adds not still
-      behind (Some e) not still tight pool pieces honest u =
-          turned_over law tight old now kept kept' recv recv' recv.ask pool pieces (take count room) items u has_some same told (feeds tight u.after _ u.stage honest u.rests u.tells u.fed) bytes most items' adds e not still
+      behind None not tight pool pieces honest u =
+          turned_more law tight old now kept kept' recv recv' recv.ask pool pieces (take count room) items u has_some same told (feeds tight u.after _ u.stage honest u.rests (dates_told tight recv.ask u.stage old kept u.after u.may u.rests) u.fed) bytes most items' adds not
+      behind (Some e) not tight pool pieces honest u =
+          turned_over law tight old now kept kept' recv recv' recv.ask pool pieces (take count room) items u has_some same told (feeds tight u.after _ u.stage honest u.rests (dates_told tight recv.ask u.stage old kept u.after u.may u.rests) u.fed) bytes most items' adds e not
 
       spends_on : (e : Option End) (text : List ℕ) → HasHanded recv' (text ++ take count room) × PieceGrows (new_records text (take count room)) kept kept' → TurnSpends kept kept' recv' text (take count room) (turn_behind e)
       spends_on None text both = both
       spends_on (Some e) text both = both.0
 
       -- more is waited for
-      pub turns_on : told.done ≡ false → (is_waiting recv' ≡ true → kept' ≡ kept)
+      pub turns_on : told.done ≡ false
           → ((text : List ℕ) (handed : List Covered) → StandsFor recv.reader text handed → HasFed recv' (text ++ take count room))
           → ((text : List ℕ) (has : HasHanded recv text) → HasHanded recv' (text ++ take count room) × PieceGrows (new_records text (take count room)) kept kept') → Turns old now kept kept' recv recv' items items' input input' (turn_behind end)
-      turns_on not still stands grows = record {
+      turns_on not stands grows = record {
         piece = take count room;
         gave = gave;
         sized = sized end fills;
         input_is = input_is end fills;
         reads = λ text has. goes_reads end recv' (text ++ take count room) (stands text has.0 has.1);
         spends = λ text has. spends_on end text (grows text has);
-        says = behind end not still;
+        says = behind end not;
       }
 
       -- END was covered
@@ -163,7 +163,7 @@ module _ (input input' : SourceState) (room : List ℕ) (count : ℕ) (end : Opt
         reads = λ text has. whole text has.0 has.1;
         spends = λ text has. tt;
         says = λ tight pool pieces honest u.
-            turned_received law tight old now kept kept' recv recv' recv.ask pool pieces (take count room) items u has_some same told (feeds tight u.after _ u.stage honest u.rests u.tells u.fed) bytes most items' adds over;
+            turned_received law tight old now kept kept' recv recv' recv.ask pool pieces (take count room) items u has_some same told (feeds tight u.after _ u.stage honest u.rests (dates_told tight recv.ask u.stage old kept u.after u.may u.rests) u.fed) bytes most items' adds over;
       }
 
     pub turns_refused : (items' : ℕ) (fault : RecvFault) → IsFeedFault fault → FedSo (Err fault)
@@ -178,6 +178,6 @@ module _ (input input' : SourceState) (room : List ℕ) (count : ℕ) (end : Opt
       reads = λ text has told is. let same = recv_stream fault told is in (subst IsFeedFault same known, stream text has.0 told has.1 same);
       spends = λ text has need largest is. let s = short text has.0 need largest has.1 (recv_full fault need largest is) in s.short.room;
       says = λ tight pool pieces honest u.
-          turned_refused law tight old now kept kept' recv recv' recv.ask pool pieces (take count room) items u has_some same items' fault known (feeds tight u.after _ u.stage honest u.rests u.tells u.fed)
+          turned_refused law tight old now kept kept' recv recv' recv.ask pool pieces (take count room) items u has_some same items' fault known (feeds tight u.after _ u.stage honest u.rests (dates_told tight recv.ask u.stage old kept u.after u.may u.rests) u.fed)
           (λ need largest is. short _ u.fed.handed need largest u.fed.reads is);
     }

@@ -29,12 +29,13 @@ use Rattle.zst_record.specs.declared.head.Head.{Head}
 use Rattle.zst_stream.specs.Findings.{IsFound}
 use Rattle.zst_stream.specs.Reading.{Reading, Ruling, after, last, more, reading, reading_from, refuse, ruling, wait}
 use Rattle.zst_tree.specs.Indices.{Blocks}
+use Rattle.zst_send.proofs.SetDates.{rows_tell}
 use Rattle.zst_recv.specs.Answers.{FeedFault, Feeds, GoesOn, IsStopped, applied_of, is_done}
 use Rattle.zst_recv.specs.Faults.{IsFeedFault, recv_refusal}
 use Rattle.zst_recv.specs.Feeds.{fed_piece, new_records, receives}
 use Rattle.zst_recv.specs.ReceiveSteps.{Stage, Waits, Lives, Ends, Batch, Fed, Goes, Stops, at_stage, batch_of, committed, fed, left_by, pool_of, put, put_at, settled}
 use Rattle.zst_recv.specs.Stages as standing
-use Rattle.zst_recv.specs.Stages.{IsStage, TellsBefore, TellsTarget, is_waiting, waits_at}
+use Rattle.zst_recv.specs.Stages.{IsStage, TellsBefore}
 use Rattle.zst_recv.specs.TakenRecords.{fault_in}
 use Rattle.zst_recv.specs.declared.fault.RecvFault.{RecvFault}
 use Rattle.zst_recv.specs.declared.fault.RecvFault.TheVariants as faults
@@ -44,8 +45,8 @@ use Rattle.zst_recv.specs.declared.stage.Stage as stages
 use Rattle.zst_recv.specs.declared.stage.Stage.TheVariants as variants
 use Rattle.zst_replication.specs.RecordCounts.{Counts, RecordsAreCounted}
 use Rattle.zst_uber.specs.declared.uber.Uber.{Uber}
-use Rattle.zst_run.specs.Receives.{IsOpen, LastFindsNoRoom, ReceiveEnds, Refused, Stopped, piece_size}
-use Rattle.zst_run.specs.ReceiveTurns.{ReadsAlong, IsReceived, Turned, WaitsForMore, Wanted, with_piece}
+use Rattle.zst_run.specs.Receives.{IsOpen, IsTightOrNew, LastFindsNoRoom, ReceiveEnds, Refused, Stopped, piece_size}
+use Rattle.zst_run.specs.ReceiveTurns.{ReadsAlong, IsReceived, MayPlan, Turned, WaitsForMore, Wanted, with_piece}
 use Rattle.zst_run.specs.declared.receive.End.{End}
 use Rattle.zst_run.specs.declared.receive.Turn.TheVariants as turns
 use Rattle.zst_run.proofs.FedPieces.{along_all, along_then, before_last, next_is, open_live, wanted_then}
@@ -92,12 +93,12 @@ waited_so text piece (Lives flags partial) n m live counts later fewer =
     let none : length (reading (text ++ piece)).covered ≡ 0 = ap (λ (l : List Covered). length l) later.0 in absurd (omega (arith, none, counts, fewer))
 waited_so text piece (Ends partial) n m live counts later fewer = absurd live
 
-stage_waits : (bound : Option ℕ) (has : Blocks) (code : stages.Stage) → IsStage bound has code Waits → waits_at code ≡ true
-stage_waits bound has variants.Waits is = refl
-stage_waits bound has (variants.Lives flags row) is = absurd is
-stage_waits bound has (variants.Ends row) is = absurd is
-stage_waits bound has (variants.Done received) is = absurd is
-stage_waits bound has variants.Over is = absurd is
+-- a pool at rest by tight sets tells the dates of its heads, and of a target that isn't there none are looked at
+pub dates_told : (tight : Bool) (ask : RecvAsk) (stage : Stage) (now : DiskState) (kept : PoolState) (pool : Pool) → MayPlan tight ask stage pool → IsAtRest tight now kept pool → TellsBefore ask stage kept.dir pool
+dates_told true ask Waits now kept pool may rests = λ there. rows_tell pool.number now.seen (free_by kept.body) kept.dir pool rests.runs_by
+dates_told false ask Waits now kept pool may rests = λ there. absurd (cc (may, there))
+dates_told tight ask (Lives flags partial) now kept pool may rests = tt
+dates_told tight ask (Ends partial) now kept pool may rests = tt
 
 -- ---- counting
 
@@ -200,27 +201,25 @@ module _ (law : RecordsAreCounted) (tight : Bool) (old now : DiskState) (kept ke
         let count : length (reading text).covered ≡ length u.fed.handed = ap (λ (l : List Covered). length l) here in
         omega (arith, there, count)
 
-    -- where BEGIN still isn't covered, the directory is as it was
-    tells_then : (next : Pool) (stage : Stage) → made ≡ Goes next stage → GoesOn (bound_of tight next.number) now kept' recv' (text ++ piece) stage → Counts (text ++ piece) stage (items + told.applied)
-        → (is_waiting recv' ≡ true → kept' ≡ kept) → TellsBefore ask stage kept'.dir next
-    tells_then next Waits is goes count still =
+    -- where BEGIN still isn't covered, the pool is as it was
+    plans_then : (next : Pool) (stage : Stage) → made ≡ Goes next stage → Counts (text ++ piece) stage (items + told.applied) → MayPlan tight ask stage next
+    plans_then next Waits is count =
         let before = waited_so text piece u.stage items (items + told.applied) u.live u.counted count fewer in
-        let dates : TellsTarget ask kept.dir u.after = subst (λ (s : Stage). TellsBefore ask s kept.dir u.after) before u.tells in
+        let may : IsTightOrNew tight ask u.after = subst (λ (s : Stage). MayPlan tight ask s u.after) before u.may in
         let pool_is : next ≡ u.after = still_waits ask text piece u.stage u.after next is in
-        let rows_are : kept' ≡ kept = still (stage_waits (bound_of tight next.number) (Has now.seen (free_by kept'.body)) recv'.stage goes.stands) in
-        subst (λ (k : PoolState). TellsTarget ask k.dir next) (sym rows_are) (subst (λ (p : Pool). TellsTarget ask kept.dir p) (sym pool_is) dates)
-    tells_then next (Lives flags partial) is goes count still = tt
-    tells_then next (Ends partial) is goes count still = tt
+        subst (λ (p : Pool). IsTightOrNew tight ask p) (sym pool_is) may
+    plans_then next (Lives flags partial) is count = tt
+    plans_then next (Ends partial) is count = tt
 
-    under_way : (next : Pool) (stage : Stage) → made ≡ Goes next stage → IsOpen stage → IsAtRest tight now kept' next → TellsBefore ask stage kept'.dir next
+    under_way : (next : Pool) (stage : Stage) → made ≡ Goes next stage → IsOpen stage → IsAtRest tight now kept' next → MayPlan tight ask stage next
         → standing.Receives (bound_of tight next.number) (Has now.seen (free_by kept'.body)) recv' (text ++ piece) stage → Counts (text ++ piece) stage (items + told.applied) → WaitsForMore tight now kept' recv' ask pool with_it items'
-    under_way next stage is live rests tells fed_all count = record {
+    under_way next stage is live rests may fed_all count = record {
       after = next;
       stage = stage;
       is = made_is ∙ is;
       live = live;
       rests = rests;
-      tells = tells;
+      may = may;
       fed = subst (λ (t : List ℕ). standing.Receives (bound_of tight next.number) (Has now.seen (free_by kept'.body)) recv' t stage) (sym text_is) fed_all;
       bytes = bytes_then pieces piece u.bytes bytes;
       counted = subst (λ (t : List ℕ). Counts t stage items') (sym text_is) (subst (λ (n : ℕ). Counts (text ++ piece) stage n) (sym items_are) count);
@@ -228,17 +227,17 @@ module _ (law : RecordsAreCounted) (tight : Bool) (old now : DiskState) (kept ke
     }
 
     goes_at : (next : Pool) (stage : Stage) → made ≡ Goes next stage → is_done stage ≡ false → IsAtRest tight now kept' next → GoesOn (bound_of tight next.number) now kept' recv' (text ++ piece) stage
-        → Counts (text ++ piece) stage (items + told.applied) → TellsBefore ask stage kept'.dir next → WaitsForMore tight now kept' recv' ask pool with_it items'
-    goes_at next Waits is live rests goes count tells = under_way next Waits is tt rests tells goes count
-    goes_at next (Lives flags partial) is live rests goes count tells = under_way next (Lives flags partial) is tt rests tells goes count
-    goes_at next (Ends partial) is live rests goes count tells = absurd (cc live)
+        → Counts (text ++ piece) stage (items + told.applied) → MayPlan tight ask stage next → WaitsForMore tight now kept' recv' ask pool with_it items'
+    goes_at next Waits is live rests goes count may = under_way next Waits is tt rests may goes count
+    goes_at next (Lives flags partial) is live rests goes count may = under_way next (Lives flags partial) is tt rests may goes count
+    goes_at next (Ends partial) is live rests goes count may = absurd (cc live)
 
     -- more is waited for
-    pub goes_then : told.done ≡ false → (is_waiting recv' ≡ true → kept' ≡ kept) → WaitsForMore tight now kept' recv' ask pool with_it items'
-    goes_then not still =
+    pub goes_then : told.done ≡ false → WaitsForMore tight now kept' recv' ask pool with_it items'
+    goes_then not =
         let a = f.answer in
         let is = asked_is (Goes a.next a.after) a.definition_is in
-        goes_at a.next a.after is (sym a.tells.done ∙ not) a.rests a.goes_on counts (tells_then a.next a.after is a.goes_on counts still)
+        goes_at a.next a.after is (sym a.tells.done ∙ not) a.rests a.goes_on counts (plans_then a.next a.after is counts)
 
     ends_at : (next : Pool) (stage : Stage) → made ≡ Goes next stage → is_done stage ≡ true → IsAtRest tight now kept' next → GoesOn (bound_of tight next.number) now kept' recv' (text ++ piece) stage
         → Counts (text ++ piece) stage (items + told.applied) → IsReceived tight now kept' recv' ask pool with_it items'
@@ -257,11 +256,11 @@ module _ (law : RecordsAreCounted) (tight : Bool) (old now : DiskState) (kept ke
     pub ends_then : told.done ≡ true → IsReceived tight now kept' recv' ask pool with_it items'
     ends_then over = let a = f.answer in ends_at a.next a.after (asked_is (Goes a.next a.after) a.definition_is) (sym a.tells.done ∙ over) a.rests a.goes_on counts
 
-    pub turned_more : told.done ≡ false → (is_waiting recv' ≡ true → kept' ≡ kept) → Turned tight old now kept' recv' ask pool with_it items' turns.More
-    turned_more not still = record { wanted = wanted; moments = moments f.moments; stands = goes_then not still }
+    pub turned_more : told.done ≡ false → Turned tight old now kept' recv' ask pool with_it items' turns.More
+    turned_more not = record { wanted = wanted; moments = moments f.moments; stands = goes_then not }
 
-    pub turned_over : (end : End) → told.done ≡ false → (is_waiting recv' ≡ true → kept' ≡ kept) → Turned tight old now kept' recv' ask pool with_it items' (turns.Over end)
-    turned_over end not still = record { wanted = wanted; moments = moments f.moments; stands = goes_then not still }
+    pub turned_over : (end : End) → told.done ≡ false → Turned tight old now kept' recv' ask pool with_it items' (turns.Over end)
+    turned_over end not = record { wanted = wanted; moments = moments f.moments; stands = goes_then not }
 
     pub turned_received : told.done ≡ true → Turned tight old now kept' recv' ask pool with_it items' turns.Received
     turned_received over = record { wanted = wanted; moments = moments f.moments; stands = ends_then over }

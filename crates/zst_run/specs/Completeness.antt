@@ -25,7 +25,7 @@ use Rattle.zst_stream.specs.Reading.{complete, reading}
 use Rattle.zst_token.specs.declared.token.Token.{Token}
 use Rattle.zst_run.specs.Commands.{Making, Opens, Stepping, most_of}
 use Rattle.zst_run.specs.Dumps.{Dumps}
-use Rattle.zst_run.specs.Receives.{ArePieces, CostMore, DatesAreTold, Receiving}
+use Rattle.zst_run.specs.Receives.{ArePieces, CostMore, IsTightOrNew, Receiving}
 use Rattle.zst_run.specs.Replies.{Replies}
 use Rattle.zst_run.specs.Runs.{Told}
 use Rattle.zst_run.specs.declared.send.SendRequest.{SendRequest}
@@ -84,7 +84,7 @@ HasRoom here text = (uber : Uber) (rows : Rows) (pieces : List (List ℕ)) → O
 abbrev pub ReceivesComplete : (here here' : DiskState) → Type 0
 ReceivesComplete here here' =
     (tight : Bool) (ask : RecvAsk) (uber : Uber) (rows : Rows) (pool : Pool) (text : List ℕ) (input input' : SourceState) (out out' : SinkState) (result : Result (Unit {0}) Refusal)
-    → here'.honest → ReadsAs tight uber rows pool here.seen → DatesAreTold tight ask rows pool
+    → here'.honest → ReadsAs tight uber rows pool here.seen → IsTightOrNew tight ask pool
     → HasText text input input' → length text ≤ stream_limit → Takes ask pool text → HasRoom here text
     → NoneCounted here.faults here'.faults → NoneCounted input.faults input'.faults → NoneCounted out.faults out'.faults
     → Replies (Receiving ask here here' input input') out out' result → DoneOrNoMemory result

@@ -33,14 +33,14 @@ use Rattle.zst_recv.specs.Faults.{IsFeedFault, recv_refusal}
 use Rattle.zst_recv.specs.Feeds.{receives, new_records}
 use Rattle.zst_recv.specs.Plans.{RefusesOne}
 use Rattle.zst_recv.specs.Costs.{PieceGrows, piece_cost}
-use Rattle.zst_recv.specs.ReceiveSteps.{Stage, Goes, Ends, pool_of}
+use Rattle.zst_recv.specs.ReceiveSteps.{Stage, Waits, Lives, Goes, Ends, pool_of}
 use Rattle.zst_recv.specs.Stages as standing
-use Rattle.zst_recv.specs.Stages.{RecvFits, TellsBefore, TellsTarget, ask_of, fed_of, is_live, is_waiting, reader_of, received_by, stage_of}
+use Rattle.zst_recv.specs.Stages.{RecvFits, ask_of, fed_of, is_live, is_waiting, reader_of, received_by, stage_of}
 use Rattle.zst_recv.specs.declared.fault.RecvFault.{RecvFault}
 use Rattle.zst_recv.specs.declared.recv.Recv.{Recv}
 use Rattle.zst_replication.specs.RecordCounts.{Counts}
 use Rattle.zst_run.specs.Dumps.{NoFault}
-use Rattle.zst_run.specs.Receives.{ArePieces, IsDamagedReceive, IsOpen, ReceiveEnds, SaysOfPlan, SaysOfText, piece_size, receipt_line, CostMore, pieces_cost}
+use Rattle.zst_run.specs.Receives.{ArePieces, IsDamagedReceive, IsOpen, IsTightOrNew, ReceiveEnds, SaysOfPlan, SaysOfText, piece_size, receipt_line, CostMore, pieces_cost}
 use Rattle.zst_run.specs.declared.receive.End.{End}
 use Rattle.zst_run.specs.declared.receive.End.TheVariants.{Ended, Failed}
 use Rattle.zst_run.specs.declared.receive.Receipt.{Receipt}
@@ -74,6 +74,12 @@ Wanted ask pool pieces = (n : ℕ) → n < length pieces → WentOn ask pool (ta
 abbrev pub ReadsAlong : (tight : Bool) → RecvAsk → Pool → List (List ℕ) → List ℕ → Type 0
 ReadsAlong tight ask pool pieces image = (n : ℕ) × Reads tight (kept_of (pool_of (receives ask pool (take n pieces)))) image
 
+-- as long as BEGIN isn't covered, a plan may still look at how late the target's head was changed
+abbrev pub MayPlan : (tight : Bool) → RecvAsk → Stage → Pool → Type 0
+MayPlan tight ask Waits pool = IsTightOrNew tight ask pool
+MayPlan tight ask (Lives flags partial) pool = Unit {0}
+MayPlan tight ask (Ends partial) pool = Unit {0}
+
 -- the pool at rest is what the pieces make of the one at the start, and the receive was fed them all and waits for more
 pub record WaitsForMore (tight : Bool) (now : DiskState) (kept : PoolState) (recv : Recv) (ask : RecvAsk) (pool : Pool) (pieces : List (List ℕ)) (items : ℕ) : Type 0 where
   pub after : Pool
@@ -81,7 +87,7 @@ pub record WaitsForMore (tight : Bool) (now : DiskState) (kept : PoolState) (rec
   pub is : receives ask pool pieces ≡ Goes after stage
   pub live : IsOpen stage
   pub rests : IsAtRest tight now kept after
-  pub tells : TellsBefore ask stage kept.dir after
+  pub may : MayPlan tight ask stage after
   pub fed : standing.Receives (bound_of tight after.number) (Has now.seen (free_by kept.body)) recv (concat pieces) stage
   pub bytes : AreBytes (concat pieces)
   pub counted : Counts (concat pieces) stage items
@@ -294,6 +300,6 @@ pub record Fed (Starts : (tight : Bool) → Pool → Type 0) (first : PoolState)
   pub cost : (need largest : ℕ) → answer ≡ Err (refusals.Full need largest) → CostMore first pieces
   pub says : (tight : Bool) (pool : Pool) → now.honest → Starts tight pool → Outcome tight old now ask pool pieces input input' answer
 
--- a pool at rest, whose sets tell the dates that a plan may look at
+-- a pool at rest, of tight object sets, or without the target
 abbrev pub IsReady : RecvAsk → (tight : Bool) → DiskState → PoolState → Pool → Type 0
-IsReady ask tight old kept pool = IsAtRest tight old kept pool × TellsTarget ask kept.dir pool
+IsReady ask tight old kept pool = IsAtRest tight old kept pool × IsTightOrNew tight ask pool

@@ -1,5 +1,5 @@
 -- What a receive reads, what it leaves of an image, and why it ends.
-use Rattle.std.specs.Prelude.{ℕ, ◌+◌, ◌-◌, ◌≡◌, ◌⊎◌, ◌<◌, ◌≤◌, Bool, true, false, IsTrue, IfErr, List, [], ◌∷◌, ◌++◌, length, take, codes, decimal, Result, Ok, Err}
+use Rattle.std.specs.Prelude.{ℕ, ◌+◌, ◌-◌, ◌≡◌, ◌⊎◌, ◌<◌, ◌≤◌, Bool, true, false, IsTrue, IfErr, List, [], ◌∷◌, ◌++◌, length, take, codes, decimal, Option, None, Result, Ok, Err}
 use Rattle.std.specs.List.{concat}
 use Rattle.zst_outside.specs.Causes.{Rose}
 use Rattle.zst_outside.specs.Images.{DiskState, Leaves, OnlyReads}
@@ -16,7 +16,7 @@ use Rattle.zst_model.specs.declared.refusals.refusal.Refusal.TheVariants as refu
 use Rattle.zst_model.specs.declared.refusals.stream_fault.StreamFault.{StreamFault}
 use Rattle.zst_model.specs.declared.refusals.stream_fault.StreamFault.TheVariants.{Truncated}
 use Rattle.zst_model.specs.pools.KeptPool.{kept_of}
-use Rattle.zst_model.specs.pools.Pool.{Pool, Partial}
+use Rattle.zst_model.specs.pools.Pool.{Pool, Partial, dataset_named}
 use Rattle.zst_model.specs.refusals.Refusal.{refusal_of}
 use Rattle.zst_model.specs.refusals.Texts.{guid_text}
 use Rattle.zst_dir.specs.Rows.{Rows}
@@ -36,7 +36,6 @@ use Rattle.zst_recv.specs.Feeds.{new_records, receives}
 use Rattle.zst_recv.specs.Damage.{IsDamagedState}
 use Rattle.zst_recv.specs.Plans.{RefusesEach, RefusesOne}
 use Rattle.zst_recv.specs.ReceiveSteps.{Stage, Waits, Lives, Ends, Goes, Stops, left_by, pool_of}
-use Rattle.zst_recv.specs.Stages.{TellsTarget}
 use Rattle.zst_recv.specs.declared.fault.RecvFault.{RecvFault}
 use Rattle.zst_run.specs.Commands.{IsPoolRefusal, Opens, SaysOfOpening}
 use Rattle.zst_run.specs.Dumps.{NoFault}
@@ -199,10 +198,10 @@ pub record SaysOfText (pieces : List (List ℕ)) (input input' : SourceState) (a
   pub cut : (at : ℕ) → answer ≡ Err (refusals.Stream (Truncated at)) → ((reading (concat pieces)).outcome ≡ waiting) × (at ≡ length (concat pieces)) × IsTrue input'.ended × NoFault input input'
   pub whole : (lines : List (List ℕ)) → answer ≡ Ok lines → (reading (concat pieces)).outcome ≡ complete
 
--- the sets of a pool tell the dates that a plan may look at: of tight ones nothing has to be said
-abbrev pub DatesAreTold : (tight : Bool) → RecvAsk → Rows → Pool → Type 0
-DatesAreTold true ask rows pool = Unit {0}
-DatesAreTold false ask rows pool = TellsTarget ask rows pool
+-- The object sets of a pool are tight; or the target isn't there yet, since how late a head was changed is told by tight sets alone.
+abbrev pub IsTightOrNew : (tight : Bool) → RecvAsk → Pool → Type 0
+IsTightOrNew true ask pool = Unit {0}
+IsTightOrNew false ask pool = dataset_named ask.target pool ≡ None
 
 -- A receive of what is asked, into an image: some pieces were read of the input, each behind pieces that left the receive waiting. At every moment,
 -- and in the end, each image stood before it or reads as what stands after some of the pieces, by tight object sets where it stood so.
@@ -210,13 +209,13 @@ pub record Receiving (ask : RecvAsk) (here here' : DiskState) (input input' : So
   pub pieces : List (List ℕ)
   pub are_pieces : ArePieces pieces
   pub consumed : Gave input input' (concat pieces)
-  pub wanted : (tight : Bool) (uber : Uber) (rows : Rows) (pool : Pool) → here'.honest → ReadsAs tight uber rows pool here.seen → DatesAreTold tight ask rows pool
+  pub wanted : (tight : Bool) (uber : Uber) (rows : Rows) (pool : Pool) → here'.honest → ReadsAs tight uber rows pool here.seen → IsTightOrNew tight ask pool
       → (n : ℕ) → n < length pieces → (after : Pool) × (stage : Stage) × (receives ask pool (take n pieces) ≡ Goes after stage) × IsOpen stage
-  pub moments : (tight : Bool) (uber : Uber) (rows : Rows) (pool : Pool) → here'.honest → ReadsAs tight uber rows pool here.seen → DatesAreTold tight ask rows pool
+  pub moments : (tight : Bool) (uber : Uber) (rows : Rows) (pool : Pool) → here'.honest → ReadsAs tight uber rows pool here.seen → IsTightOrNew tight ask pool
       → Leaves here here' (IsOnTheWay tight here ask pool pieces)
-  pub images : (tight : Bool) (uber : Uber) (rows : Rows) (pool : Pool) → here'.honest → ReadsAs tight uber rows pool here.seen → DatesAreTold tight ask rows pool
+  pub images : (tight : Bool) (uber : Uber) (rows : Rows) (pool : Pool) → here'.honest → ReadsAs tight uber rows pool here.seen → IsTightOrNew tight ask pool
       → (c : List ℕ) → here'.images c → IsOnTheWay tight here ask pool pieces c
-  pub ends : (tight : Bool) (uber : Uber) (rows : Rows) (pool : Pool) → here'.honest → ReadsAs tight uber rows pool here.seen → DatesAreTold tight ask rows pool
+  pub ends : (tight : Bool) (uber : Uber) (rows : Rows) (pool : Pool) → here'.honest → ReadsAs tight uber rows pool here.seen → IsTightOrNew tight ask pool
       → ReceiveEnds tight ask pool pieces here' input input' answer
   pub opened : here'.honest → SaysOfOpening (OnlyReads here here' × (input' ≡ input)) here (ReceiveRan ask pieces here answer) answer
   pub text : SaysOfText pieces input input' answer

@@ -27,7 +27,7 @@ use Rattle.zst_replication.specs.Outcomes.{Course, HasNothing, HasOneMore, Progr
 use Rattle.zst_replication.specs.Resumption.{Chain, IsUnderway}
 use Rattle.zst_token.specs.Spelling.{IsToken}
 use Rattle.zst_token.specs.declared.token.Token.{Token}
-use Rattle.zst_run.specs.Receives.{DatesAreTold, Keeps, Receiving}
+use Rattle.zst_run.specs.Receives.{IsTightOrNew, Keeps, Receiving}
 use Rattle.zst_run.specs.Replies.{Replies}
 use Rattle.zst_run.specs.declared.send.SendRequest.{SendRequest}
 use Rattle.zst_run.specs.declared.send.SendRequest.TheVariants.{Named, Rest}
@@ -40,14 +40,14 @@ pub record IsSender (request : SendRequest) (from : Pool) (sent : Sent) (here : 
   pub is : to_send request from ≡ Ok sent
   pub plain : IsUnredacted sent.snapshot.objects.state
 
--- an image is read as this pool, whose sets are tight, or tell the dates of its heads where the target is there; the target has no partial state, and the receiver's
+-- an image is read as this pool, whose sets are tight, or which lacks the target; the target has no partial state, and the receiver's
 -- snapshots with the source's guid have what the source remembers
 pub record IsReceiver (tight : Bool) (ask : RecvAsk) (into from : Pool) (sent : Sent) (there there' : DiskState) : Type 0 where
   pub uber : Uber
   pub rows : Rows
   pub honest : there'.honest
   pub reads : ReadsAs tight uber rows into there.seen
-  pub tells : DatesAreTold tight ask rows into
+  pub may : IsTightOrNew tight ask into
   pub alone : partial_of ask.target into ≡ None
   pub knows : KnowsSource from sent.source into
 
@@ -59,13 +59,13 @@ pub record IsRestSender (token : Token) (from : Pool) (sent also : Sent) (here :
   pub same_view : sent_view also ≡ sent_view sent
   pub plain : IsUnredacted also.snapshot.objects.state
 
--- an image is read as this pool, whose sets are tight, or tell the dates of its heads where the target is there, and which tells this token of it
+-- an image is read as this pool, whose sets are tight, or which lacks the target, and which tells this token of it
 pub record IsRestReceiver (tight : Bool) (token : Token) (ask : RecvAsk) (into : Pool) (there there' : DiskState) : Type 0 where
   pub uber : Uber
   pub rows : Rows
   pub honest : there'.honest
   pub reads : ReadsAs tight uber rows into there.seen
-  pub tells : DatesAreTold tight ask rows into
+  pub may : IsTightOrNew tight ask into
   pub told : token_told ask.target into ≡ Ok token
 
 -- what was read of an input is a front of something that begins with this text
@@ -102,7 +102,7 @@ SentSnapshotStands here here' there there' =
 abbrev pub RefusedLeavesNothing : (there there' : DiskState) → Type 0
 RefusedLeavesNothing there there' =
     (tight : Bool) (ask : RecvAsk) (uber : Uber) (rows : Rows) (into : Pool) (refusal : Refusal) (out out' : SinkState) (input input' : SourceState)
-    → there'.honest → ReadsAs tight uber rows into there.seen → DatesAreTold tight ask rows into → partial_of ask.target into ≡ None → ask.keep ≡ false
+    → there'.honest → ReadsAs tight uber rows into there.seen → IsTightOrNew tight ask into → partial_of ask.target into ≡ None → ask.keep ≡ false
     → Replies (Receiving ask there there' input input') out out' (Err refusal) → refusal ≢ refusals.DiskFault → refusal ≢ refusals.SinkFault
     → (after : Pool) × Keeps tight there' after × HasNothing ask into (kept_of after)
 
@@ -195,7 +195,7 @@ IsSoundAfter tight there image = there.images image ⊎ ((after : Pool) × Reads
 abbrev pub SoundStaysSound : (there there' : DiskState) → Type 0
 SoundStaysSound there there' =
     (tight : Bool) (ask : RecvAsk) (uber : Uber) (rows : Rows) (into : Pool) (result : Result (Unit {0}) Refusal) (out out' : SinkState) (input input' : SourceState)
-    → there'.honest → ReadsAs tight uber rows into there.seen → DatesAreTold tight ask rows into → IsDataset ask.target → Sound into
+    → there'.honest → ReadsAs tight uber rows into there.seen → IsTightOrNew tight ask into → IsDataset ask.target → Sound into
     → Replies (Receiving ask there there' input input') out out' result
     → Leaves there there' (IsSoundAfter tight there) × ((c : List ℕ) → there'.images c → IsSoundAfter tight there c)
 
@@ -208,6 +208,6 @@ abbrev pub SourcesStillRemember : (there there' : DiskState) → Type 0
 SourcesStillRemember there there' =
     (tight : Bool) (ask : RecvAsk) (uber : Uber) (rows : Rows) (into : Pool) (source : Source) (state : State)
     (result : Result (Unit {0}) Refusal) (out out' : SinkState) (input input' : SourceState)
-    → there'.honest → ReadsAs tight uber rows into there.seen → DatesAreTold tight ask rows into → IsDataset ask.target → Sound into
+    → there'.honest → ReadsAs tight uber rows into there.seen → IsTightOrNew tight ask into → IsDataset ask.target → Sound into
     → StillRemembers into source state → Replies (Receiving ask there there' input input') out out' result
     → Leaves there there' (StillRemembersAfter tight source state there) × ((c : List ℕ) → there'.images c → StillRemembersAfter tight source state there c)

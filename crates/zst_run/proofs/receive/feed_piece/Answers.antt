@@ -42,7 +42,7 @@ returns-else-fed-clause-turns g c =
     rw c.turn_behind-in-Ok.ensures
     (turns_on _ _ p.new.room p.result.count p.result.end p.ensures.within (p.ensures.room ∙ c.requires.room) p.ensures.gave p.ensures.fills c.records_are_counted.ensures (λ is. c.if-piece-eq0.false is) bytes
     _ _ _ _ _ _ _ e.receive.ask c.in-Ok.fed _ (let adds = c.saturating_add.ensures in omega (arith, adds)) (λ tight running text stage honest rests tells fed. e.feeds tight running text stage honest c.requires.can_feed.works rests tells fed) c.if-fed.false
-    e.waits (λ text handed stands. (e.texts c.requires.can_feed.works text handed stands).stands live)
+    (λ text handed stands. (e.texts c.requires.can_feed.works text handed stands).stands live)
     (λ text has.
     ((e.texts c.requires.can_feed.works text has.0 has.1.stands).hands_out live has.1.whole, grows_behind c.args.recv.now text (take p.result.count p.new.room) _ _ has (e.costs text has.0 has.1.stands).grows)))
 
