@@ -14,14 +14,14 @@ use Rattle.zst_plan.specs.ContainedBases.{ContainedIsCovered}
 use Rattle.zst_plan.specs.RecvPlan.{is_among, is_redacted}
 
 -- a guid that is found among some is one of them
-among : (guids : List ℕ) (guid : ℕ) → is_among guids guid ≡ true → Contains guids guid
+pub among : (guids : List ℕ) (guid : ℕ) → is_among guids guid ≡ true → Contains guids guid
 among [] guid is = absurd (false≢true is)
 among (first ∷ rest) guid is = ⊎_elim
     (λ here. subst (Contains (first ∷ rest)) (eqb-true first guid here) (contains_first first rest))
     (λ later. contains_later first rest guid (among rest guid later))
     (or_cases (first == guid) (is_among rest guid) is)
 
-all_among : (guids stated : List ℕ) → list_all (is_among guids) stated ≡ true → All (Contains guids) stated
+pub all_among : (guids stated : List ℕ) → list_all (is_among guids) stated ≡ true → All (Contains guids) stated
 all_among guids [] is = All-nil (Contains guids)
 all_among guids (first ∷ rest) is =
     let both = and_parts (is_among guids first) (list_all (is_among guids) rest) is in

@@ -10,4 +10,10 @@ mod FirstPlaces
 mod TextMarks
 mod ReceiveChecks
 mod ContainedBases
+mod FirstElements
+mod PlanTests
+mod PlanSteps
+mod AcceptedStreams
+mod AcceptedTokens
+mod RefusedStreams
 pub mod AlikeAnswers

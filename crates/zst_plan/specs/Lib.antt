@@ -1,7 +1,10 @@
+pub mod AcceptedStreams
+pub mod AcceptedTokens
 pub mod ContainedBases
 pub mod Places
 pub mod Plans
 pub mod Receipts
 pub mod RecvPlan
+pub mod RefusedStreams
 pub mod ResumePlan
 pub mod Sources

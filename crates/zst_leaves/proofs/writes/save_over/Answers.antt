@@ -5,7 +5,7 @@ use Rattle.zst_leaves.proofs.writes.save_over.Goals as goal
 pub returns-in_err-ptr-clause-written : goal.returns-in_err-ptr-clause-written
 returns-in_err-ptr-clause-written g c =
     let p = err_from_is_err_and c.from_residual.result c.from_residual.ensures.1 in
-    rw (p.1, p.2) (WritesBlocks-one _ c.in_err-ptr.ensures.works c.in_err-ptr.ensures.after c.in_err-ptr.ensures.never_damaged c.in_err-ptr.ensures.calls)
+    rw (p.1, p.2) (WritesBlocks-one _ c.in_err-ptr.ensures.works c.in_err-ptr.ensures.after c.in_err-ptr.ensures.never_damaged c.in_err-ptr.ensures.block.calls)
 
 pub returns-clause-written : goal.returns-clause-written
-returns-clause-written g c = WritesBlocks-gives c.in_ok-ptr.ptr _ (WritesBlocks-one _ c.in_ok-ptr.ensures.works c.in_ok-ptr.ensures.after c.in_ok-ptr.ensures.never_damaged c.in_ok-ptr.ensures.calls)
+returns-clause-written g c = WritesBlocks-gives c.in_ok-ptr.ptr _ (WritesBlocks-one _ c.in_ok-ptr.ensures.works c.in_ok-ptr.ensures.after c.in_ok-ptr.ensures.never_damaged c.in_ok-ptr.ensures.block.calls)
