@@ -16,7 +16,7 @@ use Rattle.zst_model.specs.states.State.{index_bound}
 use Rattle.zst_tree.specs.Sets.{SetFits}
 use Rattle.zst_tree.specs.declared.tree.ObjSet.{ObjSet}
 use Rattle.zst_objset.specs.Answers.{Changes, LimitOnly, NotLimit, NotRedacted, stop_of}
-use Rattle.zst_objset.specs.Damage.{DamageFact, IfSetDamaged}
+use Rattle.zst_objset.specs.Damage.{AreTreesWithin, DamageFact, IfSetDamaged}
 use Rattle.zst_objset.specs.SetChanges.{ChangesSet, ChangesTightSet, KeepsSet, SetHas, SetHasTight}
 use Rattle.zst_objset.specs.Sets.{SetHolds}
 use Rattle.zst_objset.specs.TightSets.{SetIsTight}
@@ -27,7 +27,7 @@ use Rattle.zst_apply.specs.AppliedRecords.{LimitOfIndex, RefusesRecord, received
 use Rattle.zst_apply.specs.Changed.{Changed}
 use Rattle.zst_apply.specs.Damage.{apply_damage}
 use Rattle.zst_apply.proofs.RecordAnswers.{all_applied, applies_as, for_record}
-use Rattle.zst_apply.proofs.SetFaults.{told_before}
+use Rattle.zst_apply.proofs.SetFaults.{told_before, within_looked}
 
 -- no limit, or that of an index
 pub no_limit : (result : Result (Unit {0}) ObjFault) → IfErr result NotLimit → IfErr result LimitOfIndex
@@ -59,6 +59,7 @@ refused_after definition fault looks refuses limits unredacted damaged = record 
   changed = refuses;
   tight = λ index state honest tight dated. refuses index state honest tight.holds;
   keeps = record { limits = limits; unredacted = unredacted; damaged = damaged; kept = refl; works = Works-looks looks };
+  within = λ honest. tt;
   levels = λ fit. fit;
 }
 
@@ -75,18 +76,21 @@ module _ {number most block : ℕ} {old new : IoState} {set made : ObjSet} {Limi
     (limits : IfErr result Limits → IfErr result LimitOfIndex) (told : IfSetDamaged result damage → IfSetDamaged result (apply_damage (SparesTaken old.space old.disk.seen) old.disk.size set)) where
   pub set_changed_by : ChangesSet SetHas makes Limits damage most block old new set made result
       → ((state : DatedState) → new.disk.honest → SetIsTight (Has old.disk.seen old.space) set state → DatedUpTo number state → Changes (SetIsTight (Has new.disk.seen new.space) made) (makes state) result)
+      → (new.disk.honest → OnOk result (AreTreesWithin (SparesTaken old.space old.disk.seen) old.disk.size set (SparesTaken new.space new.disk.seen) made))
       → (SetFits set → SetFits made)
       → Changed number (λ index. received number index item) most block old new set made result
-  set_changed_by changes tightly levels = record {
+  set_changed_by changes tightly within levels = record {
     changed = λ index state honest holds. applies_as number index item state (makes state) (is index state honest holds) (SetHolds (Has new.disk.seen new.space) made) result (changes.changed state honest holds);
     tight = λ index state honest tight dated. applies_as number index item state (makes state) (is index state honest tight.holds) (SetIsTight (Has new.disk.seen new.space) made) result (tightly state honest tight dated);
     keeps = keeps_by result limits told changes.keeps;
+    within = within;
     levels = levels;
   }
 
   pub changed_by : ChangesTightSet SetHas SetHasTight SetFits number makes Limits damage most block old new set made result
+      → (new.disk.honest → OnOk result (AreTreesWithin (SparesTaken old.space old.disk.seen) old.disk.size set (SparesTaken new.space new.disk.seen) made))
       → Changed number (λ index. received number index item) most block old new set made result
-  changed_by changes = set_changed_by changes.set changes.tight (fits_then set made result changes.set.keeps.kept changes.levels)
+  changed_by changes within = set_changed_by changes.set changes.tight within (fits_then set made result changes.set.keeps.kept changes.levels)
 
 module _ {number most block : ℕ} {old new : IoState} {set made : ObjSet} where
   -- an item is all that a record says; what it may take is more
@@ -97,6 +101,7 @@ module _ {number most block : ℕ} {old new : IoState} {set made : ObjSet} where
     changed = λ index state honest holds. all_applied number index item state (SetHolds (Has new.disk.seen new.space) made) result (did.changed index state honest holds);
     tight = λ index state honest tight dated. all_applied number index item state (SetIsTight (Has new.disk.seen new.space) made) result (did.tight index state honest tight dated);
     keeps = record { limits = did.keeps.limits; unredacted = did.keeps.unredacted; damaged = did.keeps.damaged; kept = did.keeps.kept; works = works };
+    within = did.within;
     levels = did.levels;
   }
 
@@ -113,5 +118,6 @@ module _ {number most block : ℕ} {old new : IoState} {set made : ObjSet} where
       kept = did.keeps.kept;
       works = Works-after looks did.keeps.works;
     };
+    within = λ honest. within_looked looks (SparesTaken new.space new.disk.seen) set made result (did.within honest);
     levels = did.levels;
   }

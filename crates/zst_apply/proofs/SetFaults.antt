@@ -1,6 +1,6 @@
 -- What calls one after another tell of damage and of limits.
 use Rattle.std.proofs.Common.{inl, inr, ◌⊎◌, ℕ, List, subst, Result, Err}
-use Rattle.std.specs.Prelude.{Option, IfErr}
+use Rattle.std.specs.Prelude.{Option, IfErr, OnOk}
 use Rattle.zst_space.specs.FreeSectors.{FreeSectors}
 use Rattle.zst_block.specs.Blocks.{SparesTaken}
 use Rattle.zst_block.specs.IoStates.{IoState}
@@ -12,7 +12,7 @@ use Rattle.zst_dnode.specs.declared.dnode.Dnode.{Dnode}
 use Rattle.zst_model.specs.declared.refusals.faults.Quantity.{Quantity}
 use Rattle.std.proofs.lemmas.Result.{IfErr-weaker}
 use Rattle.zst_objset.specs.Answers.{LimitOnly}
-use Rattle.zst_objset.specs.Damage.{IfSetDamaged, IsDamagedObject, IsDamagedSet}
+use Rattle.zst_objset.specs.Damage.{AreTreesWithin, IfSetDamaged, IsDamagedObject, IsDamagedSet}
 use Rattle.zst_objset.specs.declared.fault.ObjFault.{ObjFault}
 use Rattle.zst_objset.specs.declared.fault.ObjFault.TheVariants as faults
 use Rattle.zst_objset.proofs.DamageLaws.{IfSetDamaged-weaker, object_told, set_spared}
@@ -59,6 +59,13 @@ pub told_before : {old mid : IoState} {stop : Option BlockFault} → Looks old m
 told_before {old} {mid} looks set result told =
     look_back (λ (seen : List ℕ) (free : FreeSectors). IfSetDamaged result (apply_damage (SparesTaken free seen) old.disk.size set)) looks
     (subst (λ (size : ℕ). IfSetDamaged result (apply_damage (SparesTaken mid.space mid.disk.seen) size set)) looks.reads.size told)
+
+-- so it is of what may be told after a change
+pub within_looked : {old mid : IoState} {stop : Option BlockFault} → Looks old mid stop → (fewer : List ℕ → Type 0) (set made : ObjSet) (result : Result (Unit {0}) ObjFault)
+    → OnOk result (AreTreesWithin (SparesTaken mid.space mid.disk.seen) mid.disk.size set fewer made) → OnOk result (AreTreesWithin (SparesTaken old.space old.disk.seen) old.disk.size set fewer made)
+within_looked {old} {mid} looks fewer set made result within =
+    look_back (λ (seen : List ℕ) (free : FreeSectors). OnOk result (AreTreesWithin (SparesTaken free seen) old.disk.size set fewer made)) looks
+    (subst (λ (size : ℕ). OnOk result (AreTreesWithin (SparesTaken mid.space mid.disk.seen) size set fewer made)) looks.reads.size within)
 
 -- a limit that can't be passed
 inside_limit : (which : Quantity) (limit past : ℕ) → past ≤ limit → (fault : ObjFault) → LimitOnly which limit past fault → LimitOfIndex fault

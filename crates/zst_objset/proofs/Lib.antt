@@ -19,6 +19,7 @@ pub mod SlotLaws
 pub mod SpillLaws
 pub mod TightLaws
 pub mod TreeFits
+mod TreesWithin
 pub mod RangeIndices
 pub mod WriteLaws
 pub mod RunLaws

@@ -11,7 +11,7 @@ use Rattle.zst_dnode.specs.Slot.{slot_bytes, SlotFits}
 use Rattle.zst_dnode.specs.declared.dnode.Dnode.{Dnode}
 use Rattle.zst_dnode.specs.declared.slot.Slot.{Slot}
 use Rattle.zst_dnode.specs.declared.slot.Slot.TheVariants.{Absent, There}
-use Rattle.zst_tree.specs.Damage.{HangsBelow, IsDamagedNode, MayHave, NamesNode}
+use Rattle.zst_tree.specs.Damage.{HangsBelow, IsDamagedNode, MayHave, NamesNode, SumsUp}
 use Rattle.zst_tree.specs.declared.tree.ObjSet.{ObjSet}
 use Rattle.zst_objset.specs.declared.fault.ObjFault.{ObjFault}
 use Rattle.zst_objset.specs.declared.fault.ObjFault.TheVariants as faults
@@ -19,6 +19,10 @@ use Rattle.zst_objset.specs.declared.fault.ObjFault.TheVariants as faults
 -- what is so of a damage: of the sector, the sums that are stated and those that are found
 abbrev pub DamageFact : Type 1
 DamageFact = ℕ → List ℕ → List ℕ → Type 0
+
+-- what the first tells as damaged the second tells
+abbrev pub TellsWithin : DamageFact → DamageFact → Type 0
+TellsWithin fewer more = (sector : ℕ) (stated found : List ℕ) → fewer sector stated found → more sector stated found
 
 -- it is so of the damage that a fault tells
 abbrev pub IfDamage : BlockFault → DamageFact → Type 0
@@ -111,6 +115,10 @@ pub record StandsIn (images : List ℕ → Type 0) (set : ObjSet) (dnode : Dnode
   pub under : place < 16
   pub slot : HasSlot bytes place (There dnode)
 
+-- a dnode that may stand in the second set, among the second images, may stand in the first, or was put there
+abbrev pub StandsWithin : (Dnode → Type 0) → (List ℕ → Type 0) → ObjSet → (List ℕ → Type 0) → ObjSet → Type 0
+StandsWithin Put images set fewer made = (dnode : Dnode) → StandsIn fewer made dnode → StandsIn images set dnode ⊎ Put dnode
+
 -- a slot's dnode may
 abbrev pub SlotStands : (List ℕ → Type 0) → ObjSet → Slot → Type 0
 SlotStands images set (Absent date) = Unit {0}
@@ -125,6 +133,10 @@ pub record HasDamagedTree (images : List ℕ → Type 0) (size : ℕ) (right : �
 -- what a call may tell that also looks at the tree of an object or changes it
 abbrev pub IsDamagedObject : (List ℕ → Type 0) → ℕ → (ℕ → Ptr → Type 0) → ObjSet → DamageFact
 IsDamagedObject images size right set sector stated found = IsDamagedSet images size set sector stated found ⊎ HasDamagedTree images size right set sector stated found
+
+-- what may be told as damaged of the second set and of the trees of its objects, among the second images, may be told of the first
+abbrev pub AreTreesWithin : (List ℕ → Type 0) → ℕ → ObjSet → (List ℕ → Type 0) → ObjSet → Type 0
+AreTreesWithin images size set fewer made = TellsWithin (IsDamagedObject fewer size (SumsUp fewer) made) (IsDamagedObject images size (SumsUp images) set)
 
 -- a pointer is wrong for data of so many bytes
 abbrev pub IsNoData : ℕ → Ptr → Type 0

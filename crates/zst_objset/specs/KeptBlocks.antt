@@ -1,5 +1,5 @@
 -- What an OBJECT leaves of what stood at its number.
-use Rattle.std.specs.Prelude.{ℕ, ◌==◌, Bool, Option, Some, None, if◌then◌else◌}
+use Rattle.std.specs.Prelude.{◌≡◌, ◌⊎◌, ℕ, ◌==◌, Bool, Option, Some, None, if◌then◌else◌}
 use Rattle.zst_block.specs.Ptr.{hole_of}
 use Rattle.zst_block.specs.declared.ptr.Ptr.{Ptr}
 use Rattle.zst_dnode.specs.declared.dnode.Dnode.{Dnode}
@@ -14,6 +14,11 @@ no_blocks number = record { tree = record { levels = 0; past = number; root = ho
 abbrev pub kept_blocks : ℕ → ℕ → Option Dnode → BlockTree
 kept_blocks size number None = no_blocks number
 kept_blocks size number (Some dnode) = if dnode.block_size == size then record { tree = tree_of dnode; end = dnode.end } else no_blocks number
+
+-- so its tree is the one that stood there, or has no node
+abbrev pub KeepsTree : Option Dnode → Dnode → Type 0
+KeepsTree None made = made.levels ≡ 0
+KeepsTree (Some dnode) made = (made.levels ≡ 0) ⊎ ((made.levels ≡ dnode.levels) × (made.root ≡ dnode.root))
 
 -- the spill block stays where it is to be kept, and otherwise there is none
 abbrev pub kept_spill : Bool → ℕ → Option Dnode → Ptr

@@ -4,6 +4,7 @@ use Rattle.zst_block.specs.Blocks.{Has, SparesTaken}
 use Rattle.zst_block.specs.IoCalls.{Works, stop_of as block_stop_of}
 use Rattle.zst_block.specs.IoStates.{IoState}
 use Rattle.zst_block.specs.declared.fault.BlockFault.{BlockFault}
+use Rattle.zst_dnode.specs.declared.dnode.Dnode.{Dnode}
 use Rattle.zst_model.specs.declared.refusals.refusal.Refusal.{Refusal}
 use Rattle.zst_model.specs.pools.Soundness.{DatedUpTo}
 use Rattle.zst_model.specs.states.DatedState.{DatedState}
@@ -11,7 +12,7 @@ use Rattle.zst_tree.specs.Indices.{Blocks}
 use Rattle.zst_tree.specs.Sets.{SetFits}
 use Rattle.zst_tree.specs.declared.tree.ObjSet.{ObjSet}
 use Rattle.zst_objset.specs.Answers.{Changes, NotLimit, NotRedacted, stop_of}
-use Rattle.zst_objset.specs.Damage.{DamageFact, IfDamaged, IfSetDamaged, IsDamagedSet, IsSetWithin}
+use Rattle.zst_objset.specs.Damage.{DamageFact, IfDamaged, IfSetDamaged, IsDamagedSet, IsSetWithin, StandsWithin}
 use Rattle.zst_objset.specs.Sets.{SetHolds}
 use Rattle.zst_objset.specs.TightSets.{SetIsTight}
 use Rattle.zst_objset.specs.declared.fault.ObjFault.{ObjFault}
@@ -48,14 +49,16 @@ SetHas set has state = SetHolds has set state
 abbrev pub SetHasTight : ObjSet → Blocks → DatedState → Type 0
 SetHasTight set has state = SetIsTight has set state
 
--- A dnode is put into a set, whatever the set held: what may be told as damaged of the set then was there before.
-pub record PutsInSet (old new : IoState) (before after : ObjSet) (result : Result (Unit {0}) ObjFault) : Type 0 where
+-- A dnode is put into a set, whatever the set held: what may be told as damaged of the set then was there before, and so was each other dnode.
+pub record PutsInSet (dnode : Dnode) (old new : IoState) (before after : ObjSet) (result : Result (Unit {0}) ObjFault) : Type 0 where
   pub keeps : KeepsSet NotLimit (IsDamagedSet (SparesTaken old.space old.disk.seen) old.disk.size before) 240 16 old new before after result
   pub within : new.disk.honest → OnOk result (IsSetWithin (SparesTaken old.space old.disk.seen) old.disk.size before (SparesTaken new.space new.disk.seen) after)
+  pub stands : new.disk.honest → OnOk result (StandsWithin (λ other. other ≡ dnode) (SparesTaken old.space old.disk.seen) before (SparesTaken new.space new.disk.seen) after)
   pub levels : OnOk result (SetFits after)
 
--- a set is made of another by changes of leaves, whatever that held: the same of damage, and at most so many sectors are taken
-pub record MakesSet (most : ℕ) (old new : IoState) (set : ObjSet) (result : Result ObjSet BlockFault) : Type 0 where
+-- a set is made of another by changes of leaves, into which such dnodes may be put, whatever that held: the same of damage, and at most so many sectors are taken
+pub record MakesSet (Put : Dnode → Type 0) (most : ℕ) (old new : IoState) (set : ObjSet) (result : Result ObjSet BlockFault) : Type 0 where
   pub damaged : new.disk.honest → IfDamaged result (IsDamagedSet (SparesTaken old.space old.disk.seen) old.disk.size set)
   pub within : new.disk.honest → IfOk result (IsSetWithin (SparesTaken old.space old.disk.seen) old.disk.size set (SparesTaken new.space new.disk.seen))
+  pub stands : new.disk.honest → IfOk result (StandsWithin Put (SparesTaken old.space old.disk.seen) set (SparesTaken new.space new.disk.seen))
   pub works : Works most 16 old new (block_stop_of result)

@@ -11,10 +11,10 @@ ghost use Rattle.zst_model.specs.pools.Step.{filled};
 ghost use Rattle.zst_model.specs.states.DatedState.{DatedState};
 ghost use Rattle.zst_model.specs.states.State.{IsBonus, IsHead, is_number, number_bound};
 ghost use Rattle.zst_tree.specs.Sets.{SetFits};
-ghost use Rattle.zst_objset.specs.KeptBlocks.{kept_blocks, kept_spill, no_blocks};
+ghost use Rattle.zst_objset.specs.KeptBlocks.{KeepsTree, kept_blocks, kept_spill, no_blocks};
 ghost use Rattle.zst_objset.specs.Answers.{LimitOnly};
 ghost use Rattle.zst_objset.specs.Changes.{object_put};
-ghost use Rattle.zst_objset.specs.Damage.{IsDamagedSet, IsSetWithin};
+ghost use Rattle.zst_objset.specs.Damage.{AreTreesWithin, IsDamagedSet, IsSetWithin};
 ghost use Rattle.zst_objset.specs.Dnodes.{DnodeIs};
 ghost use Rattle.zst_objset.specs.SlotPuts.{MakesDnode};
 ghost use Rattle.zst_objset.specs.Sets.{date_in};
@@ -100,6 +100,7 @@ fn made_dnode(
     requires bonus { IsBonus bonus.now }
     requires ranges { IfSome was.now DnodeFits }
     ensures fits { DnodeFits result }
+    ensures tree { KeepsTree was.now result }
     ensures dated { IfSome was.now (λ dnode. date_in (There dnode) ≤ number) → date_in (There result) ≤ number }
     ensures made { (image : List ℕ) (space : FreeSectors) (object : ℕ) (state : DatedState) → is_number object ≡ true → DnodeIs (Has image space) state object was.now
         → MakesDnode (Has image space) number object (Put head bonus.now keep_spill 0) state result }
@@ -138,6 +139,7 @@ pub(crate) fn put_object<D: Disk>(
     ensures changes { ChangesTightSet SetHas SetHasTight SetFits number (object_put number object head bonus.now keep_spill) (LimitOnly quantities.Object number_bound (object + 1))
         (IsDamagedSet (IsSparedBy io.old) (disk_of io.old).size set.old) 640 16 (io_of io.old) (io_of io.new) set.old set.new result }
     ensures within { IsHonest io.new → OnOk result (IsSetWithin (IsSparedBy io.old) (disk_of io.old).size set.old (IsSparedBy io.new) set.new) }
+    ensures trees { IsHonest io.new → OnOk result (AreTreesWithin (IsSparedBy io.old) (disk_of io.old).size set.old (IsSparedBy io.new) set.new) }
 {
     if object >= NUMBER_BOUND {
         return Err(ObjFault::Limit {

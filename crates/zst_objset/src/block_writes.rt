@@ -5,13 +5,13 @@ ghost use Rattle.zst_block.specs.IoCalls.{Works, stop_of as block_stop};
 ghost use Rattle.zst_model.specs.declared.refusals.faults.Quantity.TheVariants as quantities;
 ghost use Rattle.zst_model.specs.states.State.{index_bound, is_block_size, is_odd_size};
 ghost use Rattle.zst_tree.specs.Changes.{TreeDatedUpTo};
-ghost use Rattle.zst_tree.specs.Damage.{NamesDamage, NamesNode};
+ghost use Rattle.zst_tree.specs.Damage.{IsSummedBelow, NamesDamage, NamesNode};
 ghost use Rattle.zst_tree.specs.Indices.{Delivers, Map, TreeIs};
 ghost use Rattle.zst_tree.specs.Sets.{SetFits};
 ghost use Rattle.zst_objset.specs.BlockRuns.{AreSoFar, IsBlockRun, IsWholeBlock, PutsBlocks, blocks_written};
 ghost use Rattle.zst_objset.specs.Answers.{stop_of, LimitOnly, NotLimit, NotRedacted};
 ghost use Rattle.zst_objset.specs.Changes.{block_written};
-ghost use Rattle.zst_objset.specs.Damage.{IsDamagedObject};
+ghost use Rattle.zst_objset.specs.Damage.{AreTreesWithin, IsDamagedObject};
 ghost use Rattle.zst_objset.specs.BlockWrites.{PutsData, PutsDataRoot, write_judged};
 ghost use Rattle.zst_objset.specs.SetChanges.{ChangesTightSet, SetHas, SetHasTight};
 
@@ -75,6 +75,7 @@ fn put_data<D: Disk>(
     ensures levels { IfOk result (λ made. made.levels ≤ 7) }
     ensures root { IfOk result (PutsDataRoot tree (length bytes.now)) }
     ensures damaged { IsHonest io.new → NamesDamage (IsSparedBy io.old) (disk_of io.old).size NamesNode tree.levels tree.root result }
+    ensures trees { IsHonest io.new → IfOk result (λ made. IsSummedBelow (IsSparedBy io.old) (disk_of io.old).size tree.levels tree.root (IsSparedBy io.new) made.levels made.root) }
     ensures works { Works (length bytes.now / 512 + 224) (length bytes.now / 512) (io_of io.old) (io_of io.new) (block_stop result) }
 {
     let block = write(io, bytes, 0, number)?;
@@ -95,6 +96,7 @@ pub(crate) fn write_block<D: Disk>(
     requires object { 0 < object }
     ensures changes { ChangesTightSet SetHas SetHasTight SetFits number (block_written number object index bytes.now) (LimitOnly quantities.Block index_bound (index + 1))
         (IsDamagedObject (IsSparedBy io.old) (disk_of io.old).size NamesNode set.old) (640 + length bytes.now / 512) (length bytes.now / 512) (io_of io.old) (io_of io.new) set.old set.new result }
+    ensures trees { IsHonest io.new → OnOk result (AreTreesWithin (IsSparedBy io.old) (disk_of io.old).size set.old (IsSparedBy io.new) set.new) }
 {
     applied_is_state();
     let dnode = match object_there(set, io, object) {

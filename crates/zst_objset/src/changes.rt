@@ -1,5 +1,5 @@
 //! The calls that change a set.
-ghost use Rattle.std.specs.Prelude.{◌≡◌, ◌+◌, ◌/◌, ◌<◌, ◌^◌, ℕ, Ok, length};
+ghost use Rattle.std.specs.Prelude.{◌≡◌, ◌+◌, ◌/◌, ◌<◌, ◌^◌, ℕ, Ok, OnOk, length};
 ghost use Rattle.zst_block.specs.Ptr.{PtrFits};
 ghost use Rattle.zst_block.specs.IoStates.{IsHonest, blocks_of, disk_of, io_of, IsSparedBy};
 ghost use Rattle.zst_dnode.specs.Dnode.{DnodeFits};
@@ -12,7 +12,7 @@ ghost use Rattle.zst_model.specs.states.State.{IsSpill};
 ghost use Rattle.zst_tree.specs.Sets.{SetFits};
 ghost use Rattle.zst_objset.specs.Answers.{Changes, NotLimit};
 ghost use Rattle.zst_objset.specs.Changes.{changed, spill_put};
-ghost use Rattle.zst_objset.specs.Damage.{IsDamagedSet};
+ghost use Rattle.zst_objset.specs.Damage.{AreTreesWithin, IsDamagedSet};
 ghost use Rattle.zst_objset.specs.SlotPuts.{DatesRise, MakesDnode, PutsSlot};
 ghost use Rattle.zst_objset.specs.Sets.{SetHolds};
 ghost use Rattle.zst_objset.specs.TightSets.{IsTightDnode, IsTightSlot, SetIsTight};
@@ -71,7 +71,7 @@ pub(crate) fn put_there<D: Disk>(
     ensures tight { (before now : DatedState) → IsHonest io.new → SetIsTight (blocks_of io.old) set.old before
         → PutsSlot (blocks_of io.old) before now object (object + 1) (There dnode) → IsTightSlot now object (There dnode) → DatesRise before now
         → Changes (SetIsTight (blocks_of io.new) set.new) (Ok now) result }
-    ensures puts { PutsInSet (io_of io.old) (io_of io.new) set.old set.new result }
+    ensures puts { PutsInSet dnode (io_of io.old) (io_of io.new) set.old set.new result }
 {
     match put_in_leaf(*set, io, object, object + 1, &Slot::There(dnode)) {
         Ok(made) => {
@@ -97,7 +97,7 @@ pub(crate) fn put_dnode<D: Disk>(
     ensures tight { (number : ℕ) (change : Change) (state : DatedState) → IsHonest io.new → SetIsTight (blocks_of io.old) set.old state → DatedUpTo number state
         → MakesDnode (blocks_of io.old) number object change state dnode → IsTightDnode number object change state dnode
         → Changes (SetIsTight (blocks_of io.new) set.new) (changed number (At object change) state) result }
-    ensures puts { PutsInSet (io_of io.old) (io_of io.new) set.old set.new result }
+    ensures puts { PutsInSet dnode (io_of io.old) (io_of io.new) set.old set.new result }
 {
     applied_is_state();
     put_there(set, io, object, dnode)
@@ -115,6 +115,7 @@ pub(crate) fn put_spill<D: Disk>(
     requires spill { IsSpill bytes.now }
     ensures changes { ChangesTightSet SetHas SetHasTight SetFits number (spill_put number object bytes.now) NotLimit
         (IsDamagedSet (IsSparedBy io.old) (disk_of io.old).size set.old) (640 + length bytes.now / 512) (length bytes.now / 512) (io_of io.old) (io_of io.new) set.old set.new result }
+    ensures trees { IsHonest io.new → OnOk result (AreTreesWithin (IsSparedBy io.old) (disk_of io.old).size set.old (IsSparedBy io.new) set.new) }
 {
     let dnode = match object_there(set, io, object) {
         Ok(dnode) => dnode,

@@ -1,5 +1,5 @@
 //! The call that frees a range of numbers.
-ghost use Rattle.std.specs.Prelude.{◌+◌, ◌*◌, ◌/◌, ◌<◌, ◌≤◌, ◌^◌, IfOk};
+ghost use Rattle.std.specs.Prelude.{◌+◌, ◌*◌, ◌/◌, ◌<◌, ◌≤◌, ◌^◌, IfOk, OnOk};
 ghost use Rattle.zst_block.specs.IoStates.{IsHonest, blocks_of, disk_of, io_of, IsSparedBy};
 ghost use Rattle.zst_block.specs.IoCalls.{Works, stop_of as block_stop_of};
 ghost use Rattle.zst_model.specs.declared.refusals.faults.Quantity.TheVariants as quantities;
@@ -10,7 +10,7 @@ ghost use Rattle.zst_tree.specs.Indices.{Delivers};
 ghost use Rattle.zst_tree.specs.Sets.{SetFits};
 ghost use Rattle.zst_objset.specs.Answers.{Changes, LimitOnly};
 ghost use Rattle.zst_objset.specs.Changes.{objects_freed};
-ghost use Rattle.zst_objset.specs.Damage.{IfDamaged, IsDamagedSet};
+ghost use Rattle.zst_objset.specs.Damage.{AreTreesWithin, IfDamaged, IsDamagedSet};
 ghost use Rattle.zst_objset.specs.FreedNumbers.{freed};
 ghost use Rattle.zst_objset.specs.Sets.{SetHolds};
 ghost use Rattle.zst_objset.specs.TightSets.{SetIsTight};
@@ -41,7 +41,7 @@ fn free_in_leaf<D: Disk>(
         → Delivers (λ made. SetHolds (blocks_of io.new) made (freed number first below state)) result }
     ensures tight { (state : DatedState) → IsHonest io.new → SetIsTight (blocks_of io.old) set state → DatedUpTo number state
         → IfOk result (λ made. SetIsTight (blocks_of io.new) made (freed number first below state)) }
-    ensures makes { MakesSet 240 (io_of io.old) (io_of io.new) set result }
+    ensures makes { MakesSet (λ dnode. ⊥) 240 (io_of io.old) (io_of io.new) set result }
     ensures levels { SetFits set → IfOk result SetFits }
 {
     if first == below {
@@ -66,7 +66,7 @@ fn free_leaves<D: Disk>(
         → Delivers (λ made. SetHolds (blocks_of io.new) made (freed number (16 * first) (16 * below) state)) result }
     ensures tight { (state : DatedState) → IsHonest io.new → SetIsTight (blocks_of io.old) set state → DatedUpTo number state
         → IfOk result (λ made. SetIsTight (blocks_of io.new) made (freed number (16 * first) (16 * below) state)) }
-    ensures makes { MakesSet 320 (io_of io.old) (io_of io.new) set result }
+    ensures makes { MakesSet (λ dnode. ⊥) 320 (io_of io.old) (io_of io.new) set result }
     ensures levels { SetFits set → IfOk result SetFits }
 {
     if first == below {
@@ -97,6 +97,7 @@ fn free_range<D: Disk>(
     ensures tight { (state : DatedState) → IsHonest io.new → SetIsTight (blocks_of io.old) set state → DatedUpTo number state
         → IfOk result (λ made. SetIsTight (blocks_of io.new) made (freed number first below state)) }
     ensures damaged { IsHonest io.new → IfDamaged result (IsDamagedSet (IsSparedBy io.old) (disk_of io.old).size set) }
+    ensures trees { IsHonest io.new → IfOk result (AreTreesWithin (IsSparedBy io.old) (disk_of io.old).size set (IsSparedBy io.new)) }
     ensures works { Works 800 16 (io_of io.old) (io_of io.new) (block_stop_of result) }
     ensures levels { SetFits set → IfOk result SetFits }
 {
@@ -124,6 +125,7 @@ pub(crate) fn free_objects<D: Disk>(
         (IsDamagedSet (IsSparedBy io.old) (disk_of io.old).size set.old) 1280 16 (io_of io.old) (io_of io.new) set.old set.new result }
     ensures tight { (state : DatedState) → IsHonest io.new → SetIsTight (blocks_of io.old) set.old state → DatedUpTo number state
         → Changes (SetIsTight (blocks_of io.new) set.new) (objects_freed number first count state) result }
+    ensures trees { IsHonest io.new → OnOk result (AreTreesWithin (IsSparedBy io.old) (disk_of io.old).size set.old (IsSparedBy io.new) set.new) }
     ensures levels { SetFits set.old → SetFits set.new }
 {
     if first.saturating_add(count) > NUMBER_BOUND {

@@ -16,7 +16,7 @@ ghost use Rattle.zst_tree.specs.Indices.{Blocks};
 ghost use Rattle.zst_tree.specs.Steps.{LooksAtMost};
 ghost use Rattle.zst_objset.specs.Answers.{Changes, FindsObject, FindsSlot, IsOfBlock, LimitOnly, NotLimit, ReadsBlock, stop_of};
 ghost use Rattle.zst_objset.specs.Changes.{block_written, found_at, holes_made, object_put, objects_freed, range_redacted, spill_put};
-ghost use Rattle.zst_objset.specs.Damage.{DamageFact, IfSetDamaged};
+ghost use Rattle.zst_objset.specs.Damage.{DamageFact, IfSetDamaged, TellsWithin};
 ghost use Rattle.zst_objset.specs.Searches.{FindsNext};
 ghost use Rattle.zst_objset.specs.SetChanges.{ChangesSet, ChangesTightSet};
 
@@ -50,7 +50,7 @@ pub trait Objects<D: Disk> {
     ghost slot_damage: { (List ℕ → Type 0) → ℕ → Self → DamageFact };
 
     /// By one that also looks at the tree of an object or changes it, where the pointers of its nodes
-    /// have to be right.
+    /// have to be right. After a change no more may be told than before it.
     ghost tree_damage: { (List ℕ → Type 0) → ℕ → (ℕ → Ptr → Type 0) → Self → DamageFact };
 
     /// By one that also reads a block of an object, of so many bytes.
@@ -124,7 +124,8 @@ pub trait Objects<D: Disk> {
         ensures changes { ChangesTightSet holds tight fits number (object_put number object head bonus.now keep_spill) (LimitOnly quantities.Object number_bound (object + 1))
             (slot_damage (IsSparedBy io.old) (disk_of io.old).size self.old) 640 16 (io_of io.old) (io_of io.new) self.old self.new result }
         ensures within { IsHonest io.new → OnOk result ((sector : ℕ) (stated found : List ℕ) → slot_damage (IsSparedBy io.new) (disk_of io.old).size self.new sector stated found
-            → slot_damage (IsSparedBy io.old) (disk_of io.old).size self.old sector stated found) };
+            → slot_damage (IsSparedBy io.old) (disk_of io.old).size self.old sector stated found) }
+        ensures trees { IsHonest io.new → OnOk result (TellsWithin (tree_damage (IsSparedBy io.new) (disk_of io.old).size (SumsUp (IsSparedBy io.new)) self.new) (tree_damage (IsSparedBy io.old) (disk_of io.old).size (SumsUp (IsSparedBy io.old)) self.old)) };
 
     /// Gives an object another spill block.
     fn put_spill(
@@ -137,7 +138,8 @@ pub trait Objects<D: Disk> {
         requires object { 0 < object }
         requires spill { IsSpill bytes.now }
         ensures changes { ChangesTightSet holds tight fits number (spill_put number object bytes.now) NotLimit
-            (slot_damage (IsSparedBy io.old) (disk_of io.old).size self.old) (640 + length bytes.now / 512) (length bytes.now / 512) (io_of io.old) (io_of io.new) self.old self.new result };
+            (slot_damage (IsSparedBy io.old) (disk_of io.old).size self.old) (640 + length bytes.now / 512) (length bytes.now / 512) (io_of io.old) (io_of io.new) self.old self.new result }
+        ensures trees { IsHonest io.new → OnOk result (TellsWithin (tree_damage (IsSparedBy io.new) (disk_of io.old).size (SumsUp (IsSparedBy io.new)) self.new) (tree_damage (IsSparedBy io.old) (disk_of io.old).size (SumsUp (IsSparedBy io.old)) self.old)) };
 
     /// Frees `count` numbers.
     fn free_objects(
@@ -152,6 +154,7 @@ pub trait Objects<D: Disk> {
             (slot_damage (IsSparedBy io.old) (disk_of io.old).size self.old) 1280 16 (io_of io.old) (io_of io.new) self.old self.new result }
         ensures tight { (state : DatedState) → IsHonest io.new → tight self.old (blocks_of io.old) state → DatedUpTo number state
             → Changes (tight self.new (blocks_of io.new)) (objects_freed number first count state) result }
+        ensures trees { IsHonest io.new → OnOk result (TellsWithin (tree_damage (IsSparedBy io.new) (disk_of io.old).size (SumsUp (IsSparedBy io.new)) self.new) (tree_damage (IsSparedBy io.old) (disk_of io.old).size (SumsUp (IsSparedBy io.old)) self.old)) }
         ensures levels { fits self.old → fits self.new };
 
     /// Writes the whole block of one index.
@@ -165,7 +168,8 @@ pub trait Objects<D: Disk> {
     ) -> Result<(), ObjFault>
         requires object { 0 < object }
         ensures changes { ChangesTightSet holds tight fits number (block_written number object index bytes.now) (LimitOnly quantities.Block index_bound (index + 1))
-            (tree_damage (IsSparedBy io.old) (disk_of io.old).size NamesNode self.old) (640 + length bytes.now / 512) (length bytes.now / 512) (io_of io.old) (io_of io.new) self.old self.new result };
+            (tree_damage (IsSparedBy io.old) (disk_of io.old).size NamesNode self.old) (640 + length bytes.now / 512) (length bytes.now / 512) (io_of io.old) (io_of io.new) self.old self.new result }
+        ensures trees { IsHonest io.new → OnOk result (TellsWithin (tree_damage (IsSparedBy io.new) (disk_of io.old).size (SumsUp (IsSparedBy io.new)) self.new) (tree_damage (IsSparedBy io.old) (disk_of io.old).size (SumsUp (IsSparedBy io.old)) self.old)) };
 
     /// Makes holes of `count` indices.
     fn punch(
@@ -178,7 +182,8 @@ pub trait Objects<D: Disk> {
     ) -> Result<(), ObjFault>
         requires object { 0 < object }
         ensures changes { ChangesTightSet holds tight fits number (holes_made number object first count) (LimitOnly quantities.Block index_bound (first + count))
-            (tree_damage (IsSparedBy io.old) (disk_of io.old).size (SumsUp (IsSparedBy io.old)) self.old) 1280 16 (io_of io.old) (io_of io.new) self.old self.new result };
+            (tree_damage (IsSparedBy io.old) (disk_of io.old).size (SumsUp (IsSparedBy io.old)) self.old) 1280 16 (io_of io.old) (io_of io.new) self.old self.new result }
+        ensures trees { IsHonest io.new → OnOk result (TellsWithin (tree_damage (IsSparedBy io.new) (disk_of io.old).size (SumsUp (IsSparedBy io.new)) self.new) (tree_damage (IsSparedBy io.old) (disk_of io.old).size (SumsUp (IsSparedBy io.old)) self.old)) };
 
     /// Redacts `count` indices.
     fn redact_range(
@@ -191,5 +196,6 @@ pub trait Objects<D: Disk> {
     ) -> Result<(), ObjFault>
         requires object { 0 < object }
         ensures changes { ChangesTightSet holds tight fits number (range_redacted number object first count) (LimitOnly quantities.Block index_bound (first + count))
-            (tree_damage (IsSparedBy io.old) (disk_of io.old).size NamesNode self.old) 1280 16 (io_of io.old) (io_of io.new) self.old self.new result };
+            (tree_damage (IsSparedBy io.old) (disk_of io.old).size NamesNode self.old) 1280 16 (io_of io.old) (io_of io.new) self.old self.new result }
+        ensures trees { IsHonest io.new → OnOk result (TellsWithin (tree_damage (IsSparedBy io.new) (disk_of io.old).size (SumsUp (IsSparedBy io.new)) self.new) (tree_damage (IsSparedBy io.old) (disk_of io.old).size (SumsUp (IsSparedBy io.old)) self.old)) };
 }

@@ -10,12 +10,12 @@ ghost use Rattle.zst_model.specs.pools.Soundness.{DatedUpTo};
 ghost use Rattle.zst_model.specs.states.AppliedItems.{within};
 ghost use Rattle.zst_model.specs.states.DatedState.{DatedState};
 ghost use Rattle.zst_model.specs.states.State.{Object, Hole, Redacted, IsState, end_of, index_bound, is_number};
-ghost use Rattle.zst_tree.specs.Damage.{IsSeen, NamesDamage, NamesNode, SumsUp};
+ghost use Rattle.zst_tree.specs.Damage.{IsSeen, IsSummedBelow, NamesDamage, NamesNode, SumsUp};
 ghost use Rattle.zst_tree.specs.Indices.{Delivers, Map};
 ghost use Rattle.zst_tree.specs.Sets.{SetFits};
 ghost use Rattle.zst_objset.specs.Answers.{LimitOnly, NotRedacted};
 ghost use Rattle.zst_objset.specs.Changes.{changed, indices_changed};
-ghost use Rattle.zst_objset.specs.Damage.{IsDamagedObject};
+ghost use Rattle.zst_objset.specs.Damage.{AreTreesWithin, IsDamagedObject};
 ghost use Rattle.zst_objset.specs.Dnodes.{IsThere, ObjectIs};
 ghost use Rattle.zst_objset.specs.SlotPuts.{MakesDnode};
 ghost use Rattle.zst_objset.specs.Ranges.{IsRightNode, change_of, free_of, range_check, redact_of, redaction_check, with_range};
@@ -158,6 +158,7 @@ fn punched<D: Disk>(
         → DatedUpTo number state → IsTightSlot state k (There dnode) → IfOk result (IsTightDnode number k (free_of first count (state.state k)) state) }
     ensures fits { IfOk result DnodeFits }
     ensures damaged { IsHonest io.new → NamesDamage (IsSparedBy io.old) (disk_of io.old).size (SumsUp (IsSparedBy io.old)) dnode.levels dnode.root result }
+    ensures trees { IsHonest io.new → IfOk result (λ made. IsSummedBelow (IsSparedBy io.old) (disk_of io.old).size dnode.levels dnode.root (IsSparedBy io.new) made.levels made.root) }
     ensures works { Works 320 16 (io_of io.old) (io_of io.new) (block_stop result) }
 {
     let end = end_punched(io, &dnode, first, count)?;
@@ -184,6 +185,7 @@ fn redacted<D: Disk>(
         → DatedUpTo number state → IsTightSlot state k (There dnode) → IfOk result (IsTightDnode number k (redact_of first count (state.state k)) state) }
     ensures fits { IfOk result DnodeFits }
     ensures damaged { IsHonest io.new → NamesDamage (IsSparedBy io.old) (disk_of io.old).size NamesNode dnode.levels dnode.root result }
+    ensures trees { IsHonest io.new → IfOk result (λ made. IsSummedBelow (IsSparedBy io.old) (disk_of io.old).size dnode.levels dnode.root (IsSparedBy io.new) made.levels made.root) }
     ensures works { Works 320 16 (io_of io.old) (io_of io.new) (block_stop result) }
 {
     let mut tree = tree_of(&dnode);
@@ -209,6 +211,7 @@ fn range_changed<D: Disk>(
         → DatedUpTo number state → IsTightSlot state k (There dnode) → IfOk result (IsTightDnode number k (change_of change first count (state.state k)) state) }
     ensures fits { IfOk result DnodeFits }
     ensures damaged { IsHonest io.new → NamesDamage (IsSparedBy io.old) (disk_of io.old).size (IsRightNode change (IsSparedBy io.old)) dnode.levels dnode.root result }
+    ensures trees { IsHonest io.new → IfOk result (λ made. IsSummedBelow (IsSparedBy io.old) (disk_of io.old).size dnode.levels dnode.root (IsSparedBy io.new) made.levels made.root) }
     ensures works { Works 320 16 (io_of io.old) (io_of io.new) (block_stop result) }
 {
     match change {
@@ -230,6 +233,7 @@ pub(crate) fn change_range<D: Disk>(
     requires object { 0 < object }
     ensures changes { ChangesTightSet SetHas SetHasTight SetFits number (λ state. indices_changed (first + count) (changed number (At object (change_of change first count (state.state object))) state)) (LimitOnly quantities.Block index_bound (first + count))
         (IsDamagedObject (IsSparedBy io.old) (disk_of io.old).size (IsRightNode change (IsSparedBy io.old)) set.old) 1280 16 (io_of io.old) (io_of io.new) set.old set.new result }
+    ensures trees { IsHonest io.new → OnOk result (AreTreesWithin (IsSparedBy io.old) (disk_of io.old).size set.old (IsSparedBy io.new) set.new) }
 {
     let dnode = object_there(set, io, object)?;
     check_change(&dnode, change, first, count)?;

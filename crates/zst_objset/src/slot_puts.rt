@@ -2,6 +2,7 @@
 ghost use Rattle.std.specs.Prelude.{◌≡◌, ◌+◌, ◌*◌, ◌/◌, ◌<◌, ◌≤◌, ◌^◌, ℕ, IfOk};
 ghost use Rattle.zst_block.specs.IoStates.{IsHonest, blocks_of, io_of};
 ghost use Rattle.zst_dnode.specs.Slot.{SlotFits};
+ghost use Rattle.zst_dnode.specs.declared.slot.Slot.TheVariants.{There};
 ghost use Rattle.zst_model.specs.states.DatedState.{DatedState};
 ghost use Rattle.zst_tree.specs.Indices.{Delivers};
 ghost use Rattle.zst_tree.specs.Sets.{SetFits};
@@ -45,7 +46,7 @@ pub(crate) fn put_in_leaf<D: Disk>(
     ensures tight { (snap after : DatedState) → IsHonest io.new → SetIsTight (blocks_of io.old) set snap
         → PutsSlot (blocks_of io.old) snap after first below slot.now → ((k : ℕ) → first ≤ k → k < below → IsTightSlot after k slot.now) → DatesRise snap after
         → IfOk result (λ made. SetIsTight (blocks_of io.new) made after) }
-    ensures makes { MakesSet 240 (io_of io.old) (io_of io.new) set result }
+    ensures makes { MakesSet (λ dnode. slot.now ≡ There dnode) 240 (io_of io.old) (io_of io.new) set result }
     ensures levels { IfOk result SetFits }
 {
     let leaf = first / 16;

@@ -3,6 +3,7 @@ use Rattle.std.specs.Prelude.{Result, Ok, Err, IfErr, IfOk, OnErr}
 use Rattle.std.proofs.Common.{◌≡◌, ℕ, ◌+◌, ◌<◌, ◌≤◌, ◌^◌, Bool, false, true, ◌||◌, List, length, refl, sym, ap, subst, ◌∙◌, arith}
 use Rattle.std.proofs.lemmas.Result.{IfOk-weaker}
 use Rattle.zst_space.specs.FreeSectors.{FreeSectors}
+use Rattle.zst_block.specs.Blocks.{SparesTaken}
 use Rattle.zst_block.specs.IoCalls as blocks
 use Rattle.zst_block.specs.IoStates.{IoState}
 use Rattle.zst_dir.specs.Rows.{Rows}
@@ -10,6 +11,7 @@ use Rattle.zst_dir.specs.Spelling.{dir_bytes}
 use Rattle.zst_image.specs.Commits.{CommittedDir, KeepsDisk, Ready, RefusedDir}
 use Rattle.zst_image.specs.Faults.{stop_of_commit}
 use Rattle.zst_uber.specs.DiskCalls as calls
+use Rattle.zst_uber.specs.declared.uber.Uber.{Uber}
 use Rattle.zst_image.specs.declared.commit_fault.CommitFault.{CommitFault}
 use Rattle.zst_image.specs.declared.commit_fault.CommitFault.TheVariants.{Full, DiskFault, OutOfMemory}
 use Rattle.zst_image.specs.declared.pool_state.PoolState.{PoolState}
@@ -67,6 +69,13 @@ committed_known (Err (Full need largest)) shorter = shorter need largest refl
 committed_known (Err DiskFault) shorter = tt
 committed_known (Err OutOfMemory) shorter = tt
 
+-- a refused commit wrote into free sectors alone, unless the disk failed
+committed_spares : (made : Result PoolState CommitFault) (body : Uber) (old new : IoState) → RefusedDir body old new made → ¬ (of_committed made ≡ Err faults.DiskFault) → OnErr (of_committed made) (SparesTaken old.space old.disk.seen new.disk.seen)
+committed_spares (Ok kept) body old new refused apart = tt
+committed_spares (Err (Full need largest)) body old new refused apart = let fills = refused.fills (λ is. cc) in fills.seen
+committed_spares (Err DiskFault) body old new refused apart = absurd (apart refl)
+committed_spares (Err OutOfMemory) body old new refused apart = let fills = refused.fills (λ is. cc) in fills.seen
+
 -- what holds of a commit's answer holds of a call's that is the same
 module _ (made : Result PoolState CommitFault) (answer : Result PoolState PoolFault) (is : answer ≡ of_committed made) where
   pub answers_ok : (P : PoolState → Type 0) → IfOk made P → IfOk answer P
@@ -74,6 +83,10 @@ module _ (made : Result PoolState CommitFault) (answer : Result PoolState PoolFa
 
   pub answers_err : (P : Type 0) → OnErr made P → OnErr answer P
   answers_err P holds = subst (λ (r : Result PoolState PoolFault). OnErr r P) (sym is) (committed_err P made holds)
+
+  pub answers_spares : (body : Uber) (old new : IoState) → RefusedDir body old new made → ¬ (answer ≡ Err faults.DiskFault) → OnErr answer (SparesTaken old.space old.disk.seen new.disk.seen)
+  answers_spares body old new refused apart =
+      subst (λ (r : Result PoolState PoolFault). OnErr r (SparesTaken old.space old.disk.seen new.disk.seen)) (sym is) (committed_spares made body old new refused (λ fell. apart (is ∙ fell)))
 
   pub answers_full : (need largest : ℕ) → answer ≡ Err (faults.Full need largest) → made ≡ Err (Full need largest)
   answers_full need largest full = committed_full made need largest (sym is ∙ full)

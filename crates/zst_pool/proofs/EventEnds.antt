@@ -4,6 +4,8 @@ use Rattle.std.proofs.Common.{◌≡◌, ℕ, List, [], Bool, false, true, ◌||
 use Rattle.zst_outside.specs.Images.{Leaves-none, OnlyReads-none}
 use Rattle.zst_outside.specs.declared.disk.Disk.{Ghosts}
 use Rattle.zst_space.specs.FreeSectors.{FreeSectors}
+use Rattle.zst_block.specs.Blocks.{SparesTaken}
+use Rattle.zst_block.proofs.BlocksLaws.{SparesTaken-same}
 use Rattle.zst_block.specs.IoCalls.{Looks, is_damage}
 use Rattle.zst_block.specs.IoStates.{IoState, disk_of, io_of}
 use Rattle.zst_block.specs.declared.io.Io.{Io}
@@ -37,6 +39,15 @@ either_failed : (a b : Bool) → (a || b) ≡ false → a ≡ true → ⊥
 either_failed true b h is = cc
 either_failed false b h is = cc
 
+abbrev refused_with : PoolFault → Result ℕ PoolFault
+refused_with fault = Err fault
+
+-- what a commit's refusal leaves, unless the disk failed, the call leaves that keeps what was committed
+refused_apart : (P : Type 0) (kept : PoolState) (answer : Result ℕ PoolFault) (made : Result PoolState PoolFault) → keeping kept answer ≡ made → (¬ (made ≡ Err DiskFault) → OnErr made P) → ¬ (answer ≡ Err DiskFault) → OnErr answer P
+refused_apart P kept (Ok number) made is holds apart = tt
+refused_apart P kept (Err fault) made is holds apart =
+    subst (λ (r : Result PoolState PoolFault). OnErr r P) (sym is) (holds (λ fell. let both : keeping kept (Err fault) ≡ Err DiskFault = is ∙ fell in let disk : fault ≡ DiskFault = cc both in apart (ap refused_with disk)))
+
 module _ {D : Type 0} {g : Ghosts D} where
   -- a pool that has failed answers E31, and stays as it is
   pub settles_failed : {T : Type 0} (pool : Pool D g) → pool.io.failed ≡ true → Settles {T = T} pool pool (Err Failed)
@@ -63,6 +74,8 @@ module _ {D : Type 0} {g : Ghosts D} where
     full = λ need largest is. absurd (cc (is));
     grows = tt;
     blocks = tt;
+    spares = λ apart. SparesTaken-same pool.io.space (disk_of pool.io).seen;
+    size = refl;
   }
 
   -- an event whose commit ended so over its disk, whatever sectors it began with, once the pool kept what it committed
@@ -102,6 +115,10 @@ module _ {D : Type 0} {g : Ghosts D} where
           subst (λ (less : FreeSectors). IsCallFull old.io.space less old.kept.dir need largest) (sym (left (ap is_full same))) (puts.full need largest same);
       grows = kept_has (CallGrows old.io.space old.kept) new.kept answer made kept puts.grows;
       blocks = blocks_last (disk_of old.io).seen (disk_of mid).seen (disk_of new.io).seen old.io.space new.io.space new.kept answer made kept puts.blocks free (ap (λ (d : D). (g.state d).seen) disk.now);
+      spares = λ apart.
+          subst (λ (d : D). OnErr answer (SparesTaken old.io.space (disk_of old.io).seen (g.state d).seen)) (sym disk.now)
+          (refused_apart (SparesTaken old.io.space (disk_of old.io).seen (disk_of mid).seen) new.kept answer made kept puts.spares apart);
+      size = ap (λ (d : D). (g.state d).size) disk.now ∙ puts.size;
     }
 
   -- without memory nothing of a partial state was committed
@@ -114,6 +131,8 @@ module _ {D : Type 0} {g : Ghosts D} where
     full = λ need largest is. absurd (cc (is));
     grows = tt;
     blocks = tt;
+    spares = λ apart. SparesTaken-same io.space (disk_of io).seen;
+    size = refl;
   })
 
   -- what was run stands over the disk that the pool then has, as what it kept

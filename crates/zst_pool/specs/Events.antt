@@ -98,6 +98,9 @@ module _ {D : Type 0} {g : Ghosts D} where
     pub grows : IfOk result (CallGrows old.space kept)
     -- the blocks that were there still are, over the sectors that the new body leaves free
     pub blocks : IfOk result (λ next. KeepsBlocks (disk_of old).seen old.space (disk_of new).seen (free_by next.body))
+    -- a refusal, but for that of the disk, wrote into free sectors alone, and the disk is as long
+    pub spares : ¬ (result ≡ Err DiskFault) → OnErr result (SparesTaken old.space (disk_of old).seen (disk_of new).seen)
+    pub size : (disk_of new).size ≡ (disk_of old).size
 
   -- a call that commits what this definition makes of a partial state, after which the directory has these rows
   pub record PutsPartial (definition : PlainPartial → Plain → Result Plain Refusal) (partial : Partial) (dir : Rows) (old new : Pool D g) (result : Result ℕ PoolFault) : Type 0 where
@@ -113,6 +116,9 @@ module _ {D : Type 0} {g : Ghosts D} where
     pub grows : OnOk result (CallGrows old.io.space old.kept new.kept)
     -- the blocks that were there still are
     pub blocks : OnOk result (KeepsBlocks (disk_of old.io).seen old.io.space (disk_of new.io).seen new.io.space)
+    -- a refusal, but for that of the disk, wrote into free sectors alone, and the disk is as long
+    pub spares : ¬ (result ≡ Err DiskFault) → OnErr result (SparesTaken old.io.space (disk_of old.io).seen (disk_of new.io).seen)
+    pub size : (disk_of new.io).size ≡ (disk_of old.io).size
 
   -- a step at this time: what it makes of a pool that was at rest, and what it takes and tells whatever the image is
   pub record StepDid (now : ℕ) (command : Command) (old new : Pool D g) (result : Result (List (List ℕ)) PoolFault) : Type 0 where

@@ -1,6 +1,6 @@
 // What a receive does to a pool: it commits a partial state, or drops one.
-ghost use Rattle.std.specs.Prelude.{◌≡◌, ◌+◌, ◌<◌, ℕ, false, filter, length, not, IfErr, IfOk, Err, Bool};
-ghost use Rattle.zst_block.specs.Blocks.{FitsDisk, KeepsBlocks};
+ghost use Rattle.std.specs.Prelude.{◌≡◌, ◌+◌, ◌<◌, ℕ, false, filter, length, not, IfErr, IfOk, OnErr, Err, Bool};
+ghost use Rattle.zst_block.specs.Blocks.{FitsDisk, KeepsBlocks, SparesTaken};
 ghost use Rattle.zst_block.specs.IoStates.{IsHonest, blocks_of, disk_of, io_of};
 ghost use Rattle.zst_block.specs.IoCalls.{TakesAtMost};
 ghost use Rattle.zst_model.specs.pools.Pool.{Pool as Plain};
@@ -41,6 +41,8 @@ pub fn commit_next<D: Disk>(
     ensures takes { TakesAtMost (dir_sectors (length (dir_bytes dir))) io.old.space io.new.space }
     // The blocks that were there still are, over the sectors that the new body leaves free.
     ensures blocks { IfOk result (λ next. KeepsBlocks (disk_of io.old).seen io.old.space (disk_of io.new).seen (free_by next.body)) }
+    // A refusal, but for that of the disk, wrote into free sectors alone.
+    ensures spares { ¬ (result ≡ Err PoolFault.DiskFault) → OnErr result (SparesTaken io.old.space (disk_of io.old).seen (disk_of io.new).seen) }
     ensures commits { EndsCommit kept.now (io_of io.old) (io_of io.new) result }
 {
     check_limits(&dir, kept.body.number)?;

@@ -15,7 +15,7 @@ use Rattle.zst_image.specs.Commits.{Ready}
 use Rattle.zst_image.specs.Reads.{PartialIs, Reads, bound_of}
 use Rattle.zst_image.proofs.Growth.{PartialIs-grows}
 use Rattle.zst_image.specs.declared.pool_state.PoolState.{PoolState}
-use Rattle.zst_block.specs.Blocks.{Has, KeepsBlocks}
+use Rattle.zst_block.specs.Blocks.{Has, KeepsBlocks, SparesTaken}
 use Rattle.zst_block.specs.IoStates.{disk_of}
 use Rattle.zst_pool.specs.Calls.{CallDid, CallFault, CallGrows, IsAtRest, IsCallFault, IsCallFull, IsUnderWay}
 use Rattle.zst_pool.specs.Events.{Settles}
@@ -32,6 +32,7 @@ use Rattle.zst_pool.specs.declared.pool.Pool as coded_pool
 use Rattle.zst_pool.proofs.PoolsAtRest.{rests_on, since}
 use Rattle.zst_recv.specs.ReceiveSteps.{Stage, Waits, Lives, Ends, Batch, put, put_at}
 use Rattle.zst_recv.specs.Commits.{CommitsBatch, Puts}
+use Rattle.zst_recv.proofs.SetOrigins.{keeps_same, keeps_spared}
 use Rattle.zst_recv.specs.Stages.{CanPutFor, IsStage, IsBatch, LivesOn, StageFits, has_partial}
 use Rattle.zst_recv.specs.declared.batch.Batch as batches
 use Rattle.zst_recv.specs.declared.received_snapshot.ReceivedSnapshot.{ReceivedSnapshot}
@@ -216,6 +217,8 @@ module _ {D : Type 0} {g : Ghosts D} where
     short = λ need largest is. absurd (cc is);
     grows = inl refl;
     ready = λ still. ready;
+    stood = λ apart ptr bytes has. has;
+    size = refl;
     failed = alive;
     told = λ whole. refl;
     cause = record { later = omega arith; fault = λ is. absurd (cc is) };
@@ -225,13 +228,16 @@ module _ {D : Type 0} {g : Ghosts D} where
 
   module _ (old new : coded_pool.Pool D g) where
     -- a call committed
-    pub commits_made : (number : ℕ) → old.io.failed ≡ false → Settles old new (Ok number) → CallGrows old.io.space old.kept new.kept → CommitsBatch {A = Unit {0}} old new (Ok tt)
-    commits_made number alive settles grows = record {
+    pub commits_made : (number : ℕ) → old.io.failed ≡ false → Settles old new (Ok number) → CallGrows old.io.space old.kept new.kept
+        → KeepsBlocks (disk_of old.io).seen old.io.space (disk_of new.io).seen new.io.space → (disk_of new.io).size ≡ (disk_of old.io).size → CommitsBatch {A = Unit {0}} old new (Ok tt)
+    commits_made number alive settles grows blocks size = record {
       known = tt;
       stays = tt;
       short = λ need largest is. absurd (cc is);
       grows = inr grows;
       ready = settles.ready;
+      stood = λ apart. keeps_same (disk_of old.io).seen old.io.space (disk_of new.io).seen new.io.space blocks;
+      size = size;
       failed = settles.failed ∙ ap (λ (b : Bool). b || false) alive;
       told = λ whole. settles.told refl;
       cause = record { later = settles.cause.later; fault = λ is. absurd (cc is) };
@@ -241,13 +247,16 @@ module _ {D : Type 0} {g : Ghosts D} where
 
     -- or was refused
     pub commits_refused : (fault : PoolFault) → old.io.failed ≡ false → Settles old new (called fault) → IsCallFault fault
-        → ((need largest : ℕ) → called fault ≡ called (pools.Full need largest) → IsCallFull old.io.space new.io.space old.kept.dir need largest) → CommitsBatch old new (answered fault)
-    commits_refused fault alive settles known full = record {
+        → ((need largest : ℕ) → called fault ≡ called (pools.Full need largest) → IsCallFull old.io.space new.io.space old.kept.dir need largest)
+        → (¬ (called fault ≡ called pools.DiskFault) → SparesTaken old.io.space (disk_of old.io).seen (disk_of new.io).seen) → (disk_of new.io).size ≡ (disk_of old.io).size → CommitsBatch old new (answered fault)
+    commits_refused fault alive settles known full spares size = record {
       known = known;
       stays = settles.stays;
       short = λ need largest is. full need largest (ap called (pool_told fault (pools.Full need largest) is));
       grows = tt;
       ready = settles.ready;
+      stood = λ apart. keeps_spared old.io.space (disk_of old.io).seen (disk_of new.io).seen (spares (λ is. apart (ap answered (called_same is))));
+      size = size;
       failed = settles.failed ∙ ap (λ (b : Bool). b || is_disk_fault (called fault)) alive ∙ failed_so fault;
       told = settles.told;
       cause = record { later = settles.cause.later; fault = λ is. settles.cause.fault (ap called (pool_told fault pools.DiskFault is)) };
@@ -255,6 +264,9 @@ module _ {D : Type 0} {g : Ghosts D} where
       same = settles.same;
     }
       where
+        called_same : called fault ≡ called pools.DiskFault → fault ≡ pools.DiskFault
+        called_same is = cc is
+
         failed_so : (told : PoolFault) → is_disk_fault (called told) ≡ is_disk_fault (answered told)
         failed_so (pools.Plan fault) = refl
         failed_so (pools.CannotApply fault) = refl

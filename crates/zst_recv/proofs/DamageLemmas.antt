@@ -2,20 +2,16 @@
 use Rattle.std.proofs.Common.{◌≡◌, ◌⊎◌, inl, inr, ℕ, List, [], ◌++◌, Some, None, Result, Err, sym, ap, ◌∙◌, subst}
 use Rattle.zst_outside.specs.Images.{DiskState}
 use Rattle.zst_space.specs.FreeSectors.{FreeSectors}
-use Rattle.zst_block.specs.Blocks.{FillsFree, SparesTaken}
 use Rattle.zst_block.specs.declared.fault.BlockFault.TheVariants as blocks
-use Rattle.zst_tree.proofs.LaterDamage.{spares_before}
 use Rattle.zst_objset.specs.Damage.{DamageFact, IfSetDamaged}
 use Rattle.zst_objset.specs.declared.fault.ObjFault.{ObjFault}
 use Rattle.zst_objset.specs.declared.fault.ObjFault.TheVariants as sets
-use Rattle.zst_block.proofs.BlocksLaws.{SparesTaken-same}
-use Rattle.zst_dir.specs.Rows.{Rows}
 use Rattle.zst_image.specs.Reads.{free_by}
 use Rattle.zst_image.specs.declared.pool_state.PoolState.{PoolState}
 use Rattle.zst_pool.specs.Calls.{IsCallFault}
 use Rattle.zst_pool.specs.declared.fault.PoolFault.{PoolFault}
 use Rattle.zst_pool.specs.declared.fault.PoolFault.TheVariants as pools
-use Rattle.zst_recv.specs.Damage.{IsDamagedFeed, IsDamagedState}
+use Rattle.zst_recv.specs.Damage.{IsDamagedFeed}
 use Rattle.zst_model.specs.declared.refusals.stream_fault.StreamFault.{StreamFault}
 use Rattle.zst_record.specs.Heads.{Covered}
 use Rattle.zst_stream.specs.Findings.{FindsAtEnd, IsFound}
@@ -24,6 +20,7 @@ use Rattle.zst_stream.proofs.Growth.{front}
 use Rattle.zst_recv.specs.Faults.{IsFeedFault, IsRecordFault, of_record, stop_of}
 use Rattle.zst_recv.specs.declared.fault.RecvFault.{RecvFault}
 use Rattle.zst_recv.specs.declared.fault.RecvFault.TheVariants as faults
+use Rattle.zst_recv.specs.declared.stage.Stage as coded
 
 -- what applying a record tells as damaged
 pub told_record : (Is : DamageFact) (T : Type 0) (index : ℕ) (fault : ObjFault) (sector : ℕ) (stated found : List ℕ) → IfSetDamaged {T = T} (Err fault) Is
@@ -56,27 +53,14 @@ told_none result sector stated found none is =
 pub told_call : (fault : PoolFault) (sector : ℕ) (stated found : List ℕ) → IsCallFault fault → faults.Pool fault ≡ faults.Pool (pools.Damaged sector stated found) → ⊥
 told_call fault sector stated found known is = let same : fault ≡ pools.Damaged sector stated found = cc in subst IsCallFault same known
 
-module _ (rows : Rows) (target : List ℕ) (sector : ℕ) (stated found : List ℕ) where
-  -- a record that comes first
-  pub damaged_first : (old : DiskState) (space : FreeSectors) → IsDamagedState (SparesTaken space old.seen) old.size rows target sector stated found → IsDamagedFeed old space rows target sector stated found
-  damaged_first old space state = record { seen = old.seen; free = space; spares = SparesTaken-same space old.seen; state = state }
-
-  -- or one behind blocks that were written
-  pub damaged_behind : (old mid : DiskState) (space less : FreeSectors) → FillsFree old space mid less → IsDamagedFeed mid less rows target sector stated found → IsDamagedFeed old space rows target sector stated found
-  damaged_behind old mid space less fills damaged = record {
-    seen = damaged.seen;
-    free = damaged.free;
-    spares = spares_before old mid space less fills damaged.seen damaged.spares;
-    state = subst (λ (n : ℕ). IsDamagedState (SparesTaken damaged.free damaged.seen) n rows target sector stated found) fills.size damaged.state;
-  }
-
 -- what a feed tells over its pool's free sectors
-pub damaged_renewed : (old one : DiskState) (space : FreeSectors) (kept same : PoolState) (target : List ℕ) (sector : ℕ) (stated found : List ℕ) → one ≡ old → space ≡ free_by kept.body → same ≡ kept
-    → IsDamagedFeed one space same.dir target sector stated found → IsDamagedFeed old (free_by kept.body) kept.dir target sector stated found
-damaged_renewed old one space kept same target sector stated found disk free stays damaged =
-    subst (λ (d : DiskState). IsDamagedFeed d (free_by kept.body) kept.dir target sector stated found) disk
-    (subst (λ (s : FreeSectors). IsDamagedFeed one s kept.dir target sector stated found) free
-    (subst (λ (k : PoolState). IsDamagedFeed one space k.dir target sector stated found) stays damaged))
+pub damaged_renewed : (old one : DiskState) (space : FreeSectors) (kept same : PoolState) (target : List ℕ) (was before : coded.Stage) (sector : ℕ) (stated found : List ℕ) → one ≡ old → space ≡ free_by kept.body → same ≡ kept → was ≡ before
+    → IsDamagedFeed one space same.dir target was sector stated found → IsDamagedFeed old (free_by kept.body) kept.dir target before sector stated found
+damaged_renewed old one space kept same target was before sector stated found disk free stays at damaged =
+    subst (λ (d : DiskState). IsDamagedFeed d (free_by kept.body) kept.dir target before sector stated found) disk
+    (subst (λ (s : FreeSectors). IsDamagedFeed one s kept.dir target before sector stated found) free
+    (subst (λ (k : PoolState). IsDamagedFeed one space k.dir target before sector stated found) stays
+    (subst (λ (b : coded.Stage). IsDamagedFeed one space same.dir target b sector stated found) at damaged)))
 
 -- ---- faults of the stream
 

@@ -107,6 +107,8 @@ module _ {D : Type 0} {g : Ghosts D} where
     open_still = λ alive is. let both : true ≡ false = sym failed ∙ alive in cc both;
     stays = λ fault is keeps. refl;
     blocks = λ goes. absurd (cc goes);
+    stood = λ apart ptr bytes has. has;
+    size = refl;
     ready = λ alive. absurd (let both : true ≡ false = sym failed ∙ alive in cc both);
     failed = failed ∙ ap (λ (b : Bool). b || false) (sym failed);
     told = λ whole. refl;
@@ -119,8 +121,9 @@ module _ {D : Type 0} {g : Ghosts D} where
     -- a piece was refused, and the disk is as it was then
     pub leaves_refused : (fault : RecvFault) (io : Io D g) → new.io ≡ io → IsFeedFault fault → (keeps_before fault ≡ false → new.kept.body ≡ old.kept.body)
         → (io.failed ≡ false → Ready (disk_of io) new.kept.body) → (is_damage (stop_at fault) ≡ false → io.checksum_errors ≡ old.io.checksum_errors) → io.failed ≡ fails (stop_at fault) → HasCause (disk_of old.io).faults (disk_of io).faults (stop_at fault)
-        → (IsHonest io → IsHonest old.io) → io.disk.ghost_name ≡ old.io.disk.ghost_name → LeavesPool old new (answer fault)
-    leaves_refused fault io is known stays ready counts failed cause honest same = record {
+        → (IsHonest io → IsHonest old.io) → io.disk.ghost_name ≡ old.io.disk.ghost_name
+        → (¬ (fault ≡ faults.Pool pools.DiskFault) → KeepsBlocks (disk_of old.io).seen (free_by old.kept.body) (disk_of io).seen (free_by old.kept.body)) → (disk_of io).size ≡ (disk_of old.io).size → LeavesPool old new (answer fault)
+    leaves_refused fault io is known stays ready counts failed cause honest same stood size = record {
       failed_pool = λ fell. absurd (let both : true ≡ false = sym fell ∙ alive in cc both);
       idle_disk = λ fell. absurd (let both : true ≡ false = sym fell ∙ alive in cc both);
       idle_kept = λ fell. absurd (let both : true ≡ false = sym fell ∙ alive in cc both);
@@ -128,6 +131,8 @@ module _ {D : Type 0} {g : Ghosts D} where
       open_still = λ open_pool told. still_open (answer fault) known told;
       stays = λ other told keeps. stays (ap keeps_before (told_fault fault other told) ∙ keeps);
       blocks = λ goes. absurd (cc goes);
+      stood = λ apart. subst (λ (i : Io D g). KeepsBlocks (disk_of old.io).seen (free_by old.kept.body) (disk_of i).seen (free_by old.kept.body)) (sym is) (stood (λ told. apart (ap answer told)));
+      size = ap (λ (i : Io D g). (disk_of i).size) is ∙ size;
       ready = λ still. subst (λ (i : Io D g). Ready (disk_of i) new.kept.body) (sym is) (ready (sym (ap (λ (i : Io D g). i.failed) is) ∙ still));
       failed = ap (λ (i : Io D g). i.failed) is ∙ failed ∙ ap (λ (b : Bool). b || fails (stop_at fault)) (sym alive);
       told = λ whole. ap (λ (i : Io D g). i.checksum_errors) is ∙ counts whole;
@@ -142,8 +147,9 @@ module _ {D : Type 0} {g : Ghosts D} where
     -- or it was taken and committed
     pub leaves_fed : (told : coded_recv.FeedReport) → (told.done ≡ false → KeepsBlocks (disk_of old.io).seen (free_by old.kept.body) (disk_of new.io).seen (free_by new.kept.body))
         → (new.io.failed ≡ false → Ready (disk_of new.io) new.kept.body) → new.io.checksum_errors ≡ old.io.checksum_errors → new.io.failed ≡ false → HasCause (disk_of old.io).faults (disk_of new.io).faults None
-        → (IsHonest new.io → IsHonest old.io) → new.io.disk.ghost_name ≡ old.io.disk.ghost_name → LeavesPool old new (Ok told)
-    leaves_fed told blocks ready counts failed cause honest same = record {
+        → (IsHonest new.io → IsHonest old.io) → new.io.disk.ghost_name ≡ old.io.disk.ghost_name
+        → KeepsBlocks (disk_of old.io).seen (free_by old.kept.body) (disk_of new.io).seen (free_by old.kept.body) → (disk_of new.io).size ≡ (disk_of old.io).size → LeavesPool old new (Ok told)
+    leaves_fed told blocks ready counts failed cause honest same stood size = record {
       failed_pool = λ fell. absurd (let both : true ≡ false = sym fell ∙ alive in cc both);
       idle_disk = λ fell. absurd (let both : true ≡ false = sym fell ∙ alive in cc both);
       idle_kept = λ fell. absurd (let both : true ≡ false = sym fell ∙ alive in cc both);
@@ -151,6 +157,8 @@ module _ {D : Type 0} {g : Ghosts D} where
       open_still = λ open_pool is. cc is;
       stays = λ fault is keeps. absurd (cc is);
       blocks = λ goes. blocks (not_done told.done goes);
+      stood = λ apart. stood;
+      size = size;
       ready = ready;
       failed = failed ∙ ap (λ (b : Bool). b || false) (sym alive);
       told = λ whole. counts;

@@ -1,5 +1,5 @@
 -- What a receive begins with stands for what the definition begins with.
-use Rattle.std.proofs.Common.{◌≡◌, ℕ, ◌<◌, Bool, true, List, ◌∷◌, ◌++◌, length, get_or, Option, Some, None, IfSome, refl, sym, ap, ◌∙◌, subst, arith}
+use Rattle.std.proofs.Common.{◌≡◌, inl, inr, ℕ, ◌<◌, Bool, true, List, ◌∷◌, ◌++◌, length, get_or, Option, Some, None, IfSome, refl, sym, ap, ◌∙◌, subst, arith}
 use Rattle.std.specs.List.{Contains, position}
 use Rattle.std.specs.Option.{option_map_or}
 use Rattle.std.specs.Str.{bytes_eq}
@@ -27,6 +27,8 @@ use Rattle.zst_plan.specs.RecvPlan.{Base, Begins, RecvPlan, Resumes, snapshot_na
 use Rattle.zst_plan.specs.declared.receive.RecvAsk.{RecvAsk}
 use Rattle.zst_plan.specs.declared.receive.RecvPlan.TheVariants as plans
 use Rattle.zst_plan.proofs.AlikeAnswers.{none_alike, at_names}
+use Rattle.zst_recv.specs.Damage.{IsBase}
+use Rattle.zst_recv.specs.Damage as sets
 use Rattle.zst_recv.specs.ReceiveSteps.{Lives}
 use Rattle.zst_recv.specs.Stages.{CanPutFor, IsStage, IsBatch}
 use Rattle.zst_recv.specs.declared.batch.Batch as batches
@@ -69,6 +71,16 @@ module _ (bound : Option ℕ) (image : List ℕ) (space : FreeSectors) (rows : R
   -- the partial state that stands at a place of the rows
   pub partial_is : (place : ℕ) (row : Partial) (partial : models.Partial) → StandsAt rows.partials running.partials place partial → row ≡ get_or rows.partials place row → PartialIs bound has row partial
   partial_is place row partial at is = at_names (PartialIs bound has) rows.partials running.partials place row partial runs.partials at is
+
+-- the set of a snapshot at a place
+pub base_there : (rows : Rows) (place : ℕ) (row : Snapshot) → place < length rows.snapshots → row ≡ get_or rows.snapshots place row → IsBase rows row.objects
+base_there rows place row below is = inl (row, there rows.snapshots place row below is, refl)
+
+-- the set of the partial state that the target has
+pub resumed_set : (rows : Rows) (target : List ℕ) (place : ℕ) (row : Partial) → position (λ partial. bytes_eq partial.target target) rows.partials ≡ Some place → row ≡ get_or rows.partials place row → sets.IsBegun rows target row.objects
+resumed_set rows target place row is at =
+    let found = position-Some (λ (partial : Partial). bytes_eq partial.target target) rows.partials place row is in
+    inl (row, there rows.partials place row found.0 at, same_bytes row.target target (ap (λ (r : Partial). bytes_eq r.target target) at ∙ found.1), refl)
 
 -- the component of a name that is a dataset's with a component
 pub component_is : (name target component : List ℕ) → name ≡ dataset_of 64 name ++ 64 ∷ component_of 64 name → dataset_of 64 name ≡ target → name ≡ snapshot_name target component → component ≡ component_of 64 name

@@ -16,6 +16,7 @@ pub mod PieceStages
 pub mod FeedEnds
 mod FedPools
 mod DamageLemmas
+mod SetOrigins
 mod CostLemmas
 mod TokenRows
 pub mod PlanRefusals

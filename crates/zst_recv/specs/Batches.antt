@@ -1,5 +1,6 @@
 -- What records make of a batch, and of the disk.
 use Rattle.std.specs.Prelude.{◌≡◌, ℕ, Bool, true, false, List, Result, Err, IfErr, OnErr, OnOk}
+use Rattle.zst_block.specs.Blocks.{SparesTaken}
 use Rattle.zst_block.specs.IoStates.{IoState}
 use Rattle.zst_dir.specs.RowNames.{AreNamed}
 use Rattle.zst_dir.specs.Rows.{Rows}
@@ -12,13 +13,14 @@ use Rattle.zst_plan.specs.declared.receive.RecvAsk.{RecvAsk}
 use Rattle.zst_pool.specs.declared.fault.PoolFault.TheVariants as pools
 use Rattle.zst_record.specs.declared.head.Head.{Head}
 use Rattle.zst_record.specs.declared.head.Head.TheVariants as heads
-use Rattle.zst_recv.specs.Damage.{IsDamagedFeed}
+use Rattle.zst_recv.specs.Damage.{ComesFrom, IsDamagedFeed}
 use Rattle.zst_recv.specs.Faults.{Fills, IsFeedFault, stop_of}
 use Rattle.zst_recv.specs.Plans.{IsPlannedBy, is_planned}
 use Rattle.zst_recv.specs.Stages.{StageFits, has_partial, is_begin, is_end, is_live, waits_at}
 use Rattle.zst_recv.specs.declared.batch.Batch as batches
 use Rattle.zst_recv.specs.declared.fault.RecvFault.{RecvFault}
 use Rattle.zst_recv.specs.declared.fault.RecvFault.TheVariants as faults
+use Rattle.zst_recv.specs.declared.stage.Stage as coded
 
 -- As many records were taken as there were: what is to be committed still fits the rows and the target; where none was taken the batch is as it was, and none was while it waits for BEGIN.
 pub record Gathers (rows : Rows) (target : List ℕ) (old new : batches.Batch) : Type 0 where
@@ -40,8 +42,9 @@ pub record PlansBegin (rows : Rows) (ask : RecvAsk) (head : Head) (waited : Bool
   pub planned : (running : Pool) (header : Header) (len : ℕ) → head ≡ heads.Begin header len → waited ≡ true → AreNamed rows running → TellsNeeded rows running ask header → IsPlannedBy (recv_plan ask header running) result
   pub because : (fault : PlanFault) → is_planned fault ≡ true → result ≡ Err (faults.Pool (pools.Plan fault)) → (waited ≡ true) × (header : Header) × (len : ℕ) × (head ≡ heads.Begin header len)
 
--- What as many records as there are make of a disk, whatever the image is: blocks alone are written, a feed answers no other fault, and E25 tells a damage of this target's partial state, as the refused record found it.
-pub record WritesRecords {A : Type 0} (rows : Rows) (target : List ℕ) (old new : IoState) (result : Result A RecvFault) : Type 0 where
+-- What as many records as there are make of a disk, whatever the image is: blocks alone are written, a feed answers no other fault, and E25 tells a damage of the set that the records began with, from which the one comes that is then under way.
+pub record WritesRecords {A : Type 0} (rows : Rows) (target : List ℕ) (before after : coded.Stage) (old new : IoState) (result : Result A RecvFault) : Type 0 where
   pub fills : Fills old new (stop_of result)
   pub known : IfErr result IsFeedFault
-  pub damaged : (sector : ℕ) (stated found : List ℕ) → new.disk.honest → result ≡ Err (faults.Pool (pools.Damaged sector stated found)) → IsDamagedFeed old.disk old.space rows target sector stated found
+  pub damaged : (sector : ℕ) (stated found : List ℕ) → new.disk.honest → result ≡ Err (faults.Pool (pools.Damaged sector stated found)) → IsDamagedFeed old.disk old.space rows target before sector stated found
+  pub comes : new.disk.honest → ComesFrom rows target (SparesTaken old.space old.disk.seen) old.disk.size before (SparesTaken new.space new.disk.seen) after

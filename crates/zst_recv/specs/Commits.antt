@@ -2,6 +2,7 @@
 use Rattle.std.specs.Prelude.{◌≡◌, ◌⊎◌, ℕ, Bool, false, Result, Ok, Err, IfErr, OnErr, OnOk}
 use Rattle.zst_outside.specs.Images.{DiskState, Leaves}
 use Rattle.zst_outside.specs.declared.disk.Disk.{Ghosts}
+use Rattle.zst_block.specs.Blocks.{KeepsBlocks}
 use Rattle.zst_block.specs.IoCalls.{is_damage}
 use Rattle.zst_block.specs.IoStates.{IsHonest, disk_of}
 use Rattle.zst_image.specs.Commits.{Ready}
@@ -14,7 +15,7 @@ use Rattle.zst_pool.specs.Calls.{CallFault, CallGrows, IsAtRest, IsCallFault, Is
 use Rattle.zst_pool.specs.Faults.{HasDiskCause, is_disk_fault}
 use Rattle.zst_pool.specs.Queries.{stop_of}
 use Rattle.zst_pool.specs.declared.fault.PoolFault.{PoolFault}
-use Rattle.zst_pool.specs.declared.fault.PoolFault.TheVariants.{Full}
+use Rattle.zst_pool.specs.declared.fault.PoolFault.TheVariants.{DiskFault, Full}
 use Rattle.zst_pool.specs.declared.pool.Pool as coded
 
 -- What stands after a commit of what was taken, or of nothing: what the definition makes of the pool, or the pool as it was.
@@ -37,6 +38,9 @@ module _ {D : Type 0} {g : Ghosts D} where
     pub short : (need largest : ℕ) → result ≡ Err (Full need largest) → IsCallFull old.io.space new.io.space old.kept.dir need largest
     pub grows : OnOk result ((new.kept ≡ old.kept) ⊎ CallGrows old.io.space old.kept new.kept)
     pub ready : new.io.failed ≡ false → Ready (disk_of new.io) new.kept.body
+    -- unless the disk failed, each block that was there still stands, and the disk is as long
+    pub stood : ¬ (result ≡ Err DiskFault) → KeepsBlocks (disk_of old.io).seen old.io.space (disk_of new.io).seen old.io.space
+    pub size : (disk_of new.io).size ≡ (disk_of old.io).size
     pub failed : new.io.failed ≡ is_disk_fault result
     -- a block that is found damaged is told so
     pub told : is_damage (stop_of result) ≡ false → new.io.checksum_errors ≡ old.io.checksum_errors

@@ -28,6 +28,9 @@ module _ {D : Type 0} {g : Ghosts D} where
     pub stays : (fault : RecvFault) → result ≡ Err fault → keeps_before fault ≡ false → new.kept.body ≡ old.kept.body
     -- where the receive goes on, the blocks that were there still are, over the sectors that the latest body leaves free
     pub blocks : goes_on result ≡ true → KeepsBlocks (disk_of old.io).seen (free_by old.kept.body) (disk_of new.io).seen (free_by new.kept.body)
+    -- and whatever it answers, unless the disk failed, each block still stands that stood in sectors which the body left not free; the disk is as long
+    pub stood : ¬ (result ≡ Err (faults.Pool pools.DiskFault)) → KeepsBlocks (disk_of old.io).seen (free_by old.kept.body) (disk_of new.io).seen (free_by old.kept.body)
+    pub size : (disk_of new.io).size ≡ (disk_of old.io).size
     pub ready : new.io.failed ≡ false → Ready (disk_of new.io) new.kept.body
     pub failed : new.io.failed ≡ (old.io.failed || fails (stop_of result))
     -- a block that is found damaged is told so: only a feed that answers E25 may have counted one

@@ -1,6 +1,7 @@
 // What one feed takes of a stream.
-ghost use Rattle.std.specs.Prelude.{◌≡◌, ◌+◌, ℕ, Bool, false, true, List, [], ◌∷◌, Option, None, Ok, Err, IfErr, OnErr};
+ghost use Rattle.std.specs.Prelude.{◌≡◌, ◌+◌, ℕ, Bool, false, true, List, [], ◌∷◌, Option, None, Ok, Err, IfErr, OnErr, OnOk};
 ghost use Rattle.zst_apply.specs.Damage.{apply_damage};
+ghost use Rattle.zst_objset.specs.Damage.{AreTreesWithin};
 ghost use Rattle.zst_block.specs.Blocks.{Has};
 ghost use Rattle.zst_block.specs.IoStates.{IsHonest, IsSparedBy, blocks_of, disk_of, io_of};
 ghost use Rattle.zst_space.specs.FreeSectors.{FreeSectors};
@@ -20,7 +21,7 @@ ghost use Rattle.zst_record.specs.declared.head.Head.TheVariants as heads;
 ghost use Rattle.zst_stream.specs.Reading.{closing};
 ghost use Rattle.zst_recv.specs.Batches.{Moves, PlansBegin};
 ghost use Rattle.zst_recv.specs.Costs.{Spends};
-ghost use Rattle.zst_recv.specs.Damage.{IsDamagedState};
+ghost use Rattle.zst_recv.specs.Damage.{ComesFrom, IsDamagedFeed, StaysWith};
 ghost use Rattle.zst_recv.specs.Faults.{Fills, IsRecordFault, stop_of};
 ghost use Rattle.zst_recv.specs.Plans.{IsPlannedBy, is_planned};
 ghost use Rattle.zst_recv.specs.ReceiveSteps.{Batch as PlainBatch, Stage as PlainStage, at_stage, moved_by, taken};
@@ -68,6 +69,7 @@ fn move_by<D: Disk>(
     ensures known { IfErr result IsRecordFault }
     ensures damaged { (sector : ℕ) (stated found : List ℕ) → IsHonest io.new → result ≡ Err (RecvFault.Pool (PoolFault.Damaged sector stated found))
         → apply_damage (IsSparedBy io.old) (disk_of io.old).size partial.old.objects sector stated found }
+    ensures within { IsHonest io.new → OnOk result (AreTreesWithin (IsSparedBy io.old) (disk_of io.old).size partial.old.objects (IsSparedBy io.new) partial.new.objects) }
     ensures unplanned { (fault : PlanFault) → result ≡ Err (RecvFault.Pool (PoolFault.Plan fault)) → is_planned fault ≡ false }
     ensures puts { (rows : Rows) (target : List ℕ) → CanPutFor rows target partial.old → CanPutFor rows target partial.new }
     ensures fills { Fills (io_of io.old) (io_of io.new) (stop_of result) }
@@ -113,9 +115,10 @@ impl Batch {
         ensures moves { Moves kept.now.dir ask.now.target covered.now.head.now self.old self.new result }
         ensures plans { PlansBegin kept.now.dir ask.now covered.now.head.now (waits_at self.old.stage) result }
         ensures known { IfErr result IsRecordFault }
-        // E25 tells a damage of the set as the refused record found it.
+        // E25 tells a damage of the set as the record found it, and the set that it leaves comes from that one.
         ensures damaged { (sector : ℕ) (stated found : List ℕ) → IsHonest io.new → result ≡ Err (RecvFault.Pool (PoolFault.Damaged sector stated found))
-            → IsDamagedState (IsSparedBy io.old) (disk_of io.old).size kept.now.dir ask.now.target sector stated found }
+            → IsDamagedFeed (disk_of io.old) io.old.space kept.now.dir ask.now.target self.old.stage sector stated found }
+        ensures comes { IsHonest io.new → ComesFrom kept.now.dir ask.now.target (IsSparedBy io.old) (disk_of io.old).size self.old.stage (IsSparedBy io.new) self.new.stage }
         ensures fills { Fills (io_of io.old) (io_of io.new) (stop_of result) }
         ensures spends { Spends (covered_of covered.now ∷ []) io.old.space io.new.space (stop_of result) }
     {
@@ -139,6 +142,7 @@ impl Batch {
         ensures known { IfErr result IsRecordFault }
         ensures planned { (running : Plain) → waits_at self.old.stage ≡ true → AreNamed dir.now running → TellsNeeded dir.now running ask.now header.now → IsPlannedBy (recv_plan ask.now header.now running) result }
         ensures because { OnErr result (waits_at self.old.stage ≡ true) }
+        ensures stays_with { StaysWith dir.now ask.now.target self.old.stage self.new.stage }
         ensures no_block { stop_of result ≡ None }
     {
         if !matches!(self.stage, Stage::Waits) {
@@ -183,8 +187,9 @@ impl Batch {
             → Takes (IsBatch (bound_of tight (running.number + 1)) (blocks_of io.new) self.new) plain (taken ask running (covered_of covered.now) plain) result }
         ensures moves { (rows : Rows) (target : List ℕ) → Moves rows target covered.now.head.now self.old self.new result }
         ensures known { IfErr result IsRecordFault }
-        ensures damaged { (rows : Rows) (target : List ℕ) (sector : ℕ) (stated found : List ℕ) → IsHonest io.new → StageFits rows target self.old.stage → result ≡ Err (RecvFault.Pool (PoolFault.Damaged sector stated found))
-            → IsDamagedState (IsSparedBy io.old) (disk_of io.old).size rows target sector stated found }
+        ensures damaged { (rows : Rows) (target : List ℕ) (sector : ℕ) (stated found : List ℕ) → IsHonest io.new → result ≡ Err (RecvFault.Pool (PoolFault.Damaged sector stated found))
+            → IsDamagedFeed (disk_of io.old) io.old.space rows target self.old.stage sector stated found }
+        ensures comes { (rows : Rows) (target : List ℕ) → IsHonest io.new → ComesFrom rows target (IsSparedBy io.old) (disk_of io.old).size self.old.stage (IsSparedBy io.new) self.new.stage }
         ensures unplanned { (fault : PlanFault) → result ≡ Err (RecvFault.Pool (PoolFault.Plan fault)) → is_planned fault ≡ false }
         ensures fills { Fills (io_of io.old) (io_of io.new) (stop_of result) }
         ensures spends { Spends (covered_of covered.now ∷ []) io.old.space io.new.space (stop_of result) }

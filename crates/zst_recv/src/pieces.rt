@@ -39,7 +39,7 @@ fn drain<D: Disk>(
         → StandsFor reader.old text handed → IsBatch (bound_of tight (running.number + 1)) (blocks_of io.old) batch.old plain
         → Drains ask.now running reader.new text handed (IsBatch (bound_of tight (running.number + 1)) (blocks_of io.new) batch.new) plain result }
     ensures gathers { Gathers kept.now.dir ask.now.target batch.old batch.new }
-    ensures writes { WritesRecords kept.now.dir ask.now.target (io_of io.old) (io_of io.new) result }
+    ensures writes { WritesRecords kept.now.dir ask.now.target batch.old.stage batch.new.stage (io_of io.old) (io_of io.new) result }
     // Before what was pushed nothing need have been covered.
     ensures texts { (text : List ℕ) (handed : List Covered) → StandsFor reader.old text handed → ReadsText kept.now.dir ask.now [] handed text batch.old.stage batch.new.stage reader.new result }
     ensures leaves { (text : List ℕ) (handed : List Covered) → StandsFor reader.old text handed → LeavesStage kept.now.dir ask.now [] text batch.old.stage batch.new.stage }
@@ -77,7 +77,7 @@ pub(crate) fn read<D: Disk>(
         → HandsOut reader.old text handed waiting → IsBatch (bound_of tight (running.number + 1)) (blocks_of io.old) batch.old plain
         → Reads ask.now running reader.new text piece.now (IsBatch (bound_of tight (running.number + 1)) (blocks_of io.new) batch.new) plain result }
     ensures gathers { Gathers kept.now.dir ask.now.target batch.old batch.new }
-    ensures writes { WritesRecords kept.now.dir ask.now.target (io_of io.old) (io_of io.new) result }
+    ensures writes { WritesRecords kept.now.dir ask.now.target batch.old.stage batch.new.stage (io_of io.old) (io_of io.new) result }
     ensures texts { (text : List ℕ) (handed : List Covered) → StandsFor reader.old text handed → ReadsText kept.now.dir ask.now text handed (text ++ piece.now) batch.old.stage batch.new.stage reader.new result }
     ensures leaves { (text : List ℕ) (handed : List Covered) → StandsFor reader.old text handed → LeavesStage kept.now.dir ask.now text (text ++ piece.now) batch.old.stage batch.new.stage }
     ensures takes { TakesPiece piece.now reader.old reader.new batch.new.stage result }

@@ -48,9 +48,9 @@ impl Recv {
     ghost use Rattle.zst_reader.specs.StandsFor.{StandsFor};
     ghost use Rattle.zst_record.specs.Heads.{Covered, size_of};
     ghost use Rattle.zst_space.specs.FreeSectors.{FreeSectors};
-    ghost use Rattle.zst_recv.specs.Answers.{Feeds};
+    ghost use Rattle.zst_recv.specs.Answers.{Feeds, goes_on};
     ghost use Rattle.zst_recv.specs.Costs.{CostsPiece, records_behind};
-    ghost use Rattle.zst_recv.specs.Damage.{IsDamagedFeed};
+    ghost use Rattle.zst_recv.specs.Damage.{IsDamagedFeed, MakesStage};
     ghost use Rattle.zst_recv.specs.Faults.{cut_of, keeps_before};
     ghost use Rattle.zst_recv.specs.FedPools.{LeavesPool};
     ghost use Rattle.zst_recv.specs.FedReceives.{IsFresh, LeavesReceive};
@@ -127,9 +127,12 @@ impl Recv {
             → ReadsText pool.old.kept.dir (ask_of self.old) text handed (text ++ piece.now) (stage_of self.old) (stage_of self.new) (reader_of self.new) result }
         ensures costs { (text : List ℕ) (handed : List Covered) → StandsFor (reader_of self.old) text handed
             → CostsPiece (records_behind handed (text ++ piece.now)) pool.old.kept pool.new.kept pool.new.io.space result }
-        // Whatever the image, E25 tells a damage of a set of this target's partial state, as the refused record found it.
+        // Whatever the image, E25 tells a damage of the set that the piece began with, as the disk read then; and the set of a partial
+        // state that goes on was made of that one.
         ensures damaged { (sector : ℕ) (stated found : List ℕ) → IsHonest pool.new.io → pool.old.io.failed ≡ false → result ≡ Err (RecvFault.Pool (PoolFault.Damaged sector stated found))
-            → IsDamagedFeed (disk_of pool.old.io) (free_by pool.old.kept.body) pool.old.kept.dir (ask_of self.old).target sector stated found }
+            → IsDamagedFeed (disk_of pool.old.io) (free_by pool.old.kept.body) pool.old.kept.dir (ask_of self.old).target (stage_of self.old) sector stated found }
+        ensures makes { IsHonest pool.new.io → goes_on result ≡ true
+            → MakesStage pool.old.kept.dir (ask_of self.old).target (disk_of pool.old.io).seen (free_by pool.old.kept.body) (disk_of pool.old.io).size (stage_of self.old) (disk_of pool.new.io).seen (free_by pool.new.kept.body) (stage_of self.new) }
         // As long as BEGIN isn't covered nothing is committed.
         ensures waits { is_waiting self.new ≡ true → pool.new.kept ≡ pool.old.kept }
         // After a refusal that keeps no records before it, what is kept of the pool stays, but for a partial state under way that isn't kept.

@@ -17,6 +17,7 @@ use Rattle.zst_dir.specs.Rows.{Rows}
 use Rattle.zst_image.specs.Faults.{open_refusal}
 use Rattle.zst_uber.specs.DiskCalls as disk_calls
 use Rattle.zst_image.specs.OpenAnswers.{GivesPool, OpenAnswers}
+use Rattle.zst_block.specs.Blocks.{KeepsBlocks}
 use Rattle.zst_image.specs.Reads.{ReadsAs, Rests, free_by, kept_rows}
 use Rattle.zst_image.specs.declared.pool_state.PoolState.{PoolState}
 use Rattle.zst_image.specs.declared.open_fault.OpenFault.{OpenFault}
@@ -34,7 +35,7 @@ use Rattle.zst_run.specs.Receives.{IsTightOrNew, IsDamagedReceive, IsOnTheWay, I
 use Rattle.zst_run.specs.ReceiveTurns.{ReadsAlong, Fed, IsEnd, IsReady, told}
 use Rattle.zst_run.specs.declared.receive.Receipt.{Receipt}
 use Rattle.zst_run.proofs.CommandLemmas.{images_after, open_alive, open_disk, rests_read}
-use Rattle.zst_run.proofs.ReceiveDamage.{damaged_here, told_damaged}
+use Rattle.zst_run.proofs.ReceiveDamage.{damaged_here, told_apart, told_damaged}
 use Rattle.zst_run.proofs.FedPieces.{none_fed}
 use Rattle.zst_run.proofs.ReceiveLemmas.{says_other}
 use Rattle.zst_run.proofs.ImageSends.{idle_says, is_of_opening, pool_is_open, ran_says}
@@ -101,7 +102,7 @@ unopened whole ask here here' input fault there answer reads synced cause = reco
   ends = λ tight uber rows pool told is may.
       unopened_ends tight ask here' input uber rows pool fault (whole.0 pool (whole.1 tight uber rows pool here.seen is)) (there tight uber rows pool told is)
       (λ alive. rests_read here here' uber rows pool is reads (synced alive));
-  opened = λ told. idle_says (List (List ℕ)) (OnlyReads here here' × (input ≡ input)) here (ReceiveRan ask [] here (Err (open_refusal fault))) fault (reads, refl) (answer told);
+  opened = λ told. idle_says (List (List ℕ)) (OnlyReads here here' × (input ≡ input)) here (ReceiveRan ask [] here here' (Err (open_refusal fault))) fault (reads, refl) (answer told);
   text = says_other [] input input (open_refusal fault) (open_no_stream fault);
   cost = λ told need largest is. absurd (open_no_full fault need largest is);
   refused = record {
@@ -182,7 +183,8 @@ module _ (ask : RecvAsk) (here mid here' : DiskState) (input input' : SourceStat
     (stands : (tight : Bool) (uber : Uber) (rows : Rows) (pool : Pool) → mid.honest → ReadsAs tight uber rows pool here.seen → Rests tight mid kept.body rows pool)
     (at_rest : (tight : Bool) (rows : Rows) (pool : Pool) → Rests tight mid kept.body rows pool → kept.dir ≡ kept_rows rows → IsAtRest tight mid kept pool)
     (later : here.faults ≤ mid.faults) (falls : here'.honest → mid.honest) (f : Fed (λ tight. IsReady ask tight mid kept) kept mid here' ask input input' (told result)) (plans : (text : List ℕ) → Gave input input' text → SaysOfPlan kept.dir ask text (told result))
-    (damaged : (sector : ℕ) (stated found : List ℕ) → here'.honest → result ≡ Err (refusals.Damaged sector stated found) → IsDamagedReceive mid kept.body ask.target sector stated found)
+    (damaged : (sector : ℕ) (stated found : List ℕ) → here'.honest → result ≡ Err (refusals.Damaged sector stated found) → IsDamagedReceive mid.seen mid.size kept.body kept.dir ask.target sector stated found)
+    (stood : ¬ (result ≡ Err refusals.DiskFault) → KeepsBlocks mid.seen (free_by kept.body) here'.seen (free_by kept.body))
     (only : (c : List ℕ) → here.left_since here.moment c → here.images c) (now_left : (t : ℕ) (c : List ℕ) → t ≤ here'.moment → here'.images c → here'.left_since t c) where
   ready : (tight : Bool) (uber : Uber) (rows : Rows) (pool : Pool) → here'.honest → ReadsAs tight uber rows pool here.seen → IsTightOrNew tight ask pool → IsReady ask tight mid kept pool
   ready tight uber rows pool honest is may =
@@ -207,7 +209,7 @@ module _ (ask : RecvAsk) (here mid here' : DiskState) (input input' : SourceStat
             images_after here here' (IsOnTheWay tight here ask pool f.pieces) (moments tight uber rows pool honest is may) (λ c image. inl image) only now_left;
         ends = λ tight uber rows pool honest is may. (f.says tight pool honest (ready tight uber rows pool honest is may)).ends;
         opened = λ honest. let was = answers (falls honest) in
-            ran_says (OnlyReads here here' × (input' ≡ input)) here (ReceiveRan ask f.pieces here (told result)) (told result) (
+            ran_says (OnlyReads here here' × (input' ≡ input)) here (ReceiveRan ask f.pieces here here' (told result)) (told result) (
               kept.body,
               was.1,
               record {
@@ -215,7 +217,9 @@ module _ (ask : RecvAsk) (here mid here' : DiskState) (input input' : SourceStat
                 full = λ need largest is. full_in here mid here' input input' (told result) need largest ends is;
                 planned = subst (λ (r : Rows). SaysOfPlan r ask (concat f.pieces) (told result)) was.4 (plans (concat f.pieces) f.consumed);
                 damaged = λ sector stated found is.
-                    damaged_here here mid kept.body ask.target sector stated found reads.seen (damaged sector stated found honest (told_damaged result (refusals.Damaged sector stated found) is));
+                    damaged_here here.seen mid.seen here.size mid.size kept.body kept.dir (kept_rows was.1) ask.target sector stated found reads.seen reads.size was.4
+                    (damaged sector stated found honest (told_damaged result (refusals.Damaged sector stated found) is));
+                stood = λ apart. subst (λ (s : List ℕ). KeepsBlocks s (free_by kept.body) here'.seen (free_by kept.body)) reads.seen (stood (told_apart result apart));
               },
             ) (behind_opening here mid here' input input' (told result) ends);
         text = f.text;

@@ -1,8 +1,13 @@
 -- Which damage a receive tells.
-use Rattle.std.specs.Prelude.{Option, None, Some, Result, Ok, Err, false}
-use Rattle.std.proofs.Common.{◌≡◌, ℕ, List, ap, refl, subst}
+use Rattle.std.specs.Prelude.{Option, None, Some, Result, Ok, Err}
+use Rattle.std.proofs.Common.{◌≡◌, ℕ, zero, suc, Bool, true, false, List, refl, sym, ap, ◌∙◌, subst}
 use Rattle.zst_outside.specs.Images.{DiskState}
-use Rattle.zst_block.specs.Blocks.{KeepsBlocks}
+use Rattle.zst_space.specs.FreeSectors.{FreeSectors}
+use Rattle.zst_block.specs.Blocks.{KeepsBlocks, SparesTaken}
+use Rattle.zst_block.proofs.BlocksLaws.{SparesTaken-same}
+use Rattle.zst_tree.specs.declared.tree.ObjSet.{ObjSet}
+use Rattle.zst_dir.specs.Rows.{Rows}
+use Rattle.zst_apply.specs.Damage.{apply_damage}
 use Rattle.zst_block.specs.IoCalls.{is_damage}
 use Rattle.zst_uber.specs.declared.uber.Uber.{Uber}
 use Rattle.zst_image.specs.Reads.{free_by}
@@ -11,12 +16,16 @@ use Rattle.zst_model.specs.declared.refusals.refusal.Refusal.{Refusal}
 use Rattle.zst_model.specs.declared.refusals.refusal.Refusal.TheVariants as refusals
 use Rattle.zst_model.proofs.PlanFaults.{plan_cases}
 use Rattle.zst_pool.specs.declared.fault.PoolFault.TheVariants as pools
-use Rattle.zst_recv.specs.Damage.{IsDamagedFeed}
+use Rattle.zst_recv.specs.Damage.{BeginsWith, IsBegun, IsDamagedFeed, MakesStage, PieceMakes}
 use Rattle.zst_recv.specs.Faults.{recv_refusal, stop_at}
 use Rattle.zst_recv.specs.declared.fault.RecvFault.{RecvFault}
 use Rattle.zst_recv.specs.declared.fault.RecvFault.TheVariants as faults
-use Rattle.zst_run.specs.Receives.{IsDamagedReceive}
-use Rattle.zst_run.specs.ReceiveTurns.{cut_refusal, is_damaged, told, turn_behind}
+use Rattle.zst_recv.specs.Stages.{waits_at}
+use Rattle.zst_recv.specs.declared.recv.FeedReport.{FeedReport}
+use Rattle.zst_recv.specs.declared.stage.Stage as coded
+use Rattle.zst_recv.specs.declared.stage.Stage.TheVariants as stages
+use Rattle.zst_run.specs.Receives.{IsDamagedReceive, MadeBy}
+use Rattle.zst_run.specs.ReceiveTurns.{Traced, cut_refusal, is_damaged, told, turn_behind}
 use Rattle.zst_run.specs.declared.receive.End.{End}
 use Rattle.zst_run.specs.declared.receive.End.TheVariants.{Ended, Failed}
 use Rattle.zst_run.specs.declared.receive.Receipt.{Receipt}
@@ -65,23 +74,94 @@ told_damaged (Ok receipt) refusal is = absurd (cc is)
 told_damaged (Err other) refusal is = let same : other ≡ refusal = cc (is) in ap (λ (r : Refusal). Err r) same
 
 -- opening only read
-pub damaged_here : (here mid : DiskState) (uber : Uber) (target : List ℕ) (sector : ℕ) (stated found : List ℕ) → mid.seen ≡ here.seen → IsDamagedReceive mid uber target sector stated found → IsDamagedReceive here uber target sector stated found
-damaged_here here mid uber target sector stated found same is = record {
-  before = is.before;
-  size = is.size;
-  kept = is.kept;
-  blocks = subst (λ (s : List ℕ). KeepsBlocks s (free_by uber) is.before (free_by is.kept.body)) same is.blocks;
-  seen = is.seen;
-  free = is.free;
-  spares = is.spares;
-  state = is.state;
-}
+pub damaged_here : (image other : List ℕ) (size same : ℕ) (uber : Uber) (rows listed : Rows) (target : List ℕ) (sector : ℕ) (stated found : List ℕ) → other ≡ image → same ≡ size → rows ≡ listed
+    → IsDamagedReceive other same uber rows target sector stated found → IsDamagedReceive image size uber listed target sector stated found
+damaged_here image other size same uber rows listed target sector stated found seen long rows_are is =
+    subst (λ (i : List ℕ). IsDamagedReceive i size uber listed target sector stated found) seen
+    (subst (λ (n : ℕ). IsDamagedReceive other n uber listed target sector stated found) long
+    (subst (λ (r : Rows). IsDamagedReceive other same uber r target sector stated found) rows_are is))
 
--- a turn found it so, behind turns that left each block
-pub damaged_behind : (start old : DiskState) (uber : Uber) (kept : PoolState) (target : List ℕ) (sector : ℕ) (stated found : List ℕ) → KeepsBlocks start.seen (free_by uber) old.seen (free_by kept.body)
-    → IsDamagedFeed old (free_by kept.body) kept.dir target sector stated found → IsDamagedReceive start uber target sector stated found
-damaged_behind start old uber kept target sector stated found blocks is =
-    record { before = old.seen; size = old.size; kept = kept; blocks = blocks; seen = is.seen; free = is.free; spares = is.spares; state = is.state }
+-- ---- the sets that pieces make
+
+-- nothing was made of a stage that stays
+pub idle_makes : (rows : Rows) (target seen : List ℕ) (free : FreeSectors) (size : ℕ) (stage : coded.Stage) → MakesStage rows target seen free size stage seen free stage
+idle_makes rows target seen free size stages.Waits = tt
+idle_makes rows target seen free size (stages.Lives flags row) =
+    (row.objects, refl, record { mid = seen; less = free; spares = SparesTaken-same free seen; within = λ sector stated found damaged. damaged; blocks = λ ptr bytes has. has })
+idle_makes rows target seen free size (stages.Ends row) = tt
+idle_makes rows target seen free size (stages.Done received) = tt
+idle_makes rows target seen free size stages.Over = tt
+
+-- before BEGIN the rows are those at the start
+pub unfed_traced : (start : DiskState) (first : PoolState) (target seen : List ℕ) (stage : coded.Stage) → waits_at stage ≡ true → Traced start first target seen first stage
+unfed_traced start first target seen stages.Waits waits = refl
+unfed_traced start first target seen (stages.Lives flags row) waits = absurd (cc waits)
+unfed_traced start first target seen (stages.Ends row) waits = absurd (cc waits)
+unfed_traced start first target seen (stages.Done received) waits = absurd (cc waits)
+unfed_traced start first target seen stages.Over waits = absurd (cc waits)
+
+still_first : (kept first : PoolState) (start : DiskState) (target seen : List ℕ) (before : coded.Stage) → waits_at before ≡ true → Traced start first target seen kept before → kept ≡ first
+still_first kept first start target seen stages.Waits waits traced = traced
+still_first kept first start target seen (stages.Lives flags row) waits traced = absurd (cc waits)
+still_first kept first start target seen (stages.Ends row) waits traced = absurd (cc waits)
+still_first kept first start target seen (stages.Done received) waits traced = absurd (cc waits)
+still_first kept first start target seen stages.Over waits traced = absurd (cc waits)
+
+module _ (start : DiskState) (first : PoolState) (target : List ℕ) (old : List ℕ) (size : ℕ) (kept : PoolState) (same : size ≡ start.size) (blocks : KeepsBlocks start.seen (free_by first.body) old (free_by kept.body)) where
+  -- the set that a turn begins with
+  made_so_far : (before : coded.Stage) → Traced start first target old kept before → (set : ObjSet) → BeginsWith kept.dir target before set
+      → (pieces : ℕ) × MadeBy pieces start.seen start.size (free_by first.body) first.dir target old (free_by kept.body) set
+  made_so_far stages.Waits traced set begins = (0, (subst (λ (k : PoolState). IsBegun k.dir target set) traced begins, blocks))
+  made_so_far (stages.Lives flags row) traced set begins =
+      (traced.0, subst (λ (s : ObjSet). MadeBy traced.0 start.seen start.size (free_by first.body) first.dir target old (free_by kept.body) s) (sym begins) traced.1)
+  made_so_far (stages.Ends row) traced set begins = absurd begins
+  made_so_far (stages.Done received) traced set begins = absurd begins
+  made_so_far stages.Over traced set begins = absurd begins
+
+  module _ (before : coded.Stage) (traced : Traced start first target old kept before) where
+    -- a turn that goes on
+    pub traced_on : (new : List ℕ) (next : PoolState) (after : coded.Stage) → (waits_at after ≡ true → (next ≡ kept) × (waits_at before ≡ true))
+        → MakesStage kept.dir target old (free_by kept.body) size before new (free_by next.body) after → Traced start first target new next after
+    traced_on new next stages.Waits waits makes = let idle = waits refl in idle.0 ∙ still_first kept first start target old before idle.1 traced
+    traced_on new next (stages.Lives flags row) waits makes =
+        let so_far = made_so_far before traced makes.0 makes.1 in (
+          suc so_far.0,
+          (old, free_by kept.body, makes.0, so_far.1, subst (λ (n : ℕ). PieceMakes old (free_by kept.body) n makes.0 new (free_by next.body) row.objects) same makes.2),
+        )
+    traced_on new next (stages.Ends row) waits makes = tt
+    traced_on new next (stages.Done received) waits makes = tt
+    traced_on new next stages.Over waits makes = tt
+
+    -- one that is refused for a damage
+    pub damaged_behind : (disk : DiskState) → disk.seen ≡ old → disk.size ≡ size → (sector : ℕ) (stated found : List ℕ) → IsDamagedFeed disk (free_by kept.body) kept.dir target before sector stated found
+        → IsDamagedReceive start.seen start.size first.body first.dir target sector stated found
+    damaged_behind disk seen_is size_is sector stated found is =
+        let so_far = made_so_far before traced is.set is.begins in
+        record {
+          pieces = so_far.0;
+          seen = old;
+          left = free_by kept.body;
+          set = is.set;
+          blocks = blocks;
+          made = so_far.1;
+          damaged = subst (λ (n : ℕ). apply_damage (SparesTaken (free_by kept.body) old) n is.set sector stated found) (size_is ∙ same)
+              (subst (λ (i : List ℕ). apply_damage (SparesTaken (free_by kept.body) i) disk.size is.set sector stated found) seen_is is.damaged);
+        }
+
+-- what stood as the run began still stands behind a turn that left what stood before it
+pub stood_behind : (start : List ℕ) (free : FreeSectors) (old : List ℕ) (left : FreeSectors) (new : List ℕ) → KeepsBlocks start free old left → KeepsBlocks old left new left → KeepsBlocks start free new free
+stood_behind start free old left new first second = λ ptr bytes has. let there = second ptr bytes (first ptr bytes has) in record { block = there.block; behind = has.behind; taken = has.taken }
+
+-- the answer of a feed that was refused
+abbrev fed_refused : RecvFault → Result FeedReport RecvFault
+fed_refused fault = Err fault
+
+pub disk_refused : (fault : RecvFault) → fed_refused fault ≡ fed_refused (faults.Pool pools.DiskFault) → recv_refusal fault ≡ refusals.DiskFault
+disk_refused fault is = let same : fault ≡ faults.Pool pools.DiskFault = cc is in ap recv_refusal same
+
+-- a receive that was told so isn't one whose disk failed
+pub told_apart : (result : Result Receipt Refusal) → ¬ (told result ≡ Err refusals.DiskFault) → ¬ (result ≡ Err refusals.DiskFault)
+told_apart result apart = λ is. apart (ap told is)
 
 abbrev refused : Refusal → Result Receipt Refusal
 refused refusal = Err refusal

@@ -5,7 +5,7 @@ use Rattle.zst_outside.specs.Causes.{Rose}
 use Rattle.zst_outside.specs.Images.{DiskState, Leaves}
 use Rattle.zst_outside.specs.States.{SourceState, Gave}
 use Rattle.zst_outside.specs.declared.disk.Disk.{Ghosts}
-use Rattle.zst_block.specs.Blocks.{Has}
+use Rattle.zst_block.specs.Blocks.{Has, KeepsBlocks}
 use Rattle.zst_block.specs.IoStates.{IsHonest, disk_of}
 use Rattle.zst_dir.specs.Rows.{Rows}
 use Rattle.zst_model.specs.declared.refusals.plan_fault.PlanFault.{PlanFault}
@@ -33,14 +33,17 @@ use Rattle.zst_recv.specs.Faults.{IsFeedFault, recv_refusal}
 use Rattle.zst_recv.specs.Feeds.{receives, new_records}
 use Rattle.zst_recv.specs.Plans.{RefusesOne}
 use Rattle.zst_recv.specs.Costs.{PieceGrows, piece_cost}
+use Rattle.zst_recv.specs.Damage.{IsDamagedFeed, MakesStage}
 use Rattle.zst_recv.specs.ReceiveSteps.{Stage, Waits, Lives, Goes, Ends, pool_of}
 use Rattle.zst_recv.specs.Stages as standing
 use Rattle.zst_recv.specs.Stages.{RecvFits, ask_of, fed_of, is_live, is_waiting, reader_of, received_by, stage_of}
 use Rattle.zst_recv.specs.declared.fault.RecvFault.{RecvFault}
 use Rattle.zst_recv.specs.declared.recv.Recv.{Recv}
+use Rattle.zst_recv.specs.declared.stage.Stage as coded
+use Rattle.zst_recv.specs.declared.stage.Stage.TheVariants as stages
 use Rattle.zst_replication.specs.RecordCounts.{Counts}
 use Rattle.zst_run.specs.Dumps.{NoFault}
-use Rattle.zst_run.specs.Receives.{ArePieces, IsDamagedReceive, IsOpen, IsTightOrNew, ReceiveEnds, SaysOfPlan, SaysOfText, piece_size, receipt_line, CostMore, pieces_cost}
+use Rattle.zst_run.specs.Receives.{ArePieces, IsDamagedReceive, IsOpen, IsTightOrNew, MadeBy, ReceiveEnds, SaysOfPlan, SaysOfText, piece_size, receipt_line, CostMore, pieces_cost}
 use Rattle.zst_run.specs.declared.receive.End.{End}
 use Rattle.zst_run.specs.declared.receive.End.TheVariants.{Ended, Failed}
 use Rattle.zst_run.specs.declared.receive.Receipt.{Receipt}
@@ -240,10 +243,33 @@ module _ {D : Type 0} {g : Ghosts D} where
     -- a block that is found damaged is told so
     pub told : turn_damaged turn ≡ false → new.io.checksum_errors ≡ old.io.checksum_errors
 
+module _ {D : Type 0} {g : Ghosts D} where
+  -- What a turn leaves of the blocks, whatever the image: one that goes on each that was there, over the sectors that the latest body leaves free, and any, unless
+  -- the disk failed, each in sectors that the body before left not free; one that waits for BEGIN committed nothing. The set of a partial state that goes on was made
+  -- of the one that the turn began with, and E25 tells a damage of that one.
+  pub record TurnBlocks (old new : OpenedPool D g) (recv recv' : Recv) (turn : Turn) : Type 0 where
+    pub blocks : turn ≡ turns.More → KeepsBlocks (disk_of old.io).seen (free_by old.kept.body) (disk_of new.io).seen (free_by new.kept.body)
+    pub stood : ¬ (turn ≡ turns.Refused refusals.DiskFault) → KeepsBlocks (disk_of old.io).seen (free_by old.kept.body) (disk_of new.io).seen (free_by old.kept.body)
+    pub size : (disk_of new.io).size ≡ (disk_of old.io).size
+    pub waits : is_waiting recv' ≡ true → (new.kept ≡ old.kept) × (is_waiting recv ≡ true)
+    pub makes : IsHonest new.io → turn ≡ turns.More
+        → MakesStage old.kept.dir (ask_of recv).target (disk_of old.io).seen (free_by old.kept.body) (disk_of old.io).size (stage_of recv) (disk_of new.io).seen (free_by new.kept.body) (stage_of recv')
+    pub damaged : (sector : ℕ) (stated found : List ℕ) → IsHonest new.io → turn ≡ turns.Refused (refusals.Damaged sector stated found)
+        → IsDamagedFeed (disk_of old.io) (free_by old.kept.body) old.kept.dir (ask_of recv).target (stage_of recv) sector stated found
+
+-- the set of a partial state that is under way was made from the rows at the start; and while BEGIN is waited for, these still are
+abbrev pub Traced : DiskState → PoolState → (target : List ℕ) → List ℕ → PoolState → coded.Stage → Type 0
+Traced start first target seen kept stages.Waits = kept ≡ first
+Traced start first target seen kept (stages.Lives flags row) = (pieces : ℕ) × MadeBy pieces start.seen start.size (free_by first.body) first.dir target seen (free_by kept.body) row.objects
+Traced start first target seen kept (stages.Ends row) = Unit {0}
+Traced start first target seen kept (stages.Done received) = Unit {0}
+Traced start first target seen kept stages.Over = Unit {0}
+
 -- a receive that was given nothing yet
 pub record IsUnfed (recv : Recv) : Type 0 where
   pub reads : StandsFor (reader_of recv) [] []
   pub hands : HasHanded recv []
+  pub waits : is_waiting recv ≡ true
 
 -- Whole pieces were read and fed, and the receive waits for more.
 pub record Feeding (old now : DiskState) (kept kept' : PoolState) (recv recv' : Recv) (items : ℕ) (input input' : SourceState) : Type 0 where
@@ -264,13 +290,15 @@ IsEnd old now input input' refusal =
     IsFeedRefusal old now refusal ⊎ (((at : ℕ) × (refusal ≡ refusals.Stream (Truncated at))) ⊎ ((refusal ≡ refusals.SourceFault) × Rose input.faults input'.faults))
 
 module _ {D : Type 0} {g : Ghosts D} where
-  -- Why a receive for this target ends by this answer, whatever the image: each refusal has its cause, and E25 tells a damage as the refused record found it.
+  -- Why a receive for this target ends by this answer, whatever the image: each refusal has its cause, E25 tells a damage of a set that was made from the rows at
+  -- the start, and unless the disk failed each block still stands that stood in sectors which the body left not free.
   pub record WhyReceiveEnds (old new : OpenedPool D g) (target : List ℕ) (input input' : SourceState) (result : Result Receipt Refusal) : Type 0 where
     pub refused : IfErr result (IsEnd (disk_of old.io) (disk_of new.io) input input')
     -- a block that is found damaged is told so
     pub told : ends_damaged result ≡ false → new.io.checksum_errors ≡ old.io.checksum_errors
     pub damaged : (sector : ℕ) (stated found : List ℕ) → IsHonest new.io → result ≡ Err (refusals.Damaged sector stated found)
-        → IsDamagedReceive (disk_of old.io) old.kept.body target sector stated found
+        → IsDamagedReceive (disk_of old.io).seen (disk_of old.io).size old.kept.body old.kept.dir target sector stated found
+    pub stood : ¬ (result ≡ Err refusals.DiskFault) → KeepsBlocks (disk_of old.io).seen (free_by old.kept.body) (disk_of new.io).seen (free_by old.kept.body)
 
 -- what ends a receive whose input gave no more
 abbrev pub cut_refusal : End → ℕ → Refusal

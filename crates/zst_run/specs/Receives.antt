@@ -1,5 +1,5 @@
 -- What a receive reads, what it leaves of an image, and why it ends.
-use Rattle.std.specs.Prelude.{ℕ, ◌+◌, ◌-◌, ◌≡◌, ◌⊎◌, ◌<◌, ◌≤◌, Bool, true, false, IsTrue, IfErr, List, [], ◌∷◌, ◌++◌, length, take, codes, decimal, Option, None, Result, Ok, Err}
+use Rattle.std.specs.Prelude.{ℕ, zero, suc, ◌+◌, ◌-◌, ◌≡◌, ◌⊎◌, ◌<◌, ◌≤◌, Bool, true, false, IsTrue, IfErr, List, [], ◌∷◌, ◌++◌, length, take, codes, decimal, Option, None, Result, Ok, Err}
 use Rattle.std.specs.List.{concat}
 use Rattle.zst_outside.specs.Causes.{Rose}
 use Rattle.zst_outside.specs.Images.{DiskState, Leaves, OnlyReads}
@@ -30,10 +30,12 @@ use Rattle.zst_plan.specs.declared.receive.RecvAsk.{RecvAsk}
 use Rattle.zst_reader.specs.InputReads.{stream_limit}
 use Rattle.zst_stream.specs.Findings.{IsFound}
 use Rattle.zst_stream.specs.Reading.{complete, faulty, reading, waiting}
+use Rattle.zst_tree.specs.declared.tree.ObjSet.{ObjSet}
+use Rattle.zst_apply.specs.Damage.{apply_damage}
 use Rattle.zst_recv.specs.Costs.{PieceIsShort, records_cost}
 use Rattle.zst_recv.specs.Faults.{IsFeedFault, recv_refusal}
 use Rattle.zst_recv.specs.Feeds.{new_records, receives}
-use Rattle.zst_recv.specs.Damage.{IsDamagedState}
+use Rattle.zst_recv.specs.Damage.{IsBegun, PieceMakes}
 use Rattle.zst_recv.specs.Plans.{RefusesEach, RefusesOne}
 use Rattle.zst_recv.specs.ReceiveSteps.{Stage, Waits, Lives, Ends, Goes, Stops, left_by, pool_of}
 use Rattle.zst_recv.specs.declared.fault.RecvFault.{RecvFault}
@@ -171,25 +173,33 @@ pub record SaysOfPlan (rows : Rows) (ask : RecvAsk) (text : List ℕ) (answer : 
   pub planned : (fault : PlanFault) → length text ≤ stream_limit → RefusesOne rows ask text fault → answer ≡ Err (refusal_of fault)
   pub because : (fault : PlanFault) → answer ≡ Err (refusals.Plan fault) → RefusesEach rows ask text fault
 
--- E25 of a receive: of the set of a partial state of its target, as the refused record found it. On the image that the refused piece found, over the sectors
--- that the latest body then left free, each block still stood that stood as the run began; up to the record free sectors alone were written.
-pub record IsDamagedReceive (here : DiskState) (uber : Uber) (target : List ℕ) (sector : ℕ) (stated found : List ℕ) : Type 0 where
-  pub before : List ℕ
-  pub size : ℕ
-  pub kept : PoolState
-  pub blocks : KeepsBlocks here.seen (free_by uber) before (free_by kept.body)
+-- A set that so many pieces made, from an image of so many bytes, over the sectors that are free there, on which these rows stand: it is the target's partial
+-- state's, a snapshot's or none, as the rows list them; and each piece made it of the one that the pieces before had made.
+abbrev pub MadeBy : (pieces : ℕ) → (image : List ℕ) → (size : ℕ) → FreeSectors → Rows → (target : List ℕ) → (seen : List ℕ) → (left : FreeSectors) → ObjSet → Type 0
+MadeBy zero image size free rows target seen left set = IsBegun rows target set × KeepsBlocks image free seen left
+MadeBy (suc pieces) image size free rows target seen left set =
+    (old : List ℕ) × (more : FreeSectors) × (base : ObjSet) × MadeBy pieces image size free rows target old more base × PieceMakes old more size base seen left set
+
+-- E25 of a receive: of a set that some pieces made from the rows that were opened, as the disk read when the refused piece began; each block that stood as the
+-- run began still stood then.
+pub record IsDamagedReceive (image : List ℕ) (size : ℕ) (uber : Uber) (rows : Rows) (target : List ℕ) (sector : ℕ) (stated found : List ℕ) : Type 0 where
+  pub pieces : ℕ
   pub seen : List ℕ
-  pub free : FreeSectors
-  pub spares : SparesTaken (free_by kept.body) before seen
-  pub state : IsDamagedState (SparesTaken free seen) size kept.dir target sector stated found
+  pub left : FreeSectors
+  pub set : ObjSet
+  pub blocks : KeepsBlocks image (free_by uber) seen left
+  pub made : MadeBy pieces image size (free_by uber) rows target seen left set
+  pub damaged : apply_damage (SparesTaken left seen) size set sector stated found
 
 -- a receive of what is asked, by these pieces, into a pool that was opened by this body and these rows, whether or not the image reads as a pool: E24 comes only
--- where the longest extent is shorter than what is needed
-pub record ReceiveRan (ask : RecvAsk) (pieces : List (List ℕ)) (here : DiskState) (answer : Result (List (List ℕ)) Refusal) (uber : Uber) (rows : Rows) : Type 0 where
+-- where the longest extent is shorter than what is needed; and whatever it answers, but for E28, each block still stands that stood in sectors which the body
+-- left not free
+pub record ReceiveRan (ask : RecvAsk) (pieces : List (List ℕ)) (here here' : DiskState) (answer : Result (List (List ℕ)) Refusal) (uber : Uber) (rows : Rows) : Type 0 where
   pub opens : Opens here uber rows
+  pub stood : ¬ (answer ≡ Err refusals.DiskFault) → KeepsBlocks here.seen (free_by uber) here'.seen (free_by uber)
   pub full : (need largest : ℕ) → answer ≡ Err (refusals.Full need largest) → largest < need
   pub planned : SaysOfPlan (kept_rows rows) ask (concat pieces) answer
-  pub damaged : (sector : ℕ) (stated found : List ℕ) → answer ≡ Err (refusals.Damaged sector stated found) → IsDamagedReceive here uber ask.target sector stated found
+  pub damaged : (sector : ℕ) (stated found : List ℕ) → answer ≡ Err (refusals.Damaged sector stated found) → IsDamagedReceive here.seen here.size uber (kept_rows rows) ask.target sector stated found
 
 -- What an answer says of the pieces that were read, whatever the image: a fault that is found in a stream is that of their reading, E20 comes where their
 -- reading waits for more, and tells the count of their bytes at the end of an input that didn't fail, and there is a line only where their reading is complete.
@@ -217,7 +227,7 @@ pub record Receiving (ask : RecvAsk) (here here' : DiskState) (input input' : So
       → (c : List ℕ) → here'.images c → IsOnTheWay tight here ask pool pieces c
   pub ends : (tight : Bool) (uber : Uber) (rows : Rows) (pool : Pool) → here'.honest → ReadsAs tight uber rows pool here.seen → IsTightOrNew tight ask pool
       → ReceiveEnds tight ask pool pieces here' input input' answer
-  pub opened : here'.honest → SaysOfOpening (OnlyReads here here' × (input' ≡ input)) here (ReceiveRan ask pieces here answer) answer
+  pub opened : here'.honest → SaysOfOpening (OnlyReads here here' × (input' ≡ input)) here (ReceiveRan ask pieces here here' answer) answer
   pub text : SaysOfText pieces input input' answer
   -- whatever the image: E24 comes only where fewer sectors were free, by the body and the directory that were opened, than all pieces cost that were read
   pub cost : here'.honest → (need largest : ℕ) → answer ≡ Err (refusals.Full need largest)

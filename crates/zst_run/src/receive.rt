@@ -3,15 +3,13 @@ ghost use Rattle.std.specs.Prelude.{◌≡◌, ◌++◌, ◌∷◌, ◌≤◌, �
 ghost use Rattle.zst_outside.specs.Printing.{Prints};
 ghost use Rattle.zst_outside.specs.States.{Gave, HandedOn};
 ghost use Rattle.zst_space.specs.FreeSectors.{FreeSectors};
-ghost use Rattle.zst_block.specs.Blocks.{Has, KeepsBlocks};
+ghost use Rattle.zst_block.specs.Blocks.{Has};
 ghost use Rattle.zst_block.specs.IoStates.{IsHonest, disk_of, io_of};
 ghost use Rattle.zst_image.specs.Commits.{Ready};
-ghost use Rattle.zst_image.specs.Reads.{free_by};
 ghost use Rattle.zst_model.specs.pools.Pool.{Pool as Plain};
 ghost use Rattle.zst_plan.specs.RecvPlan.{snapshot_name};
 ghost use Rattle.zst_pool.specs.Calls.{IsAtRest};
 ghost use Rattle.zst_record.specs.Laws.{AreBytes};
-ghost use Rattle.zst_recv.specs.Damage.{IsDamagedFeed};
 ghost use Rattle.zst_recv.specs.ReceiveSteps.{Stage, left_by};
 ghost use Rattle.zst_recv.specs.Stages.{Receives as HasTaken, RecvFits, ask_of, fed_of, is_live, received_by, stage_of};
 ghost use Rattle.zst_dir.specs.Rows.{Rows};
@@ -19,7 +17,7 @@ ghost use Rattle.zst_script.specs.Asks.{receipt_of, snapshot_of, target_of};
 ghost use Rattle.zst_run.specs.LaterDisks.{IsLater};
 ghost use Rattle.zst_run.specs.Receives.{IsTarget, Receiving, SaysOfPlan, piece_size};
 ghost use Rattle.zst_run.specs.Replies.{Replies, reply_text};
-ghost use Rattle.zst_run.specs.ReceiveTurns.{CanFeed, Fed, Fills, IsReady, IsUnfed, PlansOn, TurnLeaves, TurnPlans, Turns, WaitsForMore, WhyReceiveEnds, cut_refusal, line_of, told, turn_behind};
+ghost use Rattle.zst_run.specs.ReceiveTurns.{CanFeed, Fed, Fills, IsReady, IsUnfed, PlansOn, TurnBlocks, TurnLeaves, TurnPlans, Turns, WaitsForMore, WhyReceiveEnds, cut_refusal, line_of, told, turn_behind};
 
 use itoa::Buffer;
 use std::alloc::Global;
@@ -163,10 +161,7 @@ fn feed_piece<D: Disk, S: Source>(
     ensures turns { Turns (disk_of pool.old.io) (disk_of pool.new.io) pool.old.kept pool.new.kept recv.old recv.new items.old items.new (S.state input.old) (S.state input.new) result }
     // Whatever the image, the plan over the rows at the start says whether BEGIN is refused.
     ensures plans { (rows : Rows) (text piece : List ℕ) → Gave (S.state input.old) (S.state input.new) piece → PlansOn rows pool.old.kept recv.old text → TurnPlans rows (ask_of recv.old) pool.new.kept recv.new (text ++ piece) result }
-    // One that goes on leaves each block that was there, and E25 tells a damage of the set as the refused record found it.
-    ensures blocks { result ≡ Turn.More → KeepsBlocks (disk_of pool.old.io).seen (free_by pool.old.kept.body) (disk_of pool.new.io).seen (free_by pool.new.kept.body) }
-    ensures damaged { (sector : ℕ) (stated found : List ℕ) → IsHonest pool.new.io → result ≡ Turn.Refused (Refusal.Damaged sector stated found)
-        → IsDamagedFeed (disk_of pool.old.io) (free_by pool.old.kept.body) pool.old.kept.dir (ask_of recv.old).target sector stated found }
+    ensures blocks { TurnBlocks pool.old pool.new recv.old recv.new result }
     ensures leaves { TurnLeaves pool.old pool.new recv.old recv.new result }
     ensures room { length room.new ≡ length room.old }
     ensures later { IsLater (io_of pool.old.io) (io_of pool.new.io) }

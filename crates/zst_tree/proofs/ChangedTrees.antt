@@ -11,13 +11,13 @@ use Rattle.zst_block.specs.declared.fault.BlockFault.{BlockFault}
 use Rattle.zst_block.specs.declared.ptr.Ptr.{Ptr}
 use Rattle.zst_block.proofs.BlocksLaws.{Has-spared, SparesTaken-same}
 use Rattle.zst_tree.specs.Changes.{FillsChildren, PutsChild}
-use Rattle.zst_tree.specs.Damage.{HangsBelow, IsBelow, IsWithin, MayHave, NamesNode, Reaches}
+use Rattle.zst_tree.specs.Damage.{HangsBelow, IsBelow, IsDamagedNode, IsSummedBelow, IsWithin, MayHave, NamesNode, Reaches, SumsUp}
 use Rattle.zst_tree.specs.Indices.{Blocks, child}
 use Rattle.zst_tree.proofs.SubtreeCases.{flat_kind}
 use Rattle.zst_tree.proofs.Damage.{HangsBelow-grows, MayHave-more, Reaches-flat, hangs_child, hangs_flat}
 use Rattle.zst_tree.proofs.ChangedNodes.{Mixed}
 use Rattle.zst_tree.proofs.Sides.{sides}
-use Rattle.zst_tree.proofs.LaterDamage.{IsBelow-more}
+use Rattle.zst_tree.proofs.LaterDamage.{IsBelow-more, IsSummedBelow-more}
 
 module _ (has : Blocks) where
   -- no node is below a pointer that stands for all below it
@@ -50,12 +50,13 @@ module _ (has : Blocks) where
 module _ (images : List ℕ → Type 0) (size level : ℕ) (root leaf : Ptr) where
   -- the root itself
   pub IsWithin-self : IsWithin images size level root leaf images level root
-  IsWithin-self = record { below = λ sector stated found damage. damage; hangs = λ found hangs. inl hangs }
+  IsWithin-self = record { below = λ sector stated found damage. damage; sums = λ sector stated found damage. damage; hangs = λ found hangs. inl hangs }
 
   -- among fewer images
   pub IsWithin-fewer : (more fewer : List ℕ → Type 0) → ((image : List ℕ) → fewer image → more image) → (lower : ℕ) (under : Ptr) → IsWithin images size level root leaf more lower under → IsWithin images size level root leaf fewer lower under
   IsWithin-fewer more fewer up lower under within = record {
     below = λ sector stated found damage. within.below sector stated found (IsBelow-more fewer more up size NamesNode lower under sector stated found damage);
+    sums = λ sector stated found damage. within.sums sector stated found (IsSummedBelow-more fewer more up size lower under sector stated found damage);
     hangs = λ found hangs. within.hangs found (HangsBelow-grows (MayHave fewer) (MayHave more) (MayHave-more fewer more up) lower under found hangs);
   }
 
@@ -64,6 +65,7 @@ module _ (images : List ℕ → Type 0) (size level : ℕ) (root leaf : Ptr) whe
       → IsWithin images size level root leaf fewer lowest last
   IsWithin-then mid lower under first fewer lowest last second = record {
     below = λ sector stated found damage. first.below sector stated found (second.below sector stated found damage);
+    sums = λ sector stated found damage. first.sums sector stated found (second.sums sector stated found damage);
     hangs = λ found hangs. ⊎_elim (λ inside. first.hangs found inside) (λ other. inr other) (second.hangs found hangs);
   }
 
@@ -71,6 +73,7 @@ module _ (images : List ℕ → Type 0) (size level : ℕ) (root leaf : Ptr) whe
   pub IsWithin-stands : (fewer : List ℕ → Type 0) (lower : ℕ) (under : Ptr) → (lower ≡ 0) ⊎ (is_flat under ≡ true) → (under ≡ leaf) ⊎ (under.kind ≡ 0) → IsWithin images size level root leaf fewer lower under
   IsWithin-stands fewer lower under stands is = record {
     below = λ sector stated found damage. absurd (Reaches-stands (MayHave fewer) lower under damage.at damage.ptr stands damage.reached);
+    sums = λ sector stated found damage. absurd (Reaches-stands (MayHave fewer) lower under damage.at damage.ptr stands damage.reached);
     hangs = λ found hangs.
         let same : found ≡ under = stands_only (MayHave fewer) lower under found stands hangs in
         inr (⊎_elim (λ leaf_is. inl (same ∙ leaf_is)) (λ hole. inr (ap (λ (p : Ptr). p.kind) same ∙ hole)) is);
@@ -81,9 +84,11 @@ module _ (images : List ℕ → Type 0) (size level : ℕ) (root leaf : Ptr) whe
 
 -- a child of a node that was read, below this root among more images
 pub opened_within : (images old now : List ℕ → Type 0) → ((image : List ℕ) → old image → images image) → ((image : List ℕ) → now image → old image) → (size level : ℕ) (root leaf : Ptr) (lower : ℕ) (under : Ptr)
-    → IsBelow old size NamesNode level root old lower under → ((found : Ptr) → HangsBelow (MayHave old) lower under found → HangsBelow (MayHave old) level root found) → IsWithin images size level root leaf now lower under
-opened_within images old now up down size level root leaf lower under below hangs = IsWithin-fewer images size level root leaf old now down lower under (record {
+    → IsBelow old size NamesNode level root old lower under → ((found : Ptr) → HangsBelow (MayHave old) lower under found → HangsBelow (MayHave old) level root found)
+    → IsSummedBelow old size level root old lower under → IsWithin images size level root leaf now lower under
+opened_within images old now up down size level root leaf lower under below hangs sums = IsWithin-fewer images size level root leaf old now down lower under (record {
   below = λ sector stated found damage. IsBelow-more old images up size NamesNode level root sector stated found (below sector stated found damage);
+  sums = λ sector stated found damage. IsSummedBelow-more old images up size level root sector stated found (sums sector stated found damage);
   hangs = λ found hung. inl (HangsBelow-grows (MayHave old) (MayHave images) (MayHave-more old images up) level root found (hangs found hung));
 })
 
@@ -118,36 +123,48 @@ module _ (seen : List ℕ) (space : FreeSectors) (size : ℕ) (long : length see
   pub block_whole : (image found : List ℕ) → SparesTaken space seen image → ¬ IsDamage image size made found
   block_whole image found spares = there_whole image space size made node found (spares.size ∙ long) (block_there image spares)
 
-  made_whole : (level at : ℕ) (ptr : Ptr) (stated found : List ℕ) → NamesNode level made → at ≡ level → ptr ≡ made
-      → ((image : List ℕ) × SparesTaken space seen image × IsDamage image size ptr found) ⊎ ((found ≡ stated) × (¬ NamesNode at ptr)) → ⊥
-  made_whole level at ptr stated found names at_is ptr_is told = ⊎_elim
+  made_whole : (right : ℕ → Ptr → Type 0) (level at : ℕ) (ptr : Ptr) (stated found : List ℕ) → right level made → at ≡ level → ptr ≡ made
+      → ((image : List ℕ) × SparesTaken space seen image × IsDamage image size ptr found) ⊎ ((found ≡ stated) × (¬ right at ptr)) → ⊥
+  made_whole right level at ptr stated found is at_is ptr_is told = ⊎_elim
       (λ other. block_whole other.0 found other.1 (subst (λ (p : Ptr). IsDamage other.0 size p found) ptr_is other.2))
-      (λ alike. alike.1 (subst (λ (n : ℕ). NamesNode n ptr) (sym at_is) (subst (λ (p : Ptr). NamesNode level p) (sym ptr_is) names))) told
+      (λ alike. alike.1 (subst (λ (n : ℕ). right n ptr) (sym at_is) (subst (λ (p : Ptr). right level p) (sym ptr_is) is))) told
 
   module _ (images : List ℕ → Type 0) (upper : ℕ) (root leaf : Ptr) where
-    node_suc : (lower : ℕ) → NamesNode (suc lower) made → ((k : ℕ) → k < 128 → IsWithin images size upper root leaf (SparesTaken space seen) lower (child node k)) → IsWithin images size upper root leaf (SparesTaken space seen) (suc lower) made
-    node_suc lower names children = record {
+    abbrev Under : ℕ → ℕ → Ptr → Type 0
+    Under lower at ptr = (bytes : List ℕ) × MayHave (SparesTaken space seen) made bytes × (k : ℕ) × (k < 128) × Reaches (MayHave (SparesTaken space seen)) lower (child bytes k) at ptr
+
+    -- what is told below a child of it
+    under_child : (right : ℕ → Ptr → Type 0) (lower sector : ℕ) (stated found : List ℕ) (damage : IsDamagedNode (SparesTaken space seen) size right (suc lower) made sector stated found) → (under : Under lower damage.at damage.ptr)
+        → IsDamagedNode (SparesTaken space seen) size right lower (child node under.2) sector stated found
+    under_child right lower sector stated found damage under = record {
+      at = damage.at;
+      ptr = damage.ptr;
+      reached = subst (λ (bytes : List ℕ). Reaches (MayHave (SparesTaken space seen)) lower (child bytes under.2) damage.at damage.ptr) (block_same under.0 under.1) under.4;
+      sector_is = damage.sector_is;
+      stated_is = damage.stated_is;
+      found_is = damage.found_is;
+    }
+
+    node_suc : (lower : ℕ) → SumsUp (SparesTaken space seen) (suc lower) made → ((k : ℕ) → k < 128 → IsWithin images size upper root leaf (SparesTaken space seen) lower (child node k)) → IsWithin images size upper root leaf (SparesTaken space seen) (suc lower) made
+    node_suc lower sums children = record {
       below = λ sector stated found damage. ⊎_elim
-          (λ here. absurd (made_whole (suc lower) damage.at damage.ptr stated found names here.0 here.1 damage.found_is))
-          (λ under. (children under.2 under.3).below sector stated found (record {
-            at = damage.at;
-            ptr = damage.ptr;
-            reached = subst (λ (bytes : List ℕ). Reaches (MayHave (SparesTaken space seen)) lower (child bytes under.2) damage.at damage.ptr) (block_same under.0 under.1) under.4;
-            sector_is = damage.sector_is;
-            stated_is = damage.stated_is;
-            found_is = damage.found_is;
-          }))
+          (λ here. absurd (made_whole NamesNode (suc lower) damage.at damage.ptr stated found sums.names here.0 here.1 damage.found_is))
+          (λ under. (children under.2 under.3).below sector stated found (under_child NamesNode lower sector stated found damage under))
+          (reaches_cases (MayHave (SparesTaken space seen)) lower made damage.at damage.ptr damage.reached);
+      sums = λ sector stated found damage. ⊎_elim
+          (λ here. absurd (made_whole (SumsUp (SparesTaken space seen)) (suc lower) damage.at damage.ptr stated found sums here.0 here.1 damage.found_is))
+          (λ under. (children under.2 under.3).sums sector stated found (under_child (SumsUp (SparesTaken space seen)) lower sector stated found damage under))
           (reaches_cases (MayHave (SparesTaken space seen)) lower made damage.at damage.ptr damage.reached);
       hangs = λ found hangs.
-          let under = hangs_cases (MayHave (SparesTaken space seen)) lower made found (flat_kind made names.kind) hangs in
+          let under = hangs_cases (MayHave (SparesTaken space seen)) lower made found (flat_kind made sums.names.kind) hangs in
           (children under.2 under.3).hangs found (subst (λ (bytes : List ℕ). HangsBelow (MayHave (SparesTaken space seen)) lower (child bytes under.2) found) (block_same under.0 under.1) under.4);
     }
 
-    pub node_within : (level : ℕ) → 0 < level → NamesNode level made → ((k : ℕ) → k < 128 → IsWithin images size upper root leaf (SparesTaken space seen) (level - 1) (child node k)) → IsWithin images size upper root leaf (SparesTaken space seen) level made
-    node_within zero some names children = absurd (omega arith)
-    node_within (suc lower) some names children =
+    pub node_within : (level : ℕ) → 0 < level → SumsUp (SparesTaken space seen) level made → ((k : ℕ) → k < 128 → IsWithin images size upper root leaf (SparesTaken space seen) (level - 1) (child node k)) → IsWithin images size upper root leaf (SparesTaken space seen) level made
+    node_within zero some sums children = absurd (omega arith)
+    node_within (suc lower) some sums children =
         let same : suc lower - 1 ≡ lower = omega arith in
-        node_suc lower names (λ k under. rw same at (children k under))
+        node_suc lower sums (λ k under. rw same at (children k under))
 
 module _ (images : List ℕ → Type 0) (size upper : ℕ) (root leaf : Ptr) (now : List ℕ → Type 0) (lower : ℕ) where
   at_child : (there here : Ptr) → here ≡ there → IsWithin images size upper root leaf now lower there → IsWithin images size upper root leaf now lower here

@@ -12,7 +12,7 @@ use Rattle.zst_block.specs.declared.fault.BlockFault.{BlockFault}
 use Rattle.zst_block.specs.declared.fault.BlockFault.TheVariants.{Full, Damaged, DiskFault}
 use Rattle.zst_block.proofs.BlocksLaws.{SparesTaken-same, SparesTaken-then, SparesTaken-fewer, FillsFree-reads}
 use Rattle.zst_tree.specs.Indices.{child}
-use Rattle.zst_tree.specs.Damage.{IsSeen, MayHave, NamesNode, TellsNode, NamesDamage, IsBelow}
+use Rattle.zst_tree.specs.Damage.{IsSeen, MayHave, NamesNode, SumsUp, TellsNode, NamesDamage, IsBelow, IsSummedBelow}
 use Rattle.zst_tree.proofs.Damage.{MayHave-more, Reaches-grows, IsBelow-child, TellsNode-below}
 
 -- what is told of no damage
@@ -34,6 +34,25 @@ IsBelow-more images more up size right level root = λ sector stated found damag
   found_is = ⊎_elim (λ other. inl (other.0, up other.0 other.1, other.2)) (λ alike. inr alike) damage.found_is;
 }
 
+-- what sums up what may stand there among more images does so among these
+SumsUp-fewer : (images more : List ℕ → Type 0) → ((image : List ℕ) → images image → more image) → (level : ℕ) (ptr : Ptr) → SumsUp more level ptr → SumsUp images level ptr
+SumsUp-fewer images more up level ptr sums = record {
+  names = sums.names;
+  kind_is = λ bytes may. sums.kind_is bytes (MayHave-more images more up ptr bytes may);
+  number_is = λ bytes may. sums.number_is bytes (MayHave-more images more up ptr bytes may);
+}
+
+-- so more may be told of nodes that don't
+pub IsSummedBelow-more : (images more : List ℕ → Type 0) → ((image : List ℕ) → images image → more image) → (size level : ℕ) (root : Ptr) → IsSummedBelow more size level root images level root
+IsSummedBelow-more images more up size level root = λ sector stated found damage. record {
+  at = damage.at;
+  ptr = damage.ptr;
+  reached = Reaches-grows (MayHave images) (MayHave more) (MayHave-more images more up) level root damage.at damage.ptr damage.reached;
+  sector_is = damage.sector_is;
+  stated_is = damage.stated_is;
+  found_is = ⊎_elim (λ other. inl (other.0, up other.0 other.1, other.2)) (λ alike. inr (alike.0, λ sums. alike.1 (SumsUp-fewer images more up damage.at damage.ptr sums))) damage.found_is;
+}
+
 -- what a read gives is among all images that spare what is taken
 pub seen_spared : (space : FreeSectors) (seen image : List ℕ) → IsSeen seen image → SparesTaken space seen image
 seen_spared space seen image is = subst (λ (other : List ℕ). SparesTaken space seen other) (sym is) (SparesTaken-same space seen)
@@ -49,6 +68,12 @@ module _ (space : FreeSectors) (seen : List ℕ) (size level : ℕ) (ptr : Ptr) 
   opened_below bytes some inner (Err fault) block = tt
   opened_below bytes some inner (Ok value) block = λ k under.
       IsBelow-child (SparesTaken space seen) size NamesNode level ptr bytes k some inner (record { image = seen; among = SparesTaken-same space seen; block = block }) under
+
+  pub opened_sums : {T : Type 0} → (bytes : List ℕ) → 0 < level → is_flat ptr ≡ false → (result : Result T BlockFault) → OnOk result (IsBlock seen ptr bytes)
+      → OnOk result ((k : ℕ) → k < 128 → IsSummedBelow (SparesTaken space seen) size level ptr (SparesTaken space seen) (level - 1) (child bytes k))
+  opened_sums bytes some inner (Err fault) block = tt
+  opened_sums bytes some inner (Ok value) block = λ k under.
+      IsBelow-child (SparesTaken space seen) size (SumsUp (SparesTaken space seen)) level ptr bytes k some inner (record { image = seen; among = SparesTaken-same space seen; block = block }) under
 
 -- a call that reads fills nothing
 pub fills_looks : {old new : IoState} {stop : Option BlockFault} → Looks old new stop → FillsFree old.disk old.space new.disk new.space

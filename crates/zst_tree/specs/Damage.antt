@@ -74,6 +74,10 @@ NamesDamage images size right level root (Err fault) = TellsNode images size rig
 abbrev pub IsBelow : (List ℕ → Type 0) → ℕ → (ℕ → Ptr → Type 0) → ℕ → Ptr → (List ℕ → Type 0) → ℕ → Ptr → Type 0
 IsBelow images size right level root fewer lower under = (sector : ℕ) (stated found : List ℕ) → IsDamagedNode fewer size right lower under sector stated found → IsDamagedNode images size right level root sector stated found
 
+-- so is each of a node that may not sum up what stands below it
+abbrev pub IsSummedBelow : (List ℕ → Type 0) → ℕ → ℕ → Ptr → (List ℕ → Type 0) → ℕ → Ptr → Type 0
+IsSummedBelow images size level root fewer lower under = (sector : ℕ) (stated found : List ℕ) → IsDamagedNode fewer size (SumsUp fewer) lower under sector stated found → IsDamagedNode images size (SumsUp images) level root sector stated found
+
 -- a pointer that hangs below the second root, among the second images, hangs below the first, or is this leaf, or a hole
 abbrev pub HangsWithin : (List ℕ → Type 0) → ℕ → Ptr → Ptr → (List ℕ → Type 0) → ℕ → Ptr → Type 0
 HangsWithin images level root leaf fewer lower under = (found : Ptr) → HangsBelow (MayHave fewer) lower under found → HangsBelow (MayHave images) level root found ⊎ ((found ≡ leaf) ⊎ (found.kind ≡ 0))
@@ -81,4 +85,5 @@ HangsWithin images level root leaf fewer lower under = (found : Ptr) → HangsBe
 -- what is below the second root, among the second images, is below the first, but for this leaf and holes: what may be told as damaged, and what hangs there
 pub record IsWithin (images : List ℕ → Type 0) (size level : ℕ) (root leaf : Ptr) (fewer : List ℕ → Type 0) (lower : ℕ) (under : Ptr) : Type 0 where
   pub below : IsBelow images size NamesNode level root fewer lower under
+  pub sums : IsSummedBelow images size level root fewer lower under
   pub hangs : HangsWithin images level root leaf fewer lower under

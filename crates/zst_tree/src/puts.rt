@@ -6,7 +6,7 @@ ghost use Rattle.zst_block.specs.IoStates.{IsHonest, blocks_of, disk_of, io_of, 
 ghost use Rattle.zst_block.specs.Ptr.{is_flat, is_lawful};
 ghost use Rattle.zst_block.specs.IoCalls.{Looks, Works, stop_of};
 ghost use Rattle.zst_block.specs.declared.ptr.Ptr.{Ptr};
-ghost use Rattle.zst_tree.specs.Damage.{HangsBelow, IsBelow, IsWithin, MayHave, NamesDamage, NamesNode};
+ghost use Rattle.zst_tree.specs.Damage.{HangsBelow, IsBelow, IsSummedBelow, IsWithin, MayHave, NamesDamage, NamesNode, SumsUp};
 ghost use Rattle.zst_tree.specs.Indices.{Map, child, span, greatest, kind_over, Same, Subtree, SameBeside, Changed, Delivers};
 ghost use Rattle.zst_tree.specs.Changes.{PutsChild, FillsChildren, IsPutRoot, Parts, SplitsRange, most};
 
@@ -42,6 +42,7 @@ pub(crate) fn open<D: Disk>(io: &mut Io<'_, D>, level: u8, ptr: Ptr) -> Result<(
     requires inner { 0 < level }
     ensures parts { (base : ℕ) (map : Map) → IsHonest io.new → Subtree (blocks_of io.old) level ptr base map → Delivers (λ done. Parts (blocks_of io.old) (level - 1) io.new.node base map) result }
     ensures below { IsHonest io.new → OnOk result ((k : ℕ) → k < 128 → IsBelow (IsSparedBy io.old) (disk_of io.old).size NamesNode level ptr (IsSparedBy io.old) (level - 1) (child io.new.node k)) }
+    ensures sums { IsHonest io.new → OnOk result ((k : ℕ) → k < 128 → IsSummedBelow (IsSparedBy io.old) (disk_of io.old).size level ptr (IsSparedBy io.old) (level - 1) (child io.new.node k)) }
     ensures hangs { IsHonest io.new → OnOk result ((k : ℕ) → k < 128 → (found : Ptr) → HangsBelow (MayHave (IsSparedBy io.old)) (level - 1) (child io.new.node k) found → HangsBelow (MayHave (IsSparedBy io.old)) level ptr found) }
     ensures damaged { IsHonest io.new → NamesDamage (IsSparedBy io.old) (disk_of io.old).size NamesNode level ptr result }
     ensures looks { Looks (io_of io.old) (io_of io.new) (stop_of result) }
@@ -84,6 +85,7 @@ pub(crate) fn close<D: Disk>(io: &mut Io<'_, D>, level: u8) -> Result<Ptr, Block
     ensures whole { (base : ℕ) (map : Map) → Parts (blocks_of io.old) (level - 1) io.old.node base map → Delivers (λ made. Subtree (blocks_of io.new) level made base map) result }
     ensures wrote { IfOk result (λ made. blocks_of io.new made io.old.node) }
     ensures names { IfOk result (NamesNode level) }
+    ensures sums { IfOk result (SumsUp (IsSparedBy io.new) level) }
     ensures never_damaged { (sector : ℕ) (stated found : List ℕ) → ¬ (result ≡ Err (BlockFault.Damaged sector stated found)) }
     ensures works { Works 16 16 (io_of io.old) (io_of io.new) (stop_of result) }
 {

@@ -59,7 +59,7 @@ returns-in-Holes g c = record {
       let there = c.in_ok-dnode.ensures.found state (punched.set.keeps.works.fills.honest honest) held in
       free_received _ c.args.number index c.args.object state c.in_ok-dnode.dnode held.lawful there c.args.offset c.args.length indices.result.first indices.result.count
       (number_of state c.args.object c.requires.object held.lawful there.object there.there) (rw c.in-Holes.is at (sym c.in_ok-check_range.ensures)) indices.ensures.inside (rw c.from-size.ensures at indices.ensures.same))
-      (of_index _ result) (λ told. told) punched));
+      (of_index _ result) (λ told. told) punched c.punch.ensures.trees));
 }
 
 pub returns-in-Redacted : goal.returns-in-Redacted
@@ -75,5 +75,5 @@ returns-in-Redacted g c = record {
       let held = look_back (λ (seen : List ℕ) (space : FreeSectors). SetHolds (Has seen space) c.args.set.now state) looks holds in
       let there = c.in_ok-dnode.ensures.found state (redacted.set.keeps.works.fills.honest honest) held in
       rw c.from-size.ensures (redact_received _ c.args.number index c.args.object state c.in_ok-dnode.dnode held.lawful there c.args.offset c.args.length (rw c.in-Redacted.is at (sym c.in_ok-check_range.ensures))))
-      (of_index _ result) (names_told _ _ c.args.set.now result) redacted));
+      (of_index _ result) (names_told _ _ c.args.set.now result) redacted c.redact_range.ensures.trees));
 }

@@ -55,5 +55,5 @@ returns g c = record {
       let held = look_back (λ (seen : List ℕ) (space : FreeSectors). SetHolds (Has seen space) c.args.set.now state) looks holds in
       let there = c.in_ok-dnode.ensures.found state (wrote.set.keeps.works.fills.honest honest) held in
       rw c.from.ensures (write_received _ c.args.number index c.args.object state c.in_ok-dnode.dnode held.lawful there c.args.offset kind c.args.bytes.now (sym c.in_ok-check_write.ensures)))
-      (of_index _ result) (names_told _ _ c.args.set.now result) wrote);
+      (of_index _ result) (names_told _ _ c.args.set.now result) wrote c.write_block.ensures.trees);
 }

@@ -62,7 +62,7 @@ returns-in-Object g c = record {
       rw (c.in-Object.is, sym c.keeps_spill.ensures) (record_changed (At k (Put head bonus c.keeps_spill.result c.in-Object.max_block)) result
       (changed_by (At k (Put head bonus c.keeps_spill.result c.in-Object.max_block)) (object_put c.args.number k head bonus c.keeps_spill.result) result
       (λ index state honest holds. put_received c.args.number index k head bonus c.keeps_spill.result c.in-Object.max_block state less)
-      (inside quantities.Object number_bound (k + 1) result (below k less)) (slots_told _ _ c.args.set.now result) put)
+      (inside quantities.Object number_bound (k + 1) result (below k less)) (slots_told _ _ c.args.set.now result) put c.put_object.ensures.trees)
       (Works-block put.set.keeps.works));
 }
 
@@ -79,7 +79,7 @@ returns-in-FreeObjects g c = record {
       (set_changed_by (FreeObjects first count) (objects_freed c.args.number numbers.result.first numbers.result.count) result
       (λ index state honest holds. freed_received c.args.number index first count numbers.result.first numbers.result.count state holds.lawful within_numbers (cut_same first count numbers.result.first numbers.result.count numbers.ensures.same))
       (inside quantities.Object number_bound (numbers.result.first + numbers.result.count) result within_numbers) (slots_told _ _ c.args.set.now result)
-      freed.changes (λ state honest tight dated. freed.tight state honest tight dated) freed.levels)
+      freed.changes (λ state honest tight dated. freed.tight state honest tight dated) freed.trees freed.levels)
       (Works-block freed.changes.keeps.works));
 }
 
@@ -108,7 +108,7 @@ returns-in-Spill g c = record {
       rw c.in-Spill.is (record_changed (At k (Spill bytes)) result
       (changed_by (At k (Spill bytes)) (spill_put c.args.number k bytes) result
       (λ index state honest holds. spill_received c.args.number index k bytes state)
-      (no_limit result) (slots_told _ _ c.args.set.now result) put)
+      (no_limit result) (slots_told _ _ c.args.set.now result) put c.put_spill.ensures.trees)
       (works_sized (rw c.in-Spill.is at c.requires.payload) put.set.keeps.works));
 }
 

@@ -20,6 +20,7 @@ use Rattle.std.proofs.Common.{inl}
 use Rattle.zst_objset.specs.TightSets.{SetIsTight}
 use Rattle.zst_objset.proofs.TightLaws.{found_dated}
 use Rattle.zst_objset.proofs.SetChangeLaws.{refused}
+use Rattle.zst_objset.proofs.TreesWithin.{trees_kept}
 use Rattle.zst_objset.proofs.allocation.put_object.Goals as goal
 
 pub returns-then-object-ge-NUMBER_BOUND-clause-changes : goal.returns-then-object-ge-NUMBER_BOUND-clause-changes
@@ -71,6 +72,18 @@ returns-clause-within g c = λ honest.
 
 pub returns-then-object-ge-NUMBER_BOUND-clause-within : goal.returns-then-object-ge-NUMBER_BOUND-clause-within
 returns-then-object-ge-NUMBER_BOUND-clause-within g c = λ honest. tt
+
+pub returns-clause-trees : goal.returns-clause-trees
+returns-clause-trees g c = λ honest.
+    let puts = c.put_dnode.ensures.puts in
+    trees_kept _ _ _ _ _ _ (fills_looks c.in-Ok.ensures.looks.looks) puts.keeps.works.fills c.args.set.now c.put_dnode.new.set c.put_dnode.result c.in-Ok.found c.made_dnode.result c.made_dnode.ensures.tree
+    (c.in-Ok.ensures.stands (puts.keeps.works.fills.honest honest)) (puts.within honest) (puts.stands honest)
+
+pub returns-then-object-ge-NUMBER_BOUND-clause-trees : goal.returns-then-object-ge-NUMBER_BOUND-clause-trees
+returns-then-object-ge-NUMBER_BOUND-clause-trees g c = λ honest. tt
+
+pub returns-in-Err-clause-trees : goal.returns-in-Err-clause-trees
+returns-in-Err-clause-trees g c = λ honest. tt
 
 pub dnode_at-requires : goal.dnode_at-requires
 dnode_at-requires g c = record { object = c.requires.object }

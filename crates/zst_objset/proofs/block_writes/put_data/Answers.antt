@@ -8,6 +8,7 @@ use Rattle.zst_objset.proofs.SetPuts.{Puts-one, with_one}
 use Rattle.zst_tree.specs.Damage.{NamesNode}
 use Rattle.zst_tree.proofs.LaterDamage.{fault_after, same_now}
 use Rattle.std.proofs.Common.{◌≡◌, arith}
+use Rattle.zst_objset.proofs.TreesWithin.{sums_before}
 use Rattle.zst_objset.proofs.block_writes.put_data.Goals as goal
 
 pub returns-in_err-set-clause-puts : goal.returns-in_err-set-clause-puts
@@ -94,6 +95,20 @@ returns-in_err-set-clause-root g c =
 
 pub returns-in_err-set-clause-dated : goal.returns-in_err-set-clause-dated
 returns-in_err-set-clause-dated g c = λ map honest tree dated.
+    let p = err_from_is_err_and c.from_residual-in_err-set.result c.from_residual-in_err-set.ensures.1 in
+    rw p.1 tt
+
+pub returns-clause-trees : goal.returns-clause-trees
+returns-clause-trees g c = λ honest.
+    sums_before _ _ _ _ c.in_ok-block.ensures.block.works.fills c.args.tree.levels c.args.tree.root _ _ _ (c.in_ok-set.ensures.changes.within honest).sums
+
+pub returns-in_err-block-clause-trees : goal.returns-in_err-block-clause-trees
+returns-in_err-block-clause-trees g c = λ honest.
+    let p = err_from_is_err_and c.from_residual.result c.from_residual.ensures.1 in
+    rw p.1 tt
+
+pub returns-in_err-set-clause-trees : goal.returns-in_err-set-clause-trees
+returns-in_err-set-clause-trees g c = λ honest.
     let p = err_from_is_err_and c.from_residual-in_err-set.result c.from_residual-in_err-set.ensures.1 in
     rw p.1 tt
 

@@ -24,7 +24,9 @@ use Rattle.zst_objset.proofs.TreeFits.{with_tree}
 use Rattle.zst_objset.proofs.LimitLaws.{if_no_limit, no_limit}
 use Rattle.zst_objset.proofs.RunLaws.{all_accepted, blocks_end, may_write_one, one_written, puts_one, run_begins_over, tree_early}
 use Rattle.zst_objset.proofs.TightLaws.{tight_grows}
+use Rattle.zst_tree.proofs.LaterDamage.{fills_looks}
 use Rattle.zst_objset.proofs.SetChangeLaws.{refused}
+use Rattle.zst_objset.proofs.TreesWithin.{sums_before, trees_changed}
 use Rattle.zst_objset.proofs.block_writes.write_block.Goals as goal
 
 pub returns-in-Err : goal.returns-in-Err
@@ -35,6 +37,7 @@ returns-in-Err g c = record {
       (λ honest.
       object_told _ _ NamesNode c.args.set.now {T = Unit {0}} (Err c.in-Err.fault) (set_spared _ _ _ c.args.set.now Dnode (Unit {0}) c.in-Err.fault (c.in-Err.ensures.damaged honest)))
       (Works-looks c.in-Err.ensures.looks.looks);
+  trees = λ honest. tt;
 }
 
 pub returns-in-Err-judge_write : goal.returns-in-Err-judge_write
@@ -45,6 +48,7 @@ returns-in-Err-judge_write g c = record {
       c.in-Err-judge_write.ensures.limits c.in-Err-judge_write.ensures.unredacted
       (λ honest. unstopped (Unit {0}) (Unit {0}) _ c.in-Err-judge_write.fault c.in-Err-judge_write.ensures.stop)
       (rw c.in-Err-judge_write.ensures.stop (Works-looks c.in-Ok.ensures.looks.looks));
+  trees = λ honest. tt;
 }
 
 pub returns-in-Err-put_data : goal.returns-in-Err-put_data
@@ -65,6 +69,7 @@ returns-in-Err-put_data g c = record {
       (told_before (λ space seen. NamesNode) c.in-Ok.dnode.levels c.in-Ok.dnode.root c.in-Ok.ensures.looks.looks _
       (rw c.tree_of.ensures at (c.in-Err-put_data.ensures.damaged honest))))
       (Works-after c.in-Ok.ensures.looks.looks (Works-more (omega arith) c.in-Err-put_data.ensures.works));
+  trees = λ honest. tt;
 }
 
 pub returns : goal.returns
@@ -118,6 +123,17 @@ returns g c = record {
         (c.put_there.ensures.tight state ends.now honest grown ends.puts (ends.tight dated was early) (ends.rises dated));
     levels = c.put_there.ensures.puts.levels;
   };
+  trees = λ honest.
+      let puts = c.put_there.ensures.puts in
+      let wrote = c.in-Ok-put_data.ensures in
+      let looked = c.in-Ok.ensures.looks.looks in
+      let was_put = puts.keeps.works.fills.honest honest in
+      let made = c.with_tree.ensures.made in
+      trees_changed _ _ _ _ _ _ (Works-after looked wrote.works).fills puts.keeps.works.fills c.args.set.now c.put_there.new.set c.put_there.result
+      c.in-Ok.dnode c.with_tree.result c.in-Ok-put_data.tree.levels c.in-Ok-put_data.tree.root (ap (λ (d : Dnode). d.levels) made) (ap (λ (d : Dnode). d.root) made)
+      (c.in-Ok.ensures.stands (wrote.works.fills.honest was_put))
+      (sums_before _ _ _ _ (fills_looks looked) c.in-Ok.dnode.levels c.in-Ok.dnode.root _ c.in-Ok-put_data.tree.levels c.in-Ok-put_data.tree.root (rw c.tree_of.ensures at (wrote.trees was_put)))
+      (puts.within honest) (puts.stands honest);
 }
 
 pub put_data-requires-clause-block : goal.put_data-requires-clause-block

@@ -12,7 +12,9 @@ use Rattle.zst_dnode.specs.declared.dnode.Dnode.{Dnode}
 use Rattle.zst_objset.proofs.LeafLaws.{is_number_at, keeps_on}
 use Rattle.zst_objset.proofs.SetGrowth.{IsThere-grows, SetHolds-grows}
 use Rattle.zst_objset.proofs.DamageLaws.{set_after, set_spared, undamaged}
-use Rattle.std.proofs.Common.{inl, ◌≤◌}
+use Rattle.std.proofs.Common.{inl, inr, ◌≤◌}
+use Rattle.std.specs.Prelude.{Some}
+use Rattle.zst_objset.proofs.TreesWithin.{trees_kept}
 use Rattle.zst_dnode.specs.declared.slot.Slot.TheVariants.{There}
 use Rattle.zst_objset.specs.Sets.{date_in}
 use Rattle.zst_objset.proofs.TightLaws.{tight_dated, tight_grows}
@@ -24,6 +26,7 @@ returns-in-Err g c = record {
   changes = refused _ _ (λ state honest holds.
       change_not_there (blocks_of c.object_there.new.io) c.args.number c.args.object (Spill c.args.bytes.now) state c.in-Err.fault (no_spill c.args.bytes.now) (c.in-Err.ensures.found state honest holds))
       c.in-Err.ensures.limits c.in-Err.ensures.unredacted (λ honest. set_spared _ _ _ c.args.set.now Dnode (Unit {0}) c.in-Err.fault (c.in-Err.ensures.damaged honest)) (Works-looks c.in-Err.ensures.looks.looks);
+  trees = λ honest. tt;
 }
 
 pub returns-in-Err-write : goal.returns-in-Err-write
@@ -32,6 +35,7 @@ returns-in-Err-write g c = record {
       let there = c.in-Ok.ensures.found state (c.in-Err-write.ensures.block.works.fills.honest honest) holds in
       stops _ _ c.in-Err-write.fault (spill_is c.args.number c.args.object c.args.bytes.now state there.object there.there) (undamaged_write c.in-Err-write.fault c.in-Err-write.ensures.block.never_damaged))
       tt tt (λ honest. undamaged _ c.in-Err-write.fault (undamaged_write c.in-Err-write.fault c.in-Err-write.ensures.block.never_damaged)) (Works-after c.in-Ok.ensures.looks.looks (Works-more (omega arith) c.in-Err-write.ensures.block.works));
+  trees = λ honest. tt;
 }
 
 pub returns : goal.returns
@@ -87,6 +91,13 @@ returns g c = record {
         c.put_dnode.ensures.tight c.args.number (Spill c.args.bytes.now) state honest grown dated makes (inl early);
     levels = c.put_dnode.ensures.puts.levels;
   };
+  trees = λ honest.
+      let puts = c.put_dnode.ensures.puts in
+      let wrote = c.in-Ok-write.ensures.block in
+      let filled = (Works-after c.in-Ok.ensures.looks.looks wrote.works).fills in
+      let made = c.with_spill.ensures.made in
+      trees_kept _ _ _ _ _ _ filled puts.keeps.works.fills c.args.set.now c.put_dnode.new.set c.put_dnode.result (Some c.in-Ok.dnode) c.with_spill.result (inr (ap (λ (d : Dnode). d.levels) made, ap (λ (d : Dnode). d.root) made))
+      (c.in-Ok.ensures.stands (wrote.works.fills.honest (puts.keeps.works.fills.honest honest))) (puts.within honest) (puts.stands honest);
 }
 
 pub write-requires-clause-some : goal.write-requires-clause-some

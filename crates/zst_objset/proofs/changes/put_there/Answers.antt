@@ -1,8 +1,13 @@
-use Rattle.std.proofs.Common.{ℕ, Ok, refl, subst, arith}
+use Rattle.std.proofs.Common.{◌≡◌, inl, inr, ⊎_elim, ℕ, Ok, refl, subst, sym, arith}
+use Rattle.zst_dnode.specs.declared.dnode.Dnode.{Dnode}
 use Rattle.zst_dnode.specs.declared.slot.Slot.TheVariants.{There}
 use Rattle.zst_objset.specs.TightSets.{IsTightSlot}
 use Rattle.zst_objset.proofs.SpillLaws.{stops}
 use Rattle.zst_objset.proofs.changes.put_there.Goals as goal
+
+-- the slot of one dnode
+there_same : (one other : Dnode) → There one ≡ There other → one ≡ other
+there_same one other is = cc
 
 pub returns-in-Ok-clause-puts : goal.returns-in-Ok-clause-puts
 returns-in-Ok-clause-puts g c = record {
@@ -14,6 +19,7 @@ returns-in-Ok-clause-puts g c = record {
     works = c.in-Ok.ensures.makes.works;
   };
   within = c.in-Ok.ensures.makes.within;
+  stands = λ honest dnode stands. ⊎_elim (λ stood. inl stood) (λ is. inr (sym (there_same c.args.dnode dnode is))) (c.in-Ok.ensures.makes.stands honest dnode stands);
   levels = c.in-Ok.ensures.levels;
 }
 
@@ -27,6 +33,7 @@ returns-in-Err-clause-puts g c = record {
     works = c.in-Err.ensures.makes.works;
   };
   within = λ honest. tt;
+  stands = λ honest. tt;
   levels = tt;
 }
 

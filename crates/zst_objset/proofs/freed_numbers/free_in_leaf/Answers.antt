@@ -1,7 +1,8 @@
 use Rattle.zst_block.proofs.IoCallLemmas.{Looks-none, Works-looks}
 use Rattle.zst_objset.proofs.FreeLaws.{freed_puts}
 use Rattle.zst_objset.proofs.TightLaws.{freed_rises, freed_tight}
-use Rattle.std.proofs.Common.{subst, sym}
+use Rattle.std.proofs.Common.{inl, subst, sym}
+use Rattle.zst_objset.proofs.TreesWithin.{absent_stands}
 use Rattle.zst_block.specs.IoStates.{blocks_of}
 use Rattle.zst_objset.specs.TightSets.{SetIsTight}
 use Rattle.zst_objset.proofs.FreeLaws.{freed-none}
@@ -11,8 +12,19 @@ pub returns-then-first-below-clause-makes : goal.returns-then-first-below-clause
 returns-then-first-below-clause-makes g c = record {
   damaged = λ honest. tt;
   within = λ honest sector stated found damaged. damaged;
+  stands = λ honest dnode stands. inl stands;
   works = Works-looks (Looks-none _);
 }
+
+pub returns-clause-makes : goal.returns-clause-makes
+returns-clause-makes g c =
+    let makes = c.put_in_leaf.ensures.makes in
+    record {
+      damaged = makes.damaged;
+      within = makes.within;
+      stands = λ honest. absent_stands c.args.number _ c.args.set _ c.put_in_leaf.result (makes.stands honest);
+      works = makes.works;
+    }
 
 pub returns-clause-frees : goal.returns-clause-frees
 returns-clause-frees g c = λ state honest holds.

@@ -3,7 +3,8 @@ use Rattle.std.proofs.lemmas.Result.{err_from_is_err_and}
 use Rattle.zst_block.specs.Ptr.{hole_of}
 use Rattle.zst_block.proofs.BlocksLaws.{KeepsBlocks-fills}
 use Rattle.zst_objset.proofs.FreeLaws.{freed_puts, Puts-holes, SetHolds-holes, with_holes}
-use Rattle.std.proofs.Common.{refl}
+use Rattle.std.proofs.Common.{inl, refl}
+use Rattle.zst_objset.proofs.TreesWithin.{holes_stand}
 use Rattle.zst_objset.proofs.DamageLaws.{changed_within, node_told, tall_told}
 use Rattle.zst_objset.proofs.SetChangeLaws.{works_told}
 use Rattle.zst_block.proofs.IoCallLemmas.{Looks-none, Works-looks}
@@ -18,6 +19,7 @@ pub returns-then-first-below-clause-makes : goal.returns-then-first-below-clause
 returns-then-first-below-clause-makes g c = record {
   damaged = λ honest. tt;
   within = λ honest sector stated found damaged. damaged;
+  stands = λ honest dnode stands. inl stands;
   works = Works-looks (Looks-none _);
 }
 
@@ -25,6 +27,7 @@ pub returns-then-set-gt7-clause-makes : goal.returns-then-set-gt7-clause-makes
 returns-then-set-gt7-clause-makes g c = record {
   damaged = λ honest. tall_told _ _ c.args.set _ c.of_layout.ensures (omega (arith, c.if-set-gt7.true));
   within = λ honest. tt;
+  stands = λ honest. tt;
   works = works_told _ _ c.of_layout.ensures;
 }
 
@@ -34,6 +37,9 @@ returns-in_err-punch-clause-makes g c = record {
       let p = err_from_is_err_and c.from_residual.result c.from_residual.ensures.1 in
       rw (p.1, p.2) (node_told _ _ c.args.set _ (c.in_err-punch.ensures.changes.damaged honest));
   within = λ honest.
+      let p = err_from_is_err_and c.from_residual.result c.from_residual.ensures.1 in
+      rw p.1 tt;
+  stands = λ honest.
       let p = err_from_is_err_and c.from_residual.result c.from_residual.ensures.1 in
       rw p.1 tt;
   works =
@@ -47,6 +53,9 @@ returns-clause-makes g c = record {
   within = λ honest.
       let punched = c.in_ok-punch.ensures.changes in
       rw c.set_over.ensures.made (changed_within _ _ _ _ punched.works.fills c.args.set (record { tree = c.punch.new.self }) (hole_of c.args.number) punched.levels (λ sector stated found damaged. damaged.some refl) (punched.within honest));
+  stands = λ honest.
+      let punched = c.in_ok-punch.ensures.changes in
+      rw c.set_over.ensures.made (holes_stand _ _ _ _ punched.works.fills c.args.set (record { tree = c.punch.new.self }) (hole_of c.args.number) refl (punched.within honest));
   works = c.in_ok-punch.ensures.changes.works;
 }
 

@@ -42,6 +42,15 @@ pub returns-in-Err-clause-tight : goal.returns-in-Err-clause-tight
 returns-in-Err-clause-tight g c = λ state honest tight dated.
     stops _ _ c.in-Err.fault (objects_freed_is c.args.number c.args.first c.args.count state (omega arith)) (c.in-Err.ensures.frees state honest tight.holds)
 
+pub returns-then-saturating_add-gt-NUMBER_BOUND-clause-trees : goal.returns-then-saturating_add-gt-NUMBER_BOUND-clause-trees
+returns-then-saturating_add-gt-NUMBER_BOUND-clause-trees g c = λ honest. tt
+
+pub returns-in-Ok-clause-trees : goal.returns-in-Ok-clause-trees
+returns-in-Ok-clause-trees g c = c.in-Ok.ensures.trees
+
+pub returns-in-Err-clause-trees : goal.returns-in-Err-clause-trees
+returns-in-Err-clause-trees g c = λ honest. tt
+
 pub returns-then-saturating_add-gt-NUMBER_BOUND-clause-levels : goal.returns-then-saturating_add-gt-NUMBER_BOUND-clause-levels
 returns-then-saturating_add-gt-NUMBER_BOUND-clause-levels g c = λ fits. fits
 

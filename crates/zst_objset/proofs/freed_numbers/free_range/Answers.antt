@@ -8,6 +8,7 @@ use Rattle.zst_objset.specs.Sets.{SetHolds}
 use Rattle.zst_objset.proofs.FreeLaws.{freed-parts}
 use Rattle.zst_objset.proofs.DamageLaws.{fault_within, result_within, set_within}
 use Rattle.zst_objset.proofs.TightLaws.{freed_dated}
+use Rattle.zst_objset.proofs.TreesWithin.{result_freed, result_then, trees_freed, trees_then}
 use Rattle.std.specs.Prelude.{IfOk}
 use Rattle.zst_objset.specs.TightSets.{SetIsTight}
 use Rattle.zst_objset.proofs.freed_numbers.free_range.Goals as goal
@@ -83,6 +84,34 @@ returns-then-last-whole-clause-tight g c = c.free_in_leaf.ensures.tight
 
 pub returns-then-last-whole-clause-damaged : goal.returns-then-last-whole-clause-damaged
 returns-then-last-whole-clause-damaged g c = c.free_in_leaf.ensures.makes.damaged
+
+pub returns-then-last-whole-clause-trees : goal.returns-then-last-whole-clause-trees
+returns-then-last-whole-clause-trees g c = λ honest.
+    let makes = c.free_in_leaf.ensures.makes in
+    result_freed _ _ _ _ makes.works.fills c.args.set c.free_in_leaf.result (makes.within honest) (makes.stands honest)
+
+pub returns-in_err-begun-clause-trees : goal.returns-in_err-begun-clause-trees
+returns-in_err-begun-clause-trees g c = λ honest.
+    let p = err_from_is_err_and c.from_residual.result c.from_residual.ensures.1 in
+    rw p.1 tt
+
+pub returns-in_err-made-clause-trees : goal.returns-in_err-made-clause-trees
+returns-in_err-made-clause-trees g c = λ honest.
+    let p = err_from_is_err_and c.from_residual-in_err-made.result c.from_residual-in_err-made.ensures.1 in
+    rw p.1 tt
+
+pub returns-clause-trees : goal.returns-clause-trees
+returns-clause-trees g c = λ honest.
+    let begun = c.in_ok-begun.ensures.makes in
+    let made = c.in_ok-made.ensures.makes in
+    let last = c.free_in_leaf-3.ensures.makes in
+    let was_made = last.works.fills.honest honest in
+    let was_begun = made.works.fills.honest was_made in
+    let first = trees_freed _ _ _ _ begun.works.fills c.args.set c.in_ok-begun.begun (begun.within was_begun) (begun.stands was_begun) in
+    let second = trees_freed _ _ _ _ made.works.fills c.in_ok-begun.begun c.in_ok-made.made (made.within was_made) (made.stands was_made) in
+    let filled = (Works-then begun.works made.works).fills in
+    result_then _ _ _ c.args.set _ c.in_ok-made.made _ filled.size (trees_then _ _ _ c.args.set _ c.in_ok-begun.begun _ c.in_ok-made.made begun.works.fills.size first second) c.free_in_leaf-3.result
+    (result_freed _ _ _ _ last.works.fills c.in_ok-made.made c.free_in_leaf-3.result (last.within honest) (last.stands honest))
 
 pub returns-then-last-whole-clause-levels : goal.returns-then-last-whole-clause-levels
 returns-then-last-whole-clause-levels g c = c.free_in_leaf.ensures.levels

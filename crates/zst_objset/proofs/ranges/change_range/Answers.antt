@@ -17,7 +17,9 @@ use Rattle.zst_model.specs.declared.refusals.faults.Quantity.TheVariants as quan
 use Rattle.std.proofs.Common.{refl}
 use Rattle.zst_objset.proofs.LimitLaws.{if_no_limit, no_limit}
 use Rattle.zst_objset.proofs.TightLaws.{tight_grows}
+use Rattle.zst_tree.proofs.LaterDamage.{fills_looks}
 use Rattle.zst_objset.proofs.SetChangeLaws.{refused}
+use Rattle.zst_objset.proofs.TreesWithin.{sums_before, trees_changed}
 use Rattle.zst_objset.proofs.ranges.change_range.Goals as goal
 
 pub returns-in_err-dnode : goal.returns-in_err-dnode
@@ -30,6 +32,9 @@ returns-in_err-dnode g c = record {
       (λ honest.
       object_told _ _ _ c.args.set.now {T = Unit {0}} (Err _) (set_spared _ _ _ c.args.set.now Dnode (Unit {0}) _ (c.in_err-dnode.ensures.damaged honest)))
       (Works-looks c.in_err-dnode.ensures.looks.looks));
+  trees = λ honest.
+      let p = err_from_is_err_and c.from_residual.result c.from_residual.ensures.1 in
+      rw p.1 tt;
 }
 
 pub returns-in_err-check_change : goal.returns-in_err-check_change
@@ -40,6 +45,9 @@ returns-in_err-check_change g c = record {
       let there = c.in_ok-dnode.ensures.found state honest holds in
       change_refused c.args.number c.args.object (c.args.first + c.args.count) (change_of c.args.change c.args.first c.args.count (state.state c.args.object)) state _ (change_fails _ c.args.number c.args.object c.args.first c.args.count state c.in_ok-dnode.dnode holds.lawful there c.args.change _ (sym c.in_err-check_change.ensures)))
       tt tt (λ honest. tt) (Works-looks c.in_ok-dnode.ensures.looks.looks));
+  trees = λ honest.
+      let p = err_from_is_err_and c.from_residual-in_err-check_change.result c.from_residual-in_err-check_change.ensures.1 in
+      rw p.1 tt;
 }
 
 pub returns-in_err-check_range : goal.returns-in_err-check_range
@@ -52,6 +60,9 @@ returns-in_err-check_range g c = record {
       let is = change_is _ c.args.number c.args.object c.args.first c.args.count state c.in_ok-dnode.dnode holds.lawful there c.args.change (sym c.in_ok-check_change.ensures) in
       past_indices (c.args.first + c.args.count) _ is.0 past.1 is.1)
       (refl, refl, past.1) tt (λ honest. tt) (Works-looks c.in_ok-dnode.ensures.looks.looks));
+  trees = λ honest.
+      let p = err_from_is_err_and c.from_residual-in_err-check_range.result c.from_residual-in_err-check_range.ensures.1 in
+      rw p.1 tt;
 }
 
 pub returns-in_err-made : goal.returns-in_err-made
@@ -71,6 +82,9 @@ returns-in_err-made g c = record {
       (told_before (λ space seen. IsRightNode c.args.change (SparesTaken space seen)) c.in_ok-dnode.dnode.levels c.in_ok-dnode.dnode.root c.in_ok-dnode.ensures.looks.looks _
       (c.in_err-made.ensures.damaged honest)))
       (Works-after c.in_ok-dnode.ensures.looks.looks (Works-more (omega arith) c.in_err-made.ensures.works)));
+  trees = λ honest.
+      let p = err_from_is_err_and c.from_residual-in_err-made.result c.from_residual-in_err-made.ensures.1 in
+      rw p.1 tt;
 }
 
 pub returns : goal.returns
@@ -109,6 +123,15 @@ returns g c = record {
         (made.tight c.args.object state was_made number tight.holds.lawful there dated was));
     levels = c.put_dnode.ensures.puts.levels;
   };
+  trees = λ honest.
+      let puts = c.put_dnode.ensures.puts in
+      let made = c.in_ok-made.ensures in
+      let looked = c.in_ok-dnode.ensures.looks.looks in
+      let was_made = puts.keeps.works.fills.honest honest in
+      trees_changed _ _ _ _ _ _ (Works-after looked made.works).fills puts.keeps.works.fills c.args.set.now c.put_dnode.new.set c.put_dnode.result
+      c.in_ok-dnode.dnode c.in_ok-made.made c.in_ok-made.made.levels c.in_ok-made.made.root refl refl (c.in_ok-dnode.ensures.stands (made.works.fills.honest was_made))
+      (sums_before _ _ _ _ (fills_looks looked) c.in_ok-dnode.dnode.levels c.in_ok-dnode.dnode.root _ c.in_ok-made.made.levels c.in_ok-made.made.root (made.trees was_made))
+      (puts.within honest) (puts.stands honest);
 }
 
 pub object_there-requires : goal.object_there-requires

@@ -28,6 +28,8 @@ use Rattle.std.proofs.lemmas.Bool.{cases_lt}
 use Rattle.zst_objset.specs.TightSets.{IsTightDnode}
 use Rattle.zst_objset.proofs.TightLaws.{range_tight}
 use Rattle.zst_objset.proofs.TreeFits.{with_tree}
+use Rattle.zst_tree.proofs.LaterDamage.{fills_looks}
+use Rattle.zst_objset.proofs.TreesWithin.{sums_before}
 use Rattle.zst_objset.proofs.ranges.punched.Goals as goal
 
 pub returns-in_err-end-clause-made : goal.returns-in_err-end-clause-made
@@ -97,6 +99,21 @@ returns-clause-tight g c = λ k state honest number lawful there dated tight.
     (range_tight c.args.number k (free_of c.args.first c.args.count (state.state k)) state c.args.dnode (with_tree c.args.dnode c.punch.new.self c.in_ok-end.end) dated tight c.args.first c.args.count refl fills.dates c.requires.range
     (λ bound early some. c.in_ok-punch.ensures.dated bound there.map honest tree (rw c.tree_of-tree.ensures early)
     (λ any. ⊎_elim some (λ none. absurd (omega (arith, any, c.count_in_tree.ensures.none (omega (arith, none))))) (cases_lt 0 c.args.count))))
+
+pub returns-clause-trees : goal.returns-clause-trees
+returns-clause-trees g c = λ honest.
+    let within = rw c.tree_of-tree.ensures at (c.in_ok-punch.ensures.changes.within honest) in
+    rw c.with_tree.ensures.made (sums_before _ _ _ _ (fills_looks c.in_ok-end.ensures.looks) c.args.dnode.levels c.args.dnode.root _ c.punch.new.self.levels c.punch.new.self.root within.sums)
+
+pub returns-in_err-end-clause-trees : goal.returns-in_err-end-clause-trees
+returns-in_err-end-clause-trees g c = λ honest.
+    let p = err_from_is_err_and c.from_residual.result c.from_residual.ensures.1 in
+    rw p.1 tt
+
+pub returns-in_err-punch-clause-trees : goal.returns-in_err-punch-clause-trees
+returns-in_err-punch-clause-trees g c = λ honest.
+    let p = err_from_is_err_and c.from_residual-in_err-punch.result c.from_residual-in_err-punch.ensures.1 in
+    rw p.1 tt
 
 pub returns-clause-works : goal.returns-clause-works
 returns-clause-works g c = Works-after c.in_ok-end.ensures.looks c.in_ok-punch.ensures.changes.works

@@ -18,6 +18,9 @@ returns-in-Punch-clause-damaged g c = rw c.in-Punch.is c.punched.ensures.damaged
 pub returns-in-Punch-clause-fits : goal.returns-in-Punch-clause-fits
 returns-in-Punch-clause-fits g c = c.punched.ensures.fits
 
+pub returns-in-Punch-clause-trees : goal.returns-in-Punch-clause-trees
+returns-in-Punch-clause-trees g c = c.punched.ensures.trees
+
 pub returns-in-Punch-clause-works : goal.returns-in-Punch-clause-works
 returns-in-Punch-clause-works g c = c.punched.ensures.works
 
@@ -38,6 +41,9 @@ returns-in-Redact-clause-damaged g c = rw c.in-Redact.is c.redacted.ensures.dama
 
 pub returns-in-Redact-clause-fits : goal.returns-in-Redact-clause-fits
 returns-in-Redact-clause-fits g c = c.redacted.ensures.fits
+
+pub returns-in-Redact-clause-trees : goal.returns-in-Redact-clause-trees
+returns-in-Redact-clause-trees g c = c.redacted.ensures.trees
 
 pub returns-in-Redact-clause-works : goal.returns-in-Redact-clause-works
 returns-in-Redact-clause-works g c = c.redacted.ensures.works

@@ -64,3 +64,13 @@ returns-clause-tight g c = λ k state honest number lawful there dated tight.
     subst (IsTightDnode c.args.number k (redact_of c.args.first c.args.count (state.state k)) state) (sym c.with_tree.ensures.made)
     (range_tight c.args.number k (redact_of c.args.first c.args.count (state.state k)) state c.args.dnode (with_tree c.args.dnode c.redact.new.self c.end_redacted.result) dated tight c.args.first c.args.count refl fills.dates c.requires.range
     (λ bound early some. c.in_ok-redact.ensures.dated bound there.map honest tree (rw c.tree_of-tree.ensures early) some))
+
+pub returns-clause-trees : goal.returns-clause-trees
+returns-clause-trees g c = λ honest.
+    let within = rw c.tree_of-tree.ensures at (c.in_ok-redact.ensures.changes.within honest) in
+    rw c.with_tree.ensures.made within.sums
+
+pub returns-in_err-redact-clause-trees : goal.returns-in_err-redact-clause-trees
+returns-in_err-redact-clause-trees g c = λ honest.
+    let p = err_from_is_err_and c.from_residual.result c.from_residual.ensures.1 in
+    rw p.1 tt

@@ -6,7 +6,9 @@ use Rattle.zst_tree.proofs.IndicesLaws.{TreeIs-grows}
 use Rattle.zst_objset.proofs.LeafLaws.{keeps_on}
 use Rattle.zst_objset.proofs.SetPuts.{InLeaf, IsPut, mended, put_leaf, Puts-one, with_one}
 use Rattle.zst_objset.proofs.DamageLaws.{IfDamage-weaker, LacksSlot-put, fault_spared, lacking_spared, node_after}
-use Rattle.std.proofs.Common.{◌∙◌}
+use Rattle.std.proofs.Common.{◌≡◌, ◌∙◌}
+use Rattle.zst_dnode.specs.declared.slot.Slot.TheVariants.{There}
+use Rattle.zst_objset.proofs.TreesWithin.{put_stands, slots_put}
 use Rattle.zst_objset.proofs.DamageLaws.{changed_within, leaf_whole, set_now, set_within}
 use Rattle.zst_objset.proofs.TightLaws.{put_leaf_tight}
 use Rattle.zst_objset.proofs.slot_puts.put_in_leaf.Goals as goal
@@ -21,6 +23,9 @@ returns-in_err-was-clause-makes g c = record {
       let p = err_from_is_err_and c.from_residual.result c.from_residual.ensures.1 in
       rw (p.1, p.2) (fault_spared _ _ _ c.args.set _ (c.in_err-was.ensures.damaged honest));
   within = λ honest.
+      let p = err_from_is_err_and c.from_residual.result c.from_residual.ensures.1 in
+      rw p.1 tt;
+  stands = λ honest.
       let p = err_from_is_err_and c.from_residual.result c.from_residual.ensures.1 in
       rw p.1 tt;
   works =
@@ -42,6 +47,9 @@ returns-in_err-ptr-clause-makes g c = record {
   within = λ honest.
       let p = err_from_is_err_and c.from_residual-in_err-ptr.result c.from_residual-in_err-ptr.ensures.1 in
       rw p.1 tt;
+  stands = λ honest.
+      let p = err_from_is_err_and c.from_residual-in_err-ptr.result c.from_residual-in_err-ptr.ensures.1 in
+      rw p.1 tt;
   works =
       let p = err_from_is_err_and c.from_residual-in_err-ptr.result c.from_residual-in_err-ptr.ensures.1 in
       rw (p.1, p.2) (Works-after c.in_ok-was.ensures.looks.looks (Works-more (omega arith) c.in_err-ptr.ensures.works));
@@ -54,6 +62,9 @@ returns-in_err-set-clause-makes g c = record {
       let filled = (Works-after c.in_ok-was.ensures.looks.looks c.in_ok-ptr.ensures.works).fills in
       rw (p.1, p.2) (node_after _ _ _ _ filled c.args.set _ (c.in_err-set.ensures.changes.damaged honest));
   within = λ honest.
+      let p = err_from_is_err_and c.from_residual-in_err-set.result c.from_residual-in_err-set.ensures.1 in
+      rw p.1 tt;
+  stands = λ honest.
       let p = err_from_is_err_and c.from_residual-in_err-set.result c.from_residual-in_err-set.ensures.1 in
       rw p.1 tt;
   works =
@@ -71,6 +82,16 @@ returns-clause-makes g c = record {
       let whole = leaf_whole _ _ _ c.in_ok-ptr.ptr _ (g.met.D.Disk.seen_size c.set.new.io.disk.now ∙ set.works.fills.size) (KeepsBlocks-fills _ _ _ _ set.works.fills _ _ saved.wrote) (c.put_slots.ensures.long (omega arith)) saved.some in
       rw c.set_over.ensures.made (set_within _ _ _ c.args.set _ c.args.set _ _ filled.size (set_now _ _ _ _ filled c.args.set)
       (changed_within _ _ _ _ set.works.fills c.args.set (record { tree = c.set.new.self }) c.in_ok-ptr.ptr set.levels whole (set.within honest)));
+  stands = λ honest.
+      let found = c.in_ok-was.ensures in
+      let saved = c.in_ok-ptr.ensures in
+      let set = c.in_ok-set.ensures.changes in
+      let read = saved.works.fills.honest (set.works.fills.honest honest) in
+      let all = c.put_slots.ensures in
+      let filled = (Works-after found.looks.looks saved.works).fills in
+      rw c.set_over.ensures.made (put_stands _ _ _ _ _ _ filled set.works.fills c.args.set (record { tree = c.set.new.self }) c.in_ok-ptr.ptr c.put_slots.new.node (λ dnode. c.args.slot.now ≡ There dnode)
+      (KeepsBlocks-fills _ _ _ _ set.works.fills _ _ saved.wrote) (set.within honest)
+      (slots_put _ c.args.set c.in_ok-was.was' c.find_slots.new.io.node c.put_slots.new.node c.args.slot.now _ _ c.requires.slot (found.hangs read) (found.loaded read) all.put all.kept));
   works =
       Works-after c.in_ok-was.ensures.looks.looks (Works-then c.in_ok-ptr.ensures.works c.in_ok-set.ensures.changes.works);
 }

@@ -1,7 +1,8 @@
 use Rattle.std.proofs.Common.{refl, ◌≡◌, length, sym, ◌∙◌, subst}
-use Rattle.std.specs.Prelude.{Result}
+use Rattle.std.specs.Prelude.{OnErr, Result}
 use Rattle.std.proofs.lemmas.Result.{IfOk-weaker}
-use Rattle.zst_block.specs.Blocks.{Has, KeepsBlocks}
+use Rattle.zst_block.specs.Blocks.{Has, KeepsBlocks, SparesTaken}
+use Rattle.zst_block.proofs.BlocksLaws.{SparesTaken-same}
 use Rattle.zst_block.specs.IoStates.{io_of}
 use Rattle.zst_model.specs.pools.KeptPool.{kept_of}
 use Rattle.zst_model.proofs.Results.{err_is}
@@ -15,7 +16,7 @@ use Rattle.zst_pool.specs.Partials.{next_commit}
 use Rattle.zst_pool.specs.declared.fault.PoolFault.{PoolFault}
 use Rattle.zst_pool.specs.declared.fault.PoolFault.TheVariants.{Plan}
 use Rattle.zst_pool.proofs.CallLemmas.{call_did, call_fell, number_after}
-use Rattle.zst_pool.proofs.CommitAnswers.{answers_ends, answers_follows, answers_full, answers_known, answers_ok, ends_idle}
+use Rattle.zst_pool.proofs.CommitAnswers.{answers_ends, answers_follows, answers_full, answers_known, answers_ok, answers_spares, ends_idle}
 use Rattle.zst_pool.proofs.NamedPools.{rows_named}
 use Rattle.zst_pool.proofs.PoolsAtRest.{few_guids, kept_is_next, next_lawful, rests_next, rests_unless, way_runs}
 use Rattle.zst_pool.proofs.TakenSectors.{taken_none}
@@ -80,6 +81,15 @@ returns-clause-blocks g c =
 pub returns-clause-next : goal.returns-clause-next
 returns-clause-next g c =
     answers_follows c.commit_dir.result c.of_committed.result c.of_committed.ensures c.args.kept.now c.args.dir (io_of c.args.io.now) (io_of c.commit_dir.new.io) c.in_ok-check_limits.ensures.below c.commit_dir.ensures.made
+
+pub returns-clause-spares : goal.returns-clause-spares
+returns-clause-spares g c = answers_spares c.commit_dir.result c.of_committed.result c.of_committed.ensures c.args.kept.now.body (io_of c.args.io.now) (io_of c.commit_dir.new.io) c.commit_dir.ensures.refused
+
+pub returns-in_err-check_limits-clause-spares : goal.returns-in_err-check_limits-clause-spares
+returns-in_err-check_limits-clause-spares g c = λ apart.
+    let seen = (g.D.Disk.state c.args.io.now.disk.now).seen in
+    let space = c.args.io.now.space in
+    subst (λ (r : Result PoolState PoolFault). OnErr r (SparesTaken space seen seen)) (sym (err_is c.from_residual.result (Plan c.in_err-check_limits.field-0.0) c.from_residual.ensures.1)) (SparesTaken-same space seen)
 
 pub returns-clause-commits : goal.returns-clause-commits
 returns-clause-commits g c =

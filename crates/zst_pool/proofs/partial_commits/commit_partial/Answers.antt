@@ -42,4 +42,6 @@ returns-clause-puts g c =
           call_full c.args.io.now.space c.commit_next.new.io.space _ c.args.kept.now.dir need largest (omega (arith, c.in_ok-dir.ensures.grows)) c.commit_next.ensures.takes (c.commit_next.ensures.full need largest is);
       grows = call_grows c.args.io.now.space c.args.kept.now c.in_ok-dir.dir c.commit_next.result (omega (arith, c.in_ok-dir.ensures.grows)) c.commit_next.ensures.next;
       blocks = c.commit_next.ensures.blocks;
+      spares = c.commit_next.ensures.spares;
+      size = c.commit_next.ensures.commits.disk.size;
     }

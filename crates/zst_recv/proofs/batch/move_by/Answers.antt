@@ -90,3 +90,9 @@ returns-in-Err-clause-spends g c =
 pub returns-in-Err-clause-unplanned : goal.returns-in-Err-clause-unplanned
 returns-in-Err-clause-unplanned g c = λ fault is.
     record_unplanned (covered_of c.args.covered.now).index c.in-Err.fault fault (sym c.of_record.ensures ∙ err_told (Unit {0}) c.of_record.result _ is)
+
+pub returns-in-Ok-clause-within : goal.returns-in-Ok-clause-within
+returns-in-Ok-clause-within g c = c.in-Ok.ensures.changed.within
+
+pub returns-in-Err-clause-within : goal.returns-in-Err-clause-within
+returns-in-Err-clause-within g c = λ honest. tt

@@ -144,23 +144,23 @@ returns-in-Waits-clause-commits g c = commits_none c.args.pool.now c.requires.op
 pub returns-in_ok-put_partial-in-Lives-clause-commits : goal.returns-in_ok-put_partial-in-Lives-clause-commits
 returns-in_ok-put_partial-in-Lives-clause-commits g c =
     let e = c.in_ok-put_partial-in-Lives.ensures in
-    commits_made c.args.pool.now c.put_partial.new.self _ c.requires.open e.settles e.puts.grows
+    commits_made c.args.pool.now c.put_partial.new.self _ c.requires.open e.settles e.puts.grows e.puts.blocks e.puts.size
 
 pub returns-in_ok-finish_partial-in-Ends-clause-commits : goal.returns-in_ok-finish_partial-in-Ends-clause-commits
 returns-in_ok-finish_partial-in-Ends-clause-commits g c =
     let e = c.in_ok-finish_partial-in-Ends.ensures in
-    commits_made c.args.pool.now c.finish_partial.new.self _ c.requires.open e.settles e.puts.grows
+    commits_made c.args.pool.now c.finish_partial.new.self _ c.requires.open e.settles e.puts.grows e.puts.blocks e.puts.size
 
 pub returns-in_err-put_partial-in-Lives-clause-commits : goal.returns-in_err-put_partial-in-Lives-clause-commits
 returns-in_err-put_partial-in-Lives-clause-commits g c =
     let e = c.in_err-put_partial-in-Lives.ensures in
     let fault = c.in_err-put_partial-in-Lives.field-0.0 in
     subst (λ (r : Result (Unit {0}) PoolFault). CommitsBatch c.args.pool.now c.put_partial.new.self r) (sym (err_is c.from_residual.result fault c.from_residual.ensures.1))
-    (commits_refused c.args.pool.now c.put_partial.new.self fault c.requires.open e.settles (e.puts.known c.requires.open) e.puts.full)
+    (commits_refused c.args.pool.now c.put_partial.new.self fault c.requires.open e.settles (e.puts.known c.requires.open) e.puts.full e.puts.spares e.puts.size)
 
 pub returns-in_err-finish_partial-in-Ends-clause-commits : goal.returns-in_err-finish_partial-in-Ends-clause-commits
 returns-in_err-finish_partial-in-Ends-clause-commits g c =
     let e = c.in_err-finish_partial-in-Ends.ensures in
     let fault = c.in_err-finish_partial-in-Ends.field-0.0 in
     subst (λ (r : Result (Unit {0}) PoolFault). CommitsBatch c.args.pool.now c.finish_partial.new.self r) (sym (err_is c.from_residual-in_err-finish_partial-in-Ends.result fault c.from_residual-in_err-finish_partial-in-Ends.ensures.1))
-    (commits_refused c.args.pool.now c.finish_partial.new.self fault c.requires.open e.settles (e.puts.known c.requires.open) e.puts.full)
+    (commits_refused c.args.pool.now c.finish_partial.new.self fault c.requires.open e.settles (e.puts.known c.requires.open) e.puts.full e.puts.spares e.puts.size)

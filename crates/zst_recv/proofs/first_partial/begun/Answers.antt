@@ -16,3 +16,6 @@ returns-clause-begun c = λ bound image space running component found runs alike
       };
       objects = c.objects_of.ensures.held bound image space running found.snapshot runs alike;
     }
+
+pub returns-clause-base : goal.returns-clause-base
+returns-clause-base c = c.objects_of.ensures.base

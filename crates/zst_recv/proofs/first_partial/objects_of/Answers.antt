@@ -1,11 +1,12 @@
-use Rattle.std.proofs.Common.{ℕ, Option, List, ap, ◌∙◌, subst, get_or}
+use Rattle.std.proofs.Common.{◌<◌, inr, length, IfSome, ℕ, Option, List, ap, ◌∙◌, subst, get_or}
 use Rattle.std.specs.Option.{option_map_or}
 use Rattle.zst_block.specs.Blocks.{Has}
 use Rattle.zst_dir.specs.declared.rows.Snapshot.{Snapshot}
 use Rattle.zst_model.specs.pools.Pool.{untouched}
 use Rattle.zst_image.specs.Reads.{SetIs}
 use Rattle.zst_plan.specs.Places.{FindAlike, StandsAt}
-use Rattle.zst_recv.proofs.FirstPartials.{none_held, objects_held}
+use Rattle.zst_recv.specs.Damage.{IsBase}
+use Rattle.zst_recv.proofs.FirstPartials.{base_there, none_held, objects_held}
 use Rattle.zst_recv.proofs.first_partial.objects_of.Goals as goal
 
 pub returns-in-Some-clause-held : goal.returns-in-Some-clause-held
@@ -21,3 +22,14 @@ pub returns-in-None-clause-held : goal.returns-in-None-clause-held
 returns-in-None-clause-held c = λ bound image space running found runs alike.
     let rows = c.args.dir.now in
     none_held bound image space rows running runs c.empty.result found c.empty.ensures (subst (λ (b : Option ℕ). FindAlike (StandsAt rows.snapshots running.snapshots) b found) c.in-None.is alike)
+
+pub returns-in-Some-clause-base : goal.returns-in-Some-clause-base
+returns-in-Some-clause-base c =
+    let rows = c.args.dir.now in
+    let row = c.index-snapshots-place.result in
+    let below = subst (λ (b : Option ℕ). IfSome b (λ place. place < length rows.snapshots)) c.in-Some.is c.requires in
+    subst (λ (r : Snapshot). IsBase rows r.objects) c.index-snapshots-place.is
+    (base_there rows c.in-Some.place row below (c.index-snapshots-place.is ∙ ap (λ (xs : List Snapshot). get_or xs c.in-Some.place row) c.snapshots.ensures))
+
+pub returns-in-None-clause-base : goal.returns-in-None-clause-base
+returns-in-None-clause-base c = inr c.empty.ensures

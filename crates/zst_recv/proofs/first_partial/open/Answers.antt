@@ -1,4 +1,5 @@
-use Rattle.std.proofs.Common.{List, sym, ap, ◌∙◌, subst, get_or}
+use Rattle.std.proofs.lemmas.Result.{err_from_is_err_and}
+use Rattle.std.proofs.Common.{inr, List, sym, ap, ◌∙◌, subst, get_or}
 use Rattle.zst_block.specs.Blocks.{Has}
 use Rattle.zst_dir.specs.declared.rows.Partial.{Partial}
 use Rattle.zst_plan.specs.Receipts.{IsNewPlan, IsPlainPlan, IsRecvPlanOf}
@@ -7,10 +8,12 @@ use Rattle.zst_plan.specs.declared.receive.RecvPlan as plans
 use Rattle.zst_plan.proofs.AlikeAnswers.{ok_alike, err_alike, refuses, answers}
 use Rattle.zst_pool.proofs.NamedPools.{rows_named}
 use Rattle.zst_image.specs.Reads.{PartialIs}
+use Rattle.zst_recv.specs.Damage.{IsBegun, StaysWith}
 use Rattle.zst_recv.specs.ReceiveSteps.{begun, opened}
 use Rattle.zst_recv.specs.Stages.{CanPutFor, IsBatch, StageFits}
 use Rattle.zst_recv.specs.declared.batch.Batch as batches
-use Rattle.zst_recv.proofs.FirstPartials.{begun_is, partial_is, resumed_is, resumes_fits, batch_is}
+use Rattle.zst_recv.specs.declared.stage.Stage.TheVariants as stages
+use Rattle.zst_recv.proofs.FirstPartials.{begun_is, partial_is, resumed_is, resumed_set, resumes_fits, batch_is}
 use Rattle.zst_recv.proofs.first_partial.open.Goals as goal
 
 pub returns-in_err-place-clause-exact : goal.returns-in_err-place-clause-exact
@@ -81,6 +84,24 @@ pub returns-in-Begins-clause-planned : goal.returns-in-Begins-clause-planned
 returns-in-Begins-clause-planned c = λ running named tells.
     let plan = ok_alike (IsRecvPlanOf c.args.dir.now running c.args.ask.now) c.in_ok-place.field-0 (recv_plan c.args.ask.now c.args.header.now running) (c.in_ok-place.ensures.exact running named tells) in
     answers (λ (batch : batches.Batch) (p : RecvPlan). Unit {0}) c.opened-in-Begins.result plan.0 (recv_plan c.args.ask.now c.args.header.now running) plan.1 tt
+
+pub returns-in-Resumes-clause-begins : goal.returns-in-Resumes-clause-begins
+returns-in-Resumes-clause-begins c =
+    let rows = c.args.dir.now in
+    let target = c.args.ask.now.target in
+    let place = c.in-Resumes.place in
+    let row = c.index-partials-place.result in
+    subst (StaysWith rows target stages.Waits) (sym c.opened.ensures.stage)
+    (subst (λ (r : Partial). IsBegun rows target r.objects) (sym c.duplicate.ensures)
+    (resumed_set rows target place row (subst (IsNewPlan rows target) c.in-Resumes.is c.in_ok-place.ensures.new) (c.index-partials-place.is ∙ ap (λ (xs : List Partial). get_or xs place row) c.partials.ensures)))
+
+pub returns-in-Begins-clause-begins : goal.returns-in-Begins-clause-begins
+returns-in-Begins-clause-begins c = subst (StaysWith c.args.dir.now c.args.ask.now.target stages.Waits) (sym c.opened-in-Begins.ensures.stage) (inr c.begun.ensures.base)
+
+pub returns-in_err-place-clause-begins : goal.returns-in_err-place-clause-begins
+returns-in_err-place-clause-begins c =
+    let p = err_from_is_err_and c.from_residual.result c.from_residual.ensures.1 in
+    rw p.1 tt
 
 pub begun-requires-clause-header : goal.begun-requires-clause-header
 begun-requires-clause-header c = c.requires.header.kept (subst (IsPlainPlan c.args.header.now) c.in-Begins.is c.in_ok-place.ensures.plain)

@@ -1,5 +1,6 @@
 use Rattle.std.proofs.Common.{◌≡◌, ◌+◌, ℕ, Bool, true, false, List, [], ◌∷◌, ◌++◌, refl, sym, ap, ◌∙◌, arith, Result, Err, subst}
 use Rattle.std.proofs.lemmas.Result.{err_from_is_err_and}
+use Rattle.zst_block.specs.Blocks.{SparesTaken}
 use Rattle.zst_block.specs.IoStates.{blocks_of}
 use Rattle.zst_record.specs.Heads.{Covered, covered_of}
 use Rattle.zst_stream.specs.Reading.{waiting, faulty, complete}
@@ -10,7 +11,7 @@ use Rattle.zst_recv.specs.declared.batch.Batch as batches
 use Rattle.zst_recv.specs.declared.stage.Stage as coded
 use Rattle.zst_recv.proofs.DrainLemmas.{Fills-none, Fills-then, drain_begins, drain_ends, drain_goes_on, drain_refused, goes_under, handed_within, is_read}
 use Rattle.zst_recv.specs.declared.fault.RecvFault.{RecvFault}
-use Rattle.zst_recv.proofs.DamageLemmas.{damaged_behind, damaged_first, err_told, found_stream, no_stream, record_known, told_stream}
+use Rattle.zst_recv.proofs.DamageLemmas.{err_told, found_stream, no_stream, record_known, told_stream}
 use Rattle.zst_recv.proofs.HandedRecords.{behind_more, over_behind, tells_on}
 use Rattle.zst_recv.proofs.CoveredEnds.{over_more}
 use Rattle.std.specs.Prelude.{None}
@@ -20,6 +21,7 @@ use Rattle.zst_reader.specs.declared.reader.Reader.{Reader}
 use Rattle.zst_recv.proofs.CostLemmas.{spends_idle, spent_more}
 use Rattle.zst_recv.proofs.PlanRefusals.{begins_first, covers_some, first_begins, handed_none, has_still, none_begins, none_handed, planned_back, planned_err, planned_ok}
 use Rattle.zst_plan.specs.RecvPlan.{recv_plan}
+use Rattle.zst_recv.proofs.SetOrigins.{comes_then, comes_with, damaged_then, stays_same}
 use Rattle.zst_recv.proofs.pieces.drain.Goals as goal
 
 pub records-init : goal.records-init
@@ -37,6 +39,11 @@ records-init g c =
       still = λ text handed stands waits none. waits;
       pushed = refl;
       fills = Fills-none _;
+      comes = λ honest.
+          let io = c.args.io.now in
+          let now = g.D.Disk.state io.disk.now in
+          let stage = c.args.batch.now.stage in
+          comes_with c.args.kept.now.dir c.args.ask.now.target (SparesTaken io.space now.seen) now.size stage stage (stays_same c.args.kept.now.dir c.args.ask.now.target stage);
       spent = λ text handed stands. ([], subst (StandsFor c.args.reader.now text) (sym (append-nil handed)) stands, spends_idle [] c.args.io.now.space None refl);
     }
 
@@ -92,6 +99,12 @@ records-preserved g c =
           absurd (covers_some _ text later.0 next (h.1 text later.0 later.1) none);
       pushed = h.0.pushed ∙ i.pushed;
       fills = Fills-then i.fills e.fills;
+      comes = λ honest.
+          let first = c.args.io.now in
+          let mid = c.records.io in
+          let last = c.take.new.io in
+          comes_then c.args.kept.now.dir c.args.ask.now.target (g.D.Disk.state first.disk.now) (g.D.Disk.state mid.disk.now) first.space mid.space i.fills.fills c.args.batch.now.stage c.records.batch.stage
+          (λ waits. ap (λ (b : batches.Batch). b.stage) (i.waits waits)) (i.comes (e.fills.fills.honest honest)) (SparesTaken last.space (g.D.Disk.state last.disk.now).seen) c.take.new.self.stage (e.comes honest);
       spent = λ text handed stands. spent_more c.records.reader _ text handed next c.args.io.now.space c.records.io.space c.take.new.io.space None (i.spent text handed stands) (h.1 text) e.spends;
     }
 
@@ -131,9 +144,16 @@ returns-in_err-take-in-Ok-Record g c =
         fills = rw (p.1, p.2) (Fills-then i.fills e.fills);
         known = rw (p.1, p.2) (record_known _ e.known);
         damaged = λ sector stated found honest is.
-            let mid = g.D.Disk.state c.records.io.disk.now in
-            damaged_behind rows ask.target sector stated found (g.D.Disk.state c.args.io.now.disk.now) mid c.args.io.now.space c.records.io.space i.fills.fills
-            (damaged_first rows ask.target sector stated found mid c.records.io.space (e.damaged sector stated found honest (was_told _ is)));
+            let first = c.args.io.now in
+            let mid = c.records.io in
+            damaged_then rows ask.target (g.D.Disk.state first.disk.now) (g.D.Disk.state mid.disk.now) first.space mid.space i.fills.fills c.args.batch.now.stage c.records.batch.stage
+            (λ waits. ap (λ (b : batches.Batch). b.stage) (i.waits waits)) (i.comes (e.fills.fills.honest honest)) sector stated found (e.damaged sector stated found honest (was_told _ is));
+        comes = λ honest.
+            let first = c.args.io.now in
+            let mid = c.records.io in
+            let last = c.take.new.io in
+            comes_then rows ask.target (g.D.Disk.state first.disk.now) (g.D.Disk.state mid.disk.now) first.space mid.space i.fills.fills c.args.batch.now.stage c.records.batch.stage
+            (λ waits. ap (λ (b : batches.Batch). b.stage) (i.waits waits)) (i.comes (e.fills.fills.honest honest)) (SparesTaken last.space (g.D.Disk.state last.disk.now).seen) c.take.new.self.stage (e.comes honest);
       };
       texts = λ text handed stands.
           let later = i.reads text handed stands in
@@ -189,7 +209,7 @@ returns-in-Ok-NeedMore g c =
           let d = i.drained tight start running plain text handed told way tells stands is in
           drain_ends c.args.ask.now running text handed plain _ _ (is_now tight running) (is_now tight running) d waiting (h.1 text (handed ++ d.records) d.stands) d.is;
       gathers = record { fits = λ fits. i.stage; idle = i.idle; waits = i.waits };
-      writes = record { fills = i.fills; known = tt; damaged = λ sector stated found honest is. absurd (cc is) };
+      writes = record { fills = i.fills; known = tt; damaged = λ sector stated found honest is. absurd (cc is); comes = i.comes };
       texts = λ text handed stands.
           let later = i.reads text handed stands in
           let hands = h.1 text later.0 later.1 in
@@ -232,7 +252,7 @@ returns-in-Ok-End g c =
           let d = i.drained tight start running plain text handed told way tells stands is in
           drain_ends c.args.ask.now running text handed plain _ _ (is_now tight running) (is_now tight running) d complete (h.1 text (handed ++ d.records) d.stands) d.is;
       gathers = record { fits = λ fits. i.stage; idle = i.idle; waits = i.waits };
-      writes = record { fills = i.fills; known = tt; damaged = λ sector stated found honest is. absurd (cc is) };
+      writes = record { fills = i.fills; known = tt; damaged = λ sector stated found honest is. absurd (cc is); comes = i.comes };
       texts = λ text handed stands.
           let later = i.reads text handed stands in
           let hands = h.1 text later.0 later.1 in
@@ -278,6 +298,7 @@ returns-in-Err g c =
         fills = i.fills;
         known = let later = i.reads r.text r.handed r.stands in found_stream r.text later.0 c.in-Err.fault (h.1 r.text later.0 later.1).whole (c.faults_are_found.ensures r.text);
         damaged = λ sector stated found honest is. absurd (cc is);
+        comes = i.comes;
       };
       texts = λ text handed stands.
           let later = i.reads text handed stands in

@@ -1,6 +1,6 @@
 use Rattle.std.proofs.Common.{◌≡◌, ◌+◌, ◌-◌, Bool, ◌^◌, List, ℕ, false, true, ◌++◌, []}
 use Rattle.std.specs.Prelude.{None}
-use Rattle.zst_block.specs.IoStates.{IsHonest, blocks_of, disk_of, io_of}
+use Rattle.zst_block.specs.IoStates.{IsHonest, IsSparedBy, blocks_of, disk_of, io_of}
 use Rattle.zst_image.specs.Reads.{bound_of}
 use Rattle.zst_model.specs.declared.refusals.plan_fault.PlanFault.{PlanFault}
 use Rattle.zst_model.specs.pools.Pool.{Pool}
@@ -9,6 +9,7 @@ use Rattle.zst_reader.specs.StandsFor.{StandsFor, handed_of, pushed_of}
 use Rattle.zst_record.specs.Heads.{Covered}
 use Rattle.zst_stream.specs.Reading.{complete, reading}
 use Rattle.zst_recv.specs.Costs.{Spends}
+use Rattle.zst_recv.specs.Damage.{ComesFrom}
 use Rattle.zst_recv.specs.Faults.{Fills}
 use Rattle.zst_recv.specs.Plans.{RefusesOne}
 use Rattle.zst_recv.specs.ReceiveSteps.{Batch}
@@ -34,6 +35,7 @@ invariant-records g l =
       still : (text : List ℕ) (handed : List Covered) → StandsFor l.fn.reader text handed → waits_at l.fn.batch.stage ≡ true → (reading text).covered ≡ [] → waits_at l.batch.stage ≡ true;
       pushed : pushed_of l.reader ≡ pushed_of l.fn.reader;
       fills : Fills (io_of l.fn.io) (io_of l.io) None;
+      comes : IsHonest l.io → ComesFrom l.kept.dir l.ask.target (IsSparedBy l.fn.io) (disk_of l.fn.io).size l.fn.batch.stage (IsSparedBy l.io) l.batch.stage;
       spent : (text : List ℕ) (handed : List Covered) → StandsFor l.fn.reader text handed → (records : List Covered) × StandsFor l.reader text (handed ++ records) × Spends records l.fn.io.space l.io.space None;
     }
 

@@ -1,6 +1,7 @@
 use Rattle.std.proofs.Common.{◌≡◌, ◌+◌, Bool, ◌<◌, ◌==◌, ◌^◌, false, true, [], ◌++◌, length, take, drop, refl, sym, ap, ◌∙◌, Ok, Err, List, ℕ, subst, append_assoc}
 use Rattle.std.proofs.lemmas.List.Elements.{All-from_get_or}
 use Rattle.std.proofs.lemmas.Result.{err_from_is_err_and}
+use Rattle.zst_block.specs.Blocks.{SparesTaken}
 use Rattle.zst_block.specs.IoStates.{blocks_of}
 use Rattle.std.proofs.lemmas.List.{append-nil}
 use Rattle.zst_reader.specs.StandsFor.{StandsFor, pushed_of, room_of, HandsOut}
@@ -14,7 +15,7 @@ use Rattle.zst_recv.proofs.PieceFronts.{all_told, left_bytes, less_left, limit_l
 use Rattle.zst_recv.specs.declared.fault.RecvFault.{RecvFault}
 use Rattle.zst_recv.specs.declared.fault.RecvFault.TheVariants as faults
 use Rattle.zst_pool.specs.declared.fault.PoolFault.TheVariants as pools
-use Rattle.zst_recv.proofs.DamageLemmas.{damaged_behind, err_told, faulty_still}
+use Rattle.zst_recv.proofs.DamageLemmas.{err_told, faulty_still}
 use Rattle.zst_recv.proofs.HandedRecords.{over_reads, tells_on}
 use Rattle.zst_recv.proofs.CoveredEnds.{complete_still, over_piece}
 use Rattle.std.specs.Prelude.{None}
@@ -22,6 +23,7 @@ use Rattle.zst_recv.proofs.CostLemmas.{spends_idle, spends_whole, spent_then}
 use Rattle.zst_recv.specs.Plans.{Begins, RefusesEach, RefusesOne}
 use Rattle.zst_recv.proofs.RecordOrder.{nothing_read}
 use Rattle.zst_recv.proofs.PlanRefusals.{by_covered, faulty_begins, front_none, front_refused, later_refused, none_begins, waits_live}
+use Rattle.zst_recv.proofs.SetOrigins.{comes_then, comes_with, damaged_then, stays_same}
 use Rattle.zst_recv.proofs.pieces.read.Goals as goal
 
 -- nothing is covered before anything was pushed
@@ -43,6 +45,11 @@ pushes-init g c =
       bytes = All-from_get_or (λ byte. byte < 2 ^ 8) c.args.piece.now 0 (λ k within. (c.type_inv.piece k).fits);
       limit = c.requires.limit;
       fills = Fills-none _;
+      comes = λ honest.
+          let io = c.args.io.now in
+          let now = g.D.Disk.state io.disk.now in
+          let stage = c.args.batch.now.stage in
+          comes_with c.args.kept.now.dir c.args.ask.now.target (SparesTaken io.space now.seen) now.size stage stage (stays_same c.args.kept.now.dir c.args.ask.now.target stage);
       hands = ([], refl, λ text handed hands. (handed, rw (append-nil text) hands));
       spent = ([], refl, λ text handed stands. ([], rw (append-nil text, append-nil handed) stands, spends_idle [] c.args.io.now.space None refl));
     }
@@ -131,6 +138,12 @@ pushes-preserved g c =
       bytes = left_bytes rest n i.bytes;
       limit = limit_left rest n (room_of c.pushes.reader) (pushed_of c.pushes.reader) (pushed_of c.push-count.new.self) (pushed_of c.drain.new.reader) push.count push.pushed e.empties.pushed i.limit;
       fills = Fills-then i.fills e.writes.fills;
+      comes = λ honest.
+          let first = c.args.io.now in
+          let mid = c.pushes.io in
+          let last = c.drain.new.io in
+          comes_then c.args.kept.now.dir c.args.ask.now.target (g.D.Disk.state first.disk.now) (g.D.Disk.state mid.disk.now) first.space mid.space i.fills.fills c.args.batch.now.stage c.pushes.batch.stage
+          (λ waits. ap (λ (b : batches.Batch). b.stage) (i.waits waits)) (i.comes (e.writes.fills.fills.honest honest)) (SparesTaken last.space (g.D.Disk.state last.disk.now).seen) c.drain.new.batch.stage (e.writes.comes honest);
       hands = (
         i.hands.0 ++ take n rest,
         piece_left c.args.piece.now i.hands.0 rest n i.hands.1,
@@ -180,8 +193,17 @@ returns-in_err-drain g c =
         fills = rw (p.1, p.2) (Fills-then i.fills e.writes.fills);
         known = rw (p.1, p.2) e.writes.known;
         damaged = λ sector stated found honest is.
+            let first = c.args.io.now in
+            let mid = c.pushes.io in
             let told = e.writes.damaged sector stated found honest (ap (λ (f : RecvFault). Err f) (sym p.2 ∙ err_told (Unit {0}) _ _ (sym p.1 ∙ is))) in
-            damaged_behind rows ask.target sector stated found (g.D.Disk.state c.args.io.now.disk.now) (g.D.Disk.state c.pushes.io.disk.now) c.args.io.now.space c.pushes.io.space i.fills.fills told;
+            damaged_then rows ask.target (g.D.Disk.state first.disk.now) (g.D.Disk.state mid.disk.now) first.space mid.space i.fills.fills c.args.batch.now.stage c.pushes.batch.stage
+            (λ waits. ap (λ (b : batches.Batch). b.stage) (i.waits waits)) (i.comes (e.writes.fills.fills.honest honest)) sector stated found told;
+        comes = λ honest.
+            let first = c.args.io.now in
+            let mid = c.pushes.io in
+            let last = c.drain.new.io in
+            comes_then c.args.kept.now.dir c.args.ask.now.target (g.D.Disk.state first.disk.now) (g.D.Disk.state mid.disk.now) first.space mid.space i.fills.fills c.args.batch.now.stage c.pushes.batch.stage
+            (λ waits. ap (λ (b : batches.Batch). b.stage) (i.waits waits)) (i.comes (e.writes.fills.fills.honest honest)) (SparesTaken last.space (g.D.Disk.state last.disk.now).seen) c.drain.new.batch.stage (e.writes.comes honest);
       };
       texts = λ text handed stands.
           let m = i.planned.2 text handed stands in
@@ -269,7 +291,17 @@ returns-then-branch g c =
         idle = λ none. let same = e.gathers.idle none in same ∙ i.idle (ap (λ (b : batches.Batch). b.taken) (sym same) ∙ none);
         waits = λ waits. let same = e.gathers.waits waits in same ∙ i.waits (ap (λ (b : batches.Batch). waits_at b.stage) (sym same) ∙ waits);
       };
-      writes = record { fills = Fills-then i.fills e.writes.fills; known = tt; damaged = λ sector stated found honest is. absurd (cc is) };
+      writes = record {
+        fills = Fills-then i.fills e.writes.fills;
+        known = tt;
+        damaged = λ sector stated found honest is. absurd (cc is);
+        comes = λ honest.
+            let first = c.args.io.now in
+            let mid = c.pushes.io in
+            let last = c.drain.new.io in
+            comes_then c.args.kept.now.dir c.args.ask.now.target (g.D.Disk.state first.disk.now) (g.D.Disk.state mid.disk.now) first.space mid.space i.fills.fills c.args.batch.now.stage c.pushes.batch.stage
+            (λ waits. ap (λ (b : batches.Batch). b.stage) (i.waits waits)) (i.comes (e.writes.fills.fills.honest honest)) (SparesTaken last.space (g.D.Disk.state last.disk.now).seen) c.drain.new.batch.stage (e.writes.comes honest);
+      };
       texts = λ text handed stands.
           let f = i.front.2 text handed stands in
           let m = i.planned.2 text handed stands in
@@ -339,7 +371,7 @@ returns g c =
           let m = i.piece.2 tight start running plain text handed told way tells hands is in
           piece_waits c.args.ask.now running text handed plain hands.whole piece c.pushes.reader i.piece.0 (is_now tight running) (done i.piece.0 i.piece.1) m;
       gathers = record { fits = λ fits. i.stage; idle = i.idle; waits = i.waits };
-      writes = record { fills = i.fills; known = tt; damaged = λ sector stated found honest is. absurd (cc is) };
+      writes = record { fills = i.fills; known = tt; damaged = λ sector stated found honest is. absurd (cc is); comes = i.comes };
       texts = λ text handed stands.
           let m = i.front.2 text handed stands in
           record {

@@ -1,6 +1,6 @@
 use Rattle.std.proofs.Common.{◌≡◌, ◌+◌, ◌-◌, ◌≤◌, Bool, ◌^◌, List, [], ℕ, false, true, ◌++◌, length}
 use Rattle.std.specs.Prelude.{None}
-use Rattle.zst_block.specs.IoStates.{IsHonest, blocks_of, disk_of, io_of}
+use Rattle.zst_block.specs.IoStates.{IsHonest, IsSparedBy, blocks_of, disk_of, io_of}
 use Rattle.zst_image.specs.Reads.{bound_of}
 use Rattle.zst_model.specs.declared.refusals.plan_fault.PlanFault.{PlanFault}
 use Rattle.zst_model.specs.pools.Pool.{Pool}
@@ -10,6 +10,7 @@ use Rattle.zst_record.specs.Heads.{Covered}
 use Rattle.zst_record.specs.Laws.{AreBytes}
 use Rattle.zst_stream.specs.Reading.{complete, reading, waiting}
 use Rattle.zst_recv.specs.Costs.{Spends}
+use Rattle.zst_recv.specs.Damage.{ComesFrom}
 use Rattle.zst_recv.specs.Faults.{Fills}
 use Rattle.zst_recv.specs.Plans.{RefusesOne}
 use Rattle.zst_recv.specs.ReceiveSteps.{Batch}
@@ -40,6 +41,7 @@ invariant-pushes g l =
       bytes : AreBytes l.rest;
       limit : pushed_of l.reader + length l.rest ≤ 2 ^ 62;
       fills : Fills (io_of l.fn.io) (io_of l.io) None;
+      comes : IsHonest l.io → ComesFrom l.kept.dir l.ask.target (IsSparedBy l.fn.io) (disk_of l.fn.io).size l.fn.batch.stage (IsSparedBy l.io) l.batch.stage;
       spent : (front : List ℕ) × (l.piece ≡ front ++ l.rest)
           × ((text : List ℕ) (handed : List Covered) → StandsFor l.fn.reader text handed → (records : List Covered) × StandsFor l.reader (text ++ front) (handed ++ records) × Spends records l.fn.io.space l.io.space None);
       hands : (front : List ℕ) × (l.piece ≡ front ++ l.rest)

@@ -10,9 +10,11 @@ use Rattle.zst_run.specs.Receives.{SaysOfPlan}
 use Rattle.zst_run.specs.ReceiveTurns.{PlansOn, line_of, told, Fed, WaitsForMore}
 use Rattle.zst_image.specs.Reads.{free_by}
 use Rattle.zst_model.specs.declared.refusals.refusal.Refusal.{Refusal}
-use Rattle.zst_recv.specs.Damage.{IsDamagedFeed}
+use Rattle.zst_block.specs.Blocks.{KeepsBlocks}
+use Rattle.zst_model.specs.declared.refusals.refusal.Refusal.TheVariants as refusals
+use Rattle.zst_recv.specs.Damage.{IsDamagedFeed, MakesStage}
 use Rattle.zst_run.specs.declared.receive.Turn.TheVariants as turns
-use Rattle.zst_run.proofs.ReceiveDamage.{cut_undamaged, damaged_behind, err_refused}
+use Rattle.zst_run.proofs.ReceiveDamage.{cut_undamaged, damaged_behind, err_refused, stood_behind, traced_on, turn_refused, unfed_traced}
 use Rattle.zst_run.proofs.ReceivePlans.{cut_plans, gave_none, received_plans, so_far}
 use Rattle.zst_run.proofs.receive.feed_all.Goals as goal
 
@@ -21,6 +23,10 @@ pieces-init g c = record {
   feeding = fed_none _ _ _ _ c.requires.unfed.reads c.requires.unfed.hands;
   plans = λ rows text gave on. subst (λ (t : List ℕ). PlansOn rows c.args.pool.now.kept c.args.recv t) (sym (gave_none (g.S.Source.state c.args.input.now) text gave)) on;
   blocks = λ ptr bytes has. has;
+  size = refl;
+  traced = λ honest.
+      let start = g.D.Disk.state c.args.pool.now.io.disk.now in
+      unfed_traced start c.args.pool.now.kept c.args.recv.ask.target start.seen c.args.recv.stage c.requires.unfed.waits;
   can_feed = c.requires.can_feed;
   room = c.requires.room;
   ask = refl;
@@ -39,7 +45,16 @@ pieces-preserved g c =
           let front = concat i.feeding.pieces in
           let is = so_far (g.S.Source.state c.args.input.now) (g.S.Source.state c.pieces.input) (g.S.Source.state c.feed_piece.new.input) front e.turns.piece text i.feeding.consumed e.turns.gave gave in
           subst (λ (t : List ℕ). PlansOn rows c.feed_piece.new.pool.kept c.feed_piece.new.recv t) (sym is) (e.plans rows front e.turns.piece e.turns.gave (i.plans rows front i.feeding.consumed on));
-      blocks = λ ptr bytes has. c.feed_piece.ensures.blocks c.in-More.is ptr bytes (i.blocks ptr bytes has);
+      blocks = λ ptr bytes has. e.blocks.blocks refl ptr bytes (i.blocks ptr bytes has);
+      size = e.blocks.size ∙ i.size;
+      traced = λ honest.
+          let start = g.D.Disk.state c.args.pool.now.io.disk.now in
+          let old = g.D.Disk.state c.pieces.pool.io.disk.now in
+          let new = g.D.Disk.state c.feed_piece.new.pool.io.disk.now in
+          let target = c.args.recv.ask.target in
+          let kept = c.pieces.pool.kept in
+          let makes = subst (λ (a : RecvAsk). MakesStage kept.dir a.target old.seen (free_by kept.body) old.size c.pieces.recv.stage new.seen (free_by c.feed_piece.new.pool.kept.body) c.feed_piece.new.recv.stage) i.ask (e.blocks.makes honest refl) in
+          traced_on start c.args.pool.now.kept target old.seen old.size kept i.size i.blocks c.pieces.recv.stage (i.traced (e.later.honest honest)) new.seen c.feed_piece.new.pool.kept c.feed_piece.new.recv.stage e.blocks.waits makes;
       can_feed = record { live = e.leaves.ends.0; fits = e.leaves.fits; works = e.leaves.ends.1; ready = e.leaves.ready e.leaves.ends.1 };
       room = e.room ∙ i.room;
       ask = e.leaves.ask ∙ i.ask;
@@ -117,7 +132,16 @@ returns-in-Refused-clause-plans g c = λ rows text gave on.
     (subst (λ (a : RecvAsk). SaysOfPlan rows a (front ++ e.turns.piece) (Err c.in-Refused.refusal)) i.ask turn)
 
 pub returns-in-Received-clause-why : goal.returns-in-Received-clause-why
-returns-in-Received-clause-why g c = record { refused = tt; told = λ whole. c.in-Received.ensures.leaves.told refl ∙ c.pieces.invariant.counts; damaged = λ sector stated found honest is. absurd (cc is) }
+returns-in-Received-clause-why g c =
+    let i = c.pieces.invariant in
+    let e = c.in-Received.ensures in
+    record {
+      refused = tt;
+      told = λ whole. e.leaves.told refl ∙ i.counts;
+      damaged = λ sector stated found honest is. absurd (cc is);
+      stood = λ apart. stood_behind (g.D.Disk.state c.args.pool.now.io.disk.now).seen (free_by c.args.pool.now.kept.body) (g.D.Disk.state c.pieces.pool.io.disk.now).seen (free_by c.pieces.pool.kept.body)
+          (g.D.Disk.state c.feed_piece.new.pool.io.disk.now).seen i.blocks (e.blocks.stood (λ is. absurd (cc is)));
+    }
 
 pub returns-in-Over-clause-why : goal.returns-in-Over-clause-why
 returns-in-Over-clause-why g c =
@@ -131,6 +155,13 @@ returns-in-Over-clause-why g c =
           (rose_behind start (g.S.Source.state c.pieces.input) now c.in-Over.end c.pieces.invariant.input_later c.in-Over.ensures.turns.input_is);
       told = λ whole. ap (λ (io : _). io.checksum_errors) c.cut.ensures.io ∙ c.in-Over.ensures.leaves.told refl ∙ c.pieces.invariant.counts;
       damaged = λ sector stated found honest same. absurd (cut_undamaged c.in-Over.end count sector stated found (sym is ∙ err_refused c.cut.result _ same));
+      stood = λ apart.
+          let i = c.pieces.invariant in
+          let from = (g.D.Disk.state c.args.pool.now.io.disk.now).seen in
+          let free = free_by c.args.pool.now.kept.body in
+          subst (λ (io : _). KeepsBlocks from free (g.D.Disk.state io.disk.now).seen free) (sym c.cut.ensures.io)
+          (stood_behind from free (g.D.Disk.state c.pieces.pool.io.disk.now).seen (free_by c.pieces.pool.kept.body) (g.D.Disk.state c.feed_piece.new.pool.io.disk.now).seen i.blocks
+          (c.in-Over.ensures.blocks.stood (λ told. absurd (cc told))));
     }
 
 pub returns-in-Refused-clause-why : goal.returns-in-Refused-clause-why
@@ -143,9 +174,13 @@ returns-in-Refused-clause-why g c =
       refused = inl (refused_earlier _ old _ c.in-Refused.refusal i.later.faults e.leaves.ends);
       told = λ whole. e.leaves.told whole ∙ i.counts;
       damaged = λ sector stated found honest is.
-          damaged_behind (g.D.Disk.state c.args.pool.now.io.disk.now) old c.args.pool.now.kept.body kept c.args.recv.ask.target sector stated found i.blocks
-          (subst (λ (a : RecvAsk). IsDamagedFeed old (free_by kept.body) kept.dir a.target sector stated found) i.ask
-          (e.damaged sector stated found honest (ap (λ (r : Refusal). turns.Refused r) (err_refused c.in-Refused.refusal _ is))));
+          let start = g.D.Disk.state c.args.pool.now.io.disk.now in
+          let told = e.blocks.damaged sector stated found honest (ap (λ (r : Refusal). turns.Refused r) (err_refused c.in-Refused.refusal _ is)) in
+          damaged_behind start c.args.pool.now.kept c.args.recv.ask.target old.seen old.size kept i.size i.blocks c.pieces.recv.stage (i.traced (e.later.honest honest)) old refl refl sector stated found
+          (subst (λ (a : RecvAsk). IsDamagedFeed old (free_by kept.body) kept.dir a.target c.pieces.recv.stage sector stated found) i.ask told);
+      stood = λ apart.
+          stood_behind (g.D.Disk.state c.args.pool.now.io.disk.now).seen (free_by c.args.pool.now.kept.body) old.seen (free_by kept.body) (g.D.Disk.state c.feed_piece.new.pool.io.disk.now).seen i.blocks
+          (e.blocks.stood (λ is. apart (ap (λ (r : Refusal). Err r) (turn_refused c.in-Refused.refusal refusals.DiskFault is))));
     }
 
 pub returns-in-Received-clause-later : goal.returns-in-Received-clause-later

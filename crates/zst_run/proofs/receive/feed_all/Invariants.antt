@@ -5,10 +5,10 @@ use Rattle.zst_block.specs.Blocks.{KeepsBlocks}
 use Rattle.zst_block.specs.IoStates.{io_of}
 use Rattle.zst_image.specs.Reads.{free_by}
 use Rattle.zst_reader.specs.InputReads.{stream_limit}
-use Rattle.zst_recv.specs.Stages.{ask_of, fed_of}
+use Rattle.zst_recv.specs.Stages.{ask_of, fed_of, stage_of}
 use Rattle.zst_run.specs.LaterDisks.{IsLater}
 use Rattle.zst_run.specs.Receives.{piece_size}
-use Rattle.zst_run.specs.ReceiveTurns.{CanFeed, Feeding, PlansOn}
+use Rattle.zst_run.specs.ReceiveTurns.{CanFeed, Feeding, PlansOn, Traced}
 use Rattle.zst_run.proofs.receive.feed_all.Given as goal
 
 -- whole pieces were fed, and the receive waits for more
@@ -20,6 +20,8 @@ invariant-pieces g l =
       feeding : Feeding (disk.state l.fn.pool.io.disk.now) (disk.state l.pool.io.disk.now) l.fn.pool.kept l.pool.kept l.fn.recv l.recv l.items (source.state l.fn.input) (source.state l.input);
       plans : (rows : Rows) (text : List ℕ) → Gave (source.state l.fn.input) (source.state l.input) text → PlansOn rows l.fn.pool.kept l.fn.recv [] → PlansOn rows l.pool.kept l.recv text;
       blocks : KeepsBlocks (disk.state l.fn.pool.io.disk.now).seen (free_by l.fn.pool.kept.body) (disk.state l.pool.io.disk.now).seen (free_by l.pool.kept.body);
+      size : (disk.state l.pool.io.disk.now).size ≡ (disk.state l.fn.pool.io.disk.now).size;
+      traced : (disk.state l.pool.io.disk.now).honest → Traced (disk.state l.fn.pool.io.disk.now) l.fn.pool.kept (ask_of l.fn.recv).target (disk.state l.pool.io.disk.now).seen l.pool.kept (stage_of l.recv);
       can_feed : CanFeed l.pool l.recv;
       room : length l.room ≡ piece_size;
       ask : ask_of l.recv ≡ ask_of l.fn.recv;

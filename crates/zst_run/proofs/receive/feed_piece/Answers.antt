@@ -1,6 +1,8 @@
 use Rattle.std.proofs.Common.{ℕ, ◌<◌, Err, ap, take, ◌∙◌, arith, ◌≡◌, ◌||◌, Bool, false, List, [], ◌++◌, Ok, refl, sym, subst}
 use Rattle.std.specs.Prelude.{not}
 use Rattle.std.proofs.lemmas.List.Elements.{All-take}
+use Rattle.zst_image.specs.Reads.{free_by}
+use Rattle.zst_model.specs.declared.refusals.refusal.Refusal.{Refusal}
 use Rattle.zst_pool.specs.declared.fault.PoolFault.TheVariants as pools
 use Rattle.zst_recv.specs.declared.fault.RecvFault.{RecvFault}
 use Rattle.zst_recv.specs.declared.fault.RecvFault.TheVariants as faults
@@ -11,7 +13,7 @@ use Rattle.zst_recv.proofs.FeedEnds.{fits_within}
 use Rattle.zst_run.specs.ReceiveTurns.{TurnPlans, is_damaged, turn_behind}
 use Rattle.zst_run.specs.declared.receive.Turn.TheVariants as turns
 use Rattle.zst_model.specs.declared.refusals.refusal.Refusal.TheVariants as refusals
-use Rattle.zst_run.proofs.ReceiveDamage.{damage_refused, damaged_only, never_refused, turn_refused}
+use Rattle.zst_run.proofs.ReceiveDamage.{damage_refused, damaged_only, disk_refused, idle_makes, never_refused, turn_refused}
 use Rattle.zst_run.proofs.LaterDisks.{later_none}
 use Rattle.zst_run.proofs.LiveReceives.{lives_on, lives_without}
 use Rattle.zst_run.proofs.ReceiveLemmas.{feed_refused}
@@ -116,25 +118,6 @@ returns-in-Err-clause-plans g c = λ rows text piece gave on.
     (subst (λ (q : List ℕ). TurnPlans rows recv.ask c.feed.new.pool.kept c.feed.new.self (text ++ q) (turns.Refused (recv_refusal c.in-Err.fault))) (sym one)
     (refused_plans c.fronts_agree.ensures rows kept c.feed.new.pool.kept recv c.feed.new.self text given (Err c.in-Err.fault) on e.receive.ask t.planned c.in-Err.fault refl t.because))
 
-pub returns-then-piece-eq0-clause-blocks : goal.returns-then-piece-eq0-clause-blocks
-returns-then-piece-eq0-clause-blocks g c = λ more ptr bytes has. has
-
-pub returns-then-piece-eq0-clause-damaged : goal.returns-then-piece-eq0-clause-damaged
-returns-then-piece-eq0-clause-damaged g c = λ sector stated found honest is.
-    absurd (never_refused c.read_piece-piece.result.end (refusals.Damaged sector stated found) (sym c.turn_behind.ensures ∙ is))
-
-pub returns-else-fed-clause-blocks : goal.returns-else-fed-clause-blocks
-returns-else-fed-clause-blocks g c = λ more. c.in-Ok.ensures.pool.blocks (ap not c.if-fed.false)
-
-pub returns-else-fed-clause-damaged : goal.returns-else-fed-clause-damaged
-returns-else-fed-clause-damaged g c = λ sector stated found honest is.
-    absurd (never_refused c.read_piece-piece.result.end (refusals.Damaged sector stated found) (sym c.turn_behind-in-Ok.ensures ∙ is))
-
-pub returns-in-Err-clause-damaged : goal.returns-in-Err-clause-damaged
-returns-in-Err-clause-damaged g c = λ sector stated found honest is.
-    c.in-Err.ensures.damaged sector stated found honest c.requires.can_feed.works
-    (ap (λ (f : RecvFault). Err f) (damaged_only c.in-Err.fault sector stated found (sym c.from.ensures ∙ turn_refused c.from.result (refusals.Damaged sector stated found) is)))
-
 pub returns-then-piece-eq0-clause-leaves : goal.returns-then-piece-eq0-clause-leaves
 returns-then-piece-eq0-clause-leaves g c =
     let p = c.read_piece-piece in
@@ -202,3 +185,55 @@ returns-else-fed-clause-later g c = let e = c.in-Ok.ensures.pool in record { fau
 
 pub returns-in-Err-clause-later : goal.returns-in-Err-clause-later
 returns-in-Err-clause-later g c = let e = c.in-Err.ensures.pool in record { faults = e.cause.later; honest = e.honest; same = e.same }
+
+pub returns-then-piece-eq0-clause-blocks : goal.returns-then-piece-eq0-clause-blocks
+returns-then-piece-eq0-clause-blocks g c =
+    let pool = c.args.pool.now in
+    let recv = c.args.recv.now in
+    let disk = g.D.Disk.state pool.io.disk.now in
+    record {
+      blocks = λ more ptr bytes has. has;
+      stood = λ apart ptr bytes has. has;
+      size = refl;
+      waits = λ waits. (refl, waits);
+      makes = λ honest more. idle_makes pool.kept.dir recv.ask.target disk.seen (free_by pool.kept.body) disk.size recv.stage;
+      damaged = λ sector stated found honest is. absurd (never_refused c.read_piece-piece.result.end (refusals.Damaged sector stated found) (sym c.turn_behind.ensures ∙ is));
+    }
+
+pub returns-then-fed-clause-blocks : goal.returns-then-fed-clause-blocks
+returns-then-fed-clause-blocks g c =
+    let e = c.in-Ok.ensures in
+    record {
+      blocks = λ more. absurd (cc more);
+      stood = λ apart. e.pool.stood (λ is. absurd (cc is));
+      size = e.pool.size;
+      waits = λ waits. (e.waits waits, e.receive.waited waits);
+      makes = λ honest more. absurd (cc more);
+      damaged = λ sector stated found honest is. absurd (cc is);
+    }
+
+pub returns-else-fed-clause-blocks : goal.returns-else-fed-clause-blocks
+returns-else-fed-clause-blocks g c =
+    let e = c.in-Ok.ensures in
+    record {
+      blocks = λ more. e.pool.blocks (ap not c.if-fed.false);
+      stood = λ apart. e.pool.stood (λ is. absurd (cc is));
+      size = e.pool.size;
+      waits = λ waits. (e.waits waits, e.receive.waited waits);
+      makes = λ honest more. e.makes honest (ap not c.if-fed.false);
+      damaged = λ sector stated found honest is. absurd (never_refused c.read_piece-piece.result.end (refusals.Damaged sector stated found) (sym c.turn_behind-in-Ok.ensures ∙ is));
+    }
+
+pub returns-in-Err-clause-blocks : goal.returns-in-Err-clause-blocks
+returns-in-Err-clause-blocks g c =
+    let e = c.in-Err.ensures in
+    record {
+      blocks = λ more. absurd (cc more);
+      stood = λ apart. e.pool.stood (λ is. apart (ap (λ (r : Refusal). turns.Refused r) (c.from.ensures ∙ disk_refused c.in-Err.fault is)));
+      size = e.pool.size;
+      waits = λ waits. (e.waits waits, e.receive.waited waits);
+      makes = λ honest more. absurd (cc more);
+      damaged = λ sector stated found honest is.
+          e.damaged sector stated found honest c.requires.can_feed.works
+          (ap (λ (f : RecvFault). Err f) (damaged_only c.in-Err.fault sector stated found (sym c.from.ensures ∙ turn_refused c.from.result (refusals.Damaged sector stated found) is)));
+    }

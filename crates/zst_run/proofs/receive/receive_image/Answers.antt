@@ -22,5 +22,5 @@ returns g c =
     opened c.args.ask (g.D.Disk.state c.args.here.now) (g.D.Disk.state c.new-pool.result.io.disk.now) (g.D.Disk.state c.receive_into-result.new.pool.io.disk.now) (g.S.Source.state c.args.input.now)
     (g.S.Source.state c.receive_into-result.new.input) c.in_ok-kept.kept c.receive_into-result.result (rw (sym n.disk) at e.there) (rw (sym n.disk) at e.answer) (rw (sym n.disk) at e.reads.reads) (rw (sym n.disk) at e.rests)
     (λ tight rows pool rests same. c.opened_is_at_rest.ensures.rests tight c.new-pool.result.io.disk.now c.in_ok-kept.kept rows pool rests same) (rw (sym n.disk) at e.reads.cause.later)
-    r.later.honest (rw (n.kept) at r.fed) (rw (n.kept) at r.plans) (rw (n.kept) at r.why.damaged) (g.met.D.Disk.only_now c.args.here.now) (g.met.D.Disk.counts_now c.receive_into-result.new.pool.io.disk.now)
+    r.later.honest (rw (n.kept) at r.fed) (rw (n.kept) at r.plans) (rw (n.kept) at r.why.damaged) (rw (n.kept) at r.why.stood) (g.met.D.Disk.only_now c.args.here.now) (g.met.D.Disk.counts_now c.receive_into-result.new.pool.io.disk.now)
     r.why.refused r.later.faults r.input_later)

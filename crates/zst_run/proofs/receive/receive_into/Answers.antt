@@ -1,5 +1,6 @@
 use Rattle.std.proofs.Common.{ℕ, ◌∙◌, List, Err, IfErr, refl, sym, subst, []}
 use Rattle.std.proofs.lemmas.Result.{err_from_is_err_and}
+use Rattle.zst_block.specs.Blocks.{KeepsBlocks}
 use Rattle.zst_image.specs.Commits.{Ready}
 use Rattle.zst_image.specs.declared.pool_state.PoolState.{PoolState}
 use Rattle.zst_model.specs.declared.refusals.refusal.Refusal.TheVariants as refusals
@@ -64,7 +65,7 @@ pub returns-in_default-clause-why : goal.returns-in_default-clause-why
 returns-in_default-clause-why g c =
     let here = g.D.Disk.state c.args.pool.now.io.disk.now in
     let input = g.S.Source.state c.args.input.now in
-    record { refused = without_memory here here input input; told = λ whole. refl; damaged = λ sector stated found honest is. absurd (cc is) }
+    record { refused = without_memory here here input input; told = λ whole. refl; damaged = λ sector stated found honest is. absurd (cc is); stood = λ apart ptr bytes has. has }
 
 pub returns-in_err-recv-clause-why : goal.returns-in_err-recv-clause-why
 returns-in_err-recv-clause-why g c =
@@ -75,6 +76,10 @@ returns-in_err-recv-clause-why g c =
       refused = rw (p.1, p.2, known) (without_memory (g.D.Disk.state c.args.pool.now.io.disk.now) (g.D.Disk.state c.open.new.pool.io.disk.now) input input);
       told = λ whole. c.in_err-recv.ensures.checksum_errors;
       damaged = λ sector stated found honest is. absurd (memory_undamaged sector stated found (rw (p.1, p.2, known) at is));
+      stood = λ apart.
+          let seen = (g.D.Disk.state c.args.pool.now.io.disk.now).seen in
+          let free = free_by c.args.pool.now.kept.body in
+          subst (λ d. KeepsBlocks seen free (g.D.Disk.state d).seen free) (sym c.in_err-recv.ensures.disk) (λ ptr bytes has. has);
     }
 
 pub returns-clause-why : goal.returns-clause-why
@@ -86,8 +91,12 @@ returns-clause-why g c =
       refused = subst (λ d. IfErr c.feed_all.result (IsEnd (g.D.Disk.state d) new (g.S.Source.state c.args.input.now) (g.S.Source.state c.feed_all.new.input))) e.disk why.refused;
       told = λ whole. why.told whole ∙ e.checksum_errors;
       damaged = λ sector stated found honest is.
-          let told : IsDamagedReceive (g.D.Disk.state c.open.new.pool.io.disk.now) c.open.new.pool.kept.body c.in_ok-recv.recv.ask.target sector stated found = why.damaged sector stated found honest is in
+          let first = g.D.Disk.state c.open.new.pool.io.disk.now in
+          let told : IsDamagedReceive first.seen first.size c.open.new.pool.kept.body c.open.new.pool.kept.dir c.in_ok-recv.recv.ask.target sector stated found = why.damaged sector stated found honest is in
           rw (e.fresh.ask, e.disk, e.kept) at told;
+      stood = λ apart.
+          subst (λ d. KeepsBlocks (g.D.Disk.state d).seen (free_by c.args.pool.now.kept.body) new.seen (free_by c.args.pool.now.kept.body)) e.disk
+          (subst (λ (k : PoolState). KeepsBlocks (g.D.Disk.state c.open.new.pool.io.disk.now).seen (free_by k.body) new.seen (free_by k.body)) e.kept (why.stood apart));
     }
 
 pub returns-in_default-clause-later : goal.returns-in_default-clause-later
@@ -116,4 +125,4 @@ pub feed_all-requires-clause-unfed : goal.feed_all-requires-clause-unfed
 feed_all-requires-clause-unfed g c =
     let fresh = c.in_ok-recv.ensures.fresh in
     let fed = fresh.opens None [] (free_by c.args.pool.now.kept.body) in
-    record { reads = fresh.stands; hands = (fed.handed, fed.reads) }
+    record { reads = fresh.stands; hands = (fed.handed, fed.reads); waits = fresh.waiting }

@@ -190,7 +190,7 @@ returns-then-ends-clause-within g t c = λ honest.
     let opened = fills_looks c.in_ok-open.ensures.looks in
     let filled = FillsFree-then _ _ _ _ _ _ opened c.in_ok-made.ensures.works.fills in
     let low = opened_within _ _ _ (λ image spares. spares) (spares_before _ _ _ _ opened) _ c.args.level c.args.ptr c.args.leaf (c.args.level - 1) c.child_at-low.result
-    (rw c.child_at-low.ensures.child (c.in_ok-open.ensures.below read c.ends_of-ends.result.low lt)) (rw c.child_at-low.ensures.child (c.in_ok-open.ensures.hangs read c.ends_of-ends.result.low lt)) in
+    (rw c.child_at-low.ensures.child (c.in_ok-open.ensures.below read c.ends_of-ends.result.low lt)) (rw c.child_at-low.ensures.child (c.in_ok-open.ensures.hangs read c.ends_of-ends.result.low lt)) (rw c.child_at-low.ensures.child (c.in_ok-open.ensures.sums read c.ends_of-ends.result.low lt)) in
     let made = IsWithin-then _ _ _ _ _ _ _ _ low _ _ _ (IsWithin-size _ _ _ _ _ _ opened.size _ _ _ (c.in_ok-made.ensures.within told)) in
     IfOk-weaker c.mend_one.result _ _ (λ done within. IsWithin-size _ _ _ _ _ _ filled.size _ _ _ within)
     (c.mend_one.ensures.within c.args.leaf _ _ honest (spares_before _ _ _ _ filled) (IsWithin-size _ _ _ _ _ _ (sym filled.size) _ _ _ made))
@@ -205,9 +205,9 @@ returns-clause-within g t c = λ honest.
     let one = FillsFree-then _ _ _ _ _ _ opened c.in_ok-new_low.ensures.works.fills in
     let two = FillsFree-then _ _ _ _ _ _ one c.in_ok-new_high.ensures.works.fills in
     let low = opened_within _ _ _ (λ image spares. spares) (spares_before _ _ _ _ opened) _ c.args.level c.args.ptr c.args.leaf (c.args.level - 1) c.child_at-low.result
-    (rw c.child_at-low.ensures.child (c.in_ok-open.ensures.below read c.ends_of-ends.result.low (omega arith))) (rw c.child_at-low.ensures.child (c.in_ok-open.ensures.hangs read c.ends_of-ends.result.low (omega arith))) in
+    (rw c.child_at-low.ensures.child (c.in_ok-open.ensures.below read c.ends_of-ends.result.low (omega arith))) (rw c.child_at-low.ensures.child (c.in_ok-open.ensures.hangs read c.ends_of-ends.result.low (omega arith))) (rw c.child_at-low.ensures.child (c.in_ok-open.ensures.sums read c.ends_of-ends.result.low (omega arith))) in
     let high = opened_within _ _ _ (λ image spares. spares) (spares_before _ _ _ _ one) _ c.args.level c.args.ptr c.args.leaf (c.args.level - 1) c.child_at-high.result
-    (rw c.child_at-high.ensures.child (c.in_ok-open.ensures.below read c.ends_of-ends.result.high c.ends_of-ends.ensures.order.1)) (rw c.child_at-high.ensures.child (c.in_ok-open.ensures.hangs read c.ends_of-ends.result.high c.ends_of-ends.ensures.order.1)) in
+    (rw c.child_at-high.ensures.child (c.in_ok-open.ensures.below read c.ends_of-ends.result.high c.ends_of-ends.ensures.order.1)) (rw c.child_at-high.ensures.child (c.in_ok-open.ensures.hangs read c.ends_of-ends.result.high c.ends_of-ends.ensures.order.1)) (rw c.child_at-high.ensures.child (c.in_ok-open.ensures.sums read c.ends_of-ends.result.high c.ends_of-ends.ensures.order.1)) in
     let made_low = IsWithin-then _ _ _ _ _ _ _ _ low _ _ _ (IsWithin-size _ _ _ _ _ _ opened.size _ _ _ (c.in_ok-new_low.ensures.within told_low)) in
     let made_high = IsWithin-then _ _ _ _ _ _ _ _ high _ _ _ (IsWithin-size _ _ _ _ _ _ one.size _ _ _ (c.in_ok-new_high.ensures.within told_high)) in
     IfOk-weaker c.mend_two.result _ _ (λ done within. IsWithin-size _ _ _ _ _ _ two.size _ _ _ within)

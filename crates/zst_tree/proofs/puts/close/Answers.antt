@@ -1,7 +1,9 @@
 use Rattle.std.proofs.lemmas.Result.{err_from_is_err_and}
-use Rattle.std.proofs.Common.{◌-◌, ap, ◌∙◌}
+use Rattle.std.proofs.Common.{◌-◌, List, ℕ, ap, refl, sym, ◌∙◌}
 use Rattle.zst_block.specs.declared.ptr.Ptr.{Ptr}
 use Rattle.zst_tree.proofs.BuiltSubtrees.{closes, has_kind, Parts-grows}
+use Rattle.zst_tree.specs.Indices.{greatest, kind_over}
+use Rattle.zst_tree.proofs.ChangedTrees.{block_same}
 use Rattle.zst_tree.proofs.SubtreeCases.{kept_works, kind_three_or_four}
 use Rattle.zst_tree.proofs.puts.close.Goals as goal
 
@@ -24,6 +26,29 @@ returns-clause-names g c =
       level_is = ap (λ (p : Ptr). p.level) saved;
       length_is = ap (λ (p : Ptr). p.length) saved;
     }
+
+pub returns-clause-sums : goal.returns-clause-sums
+returns-clause-sums g c =
+    let saved = c.in_ok-ptr.ensures in
+    let pointer = saved.pointer in
+    let kind = c.summary_of-summary.ensures.kind in
+    let number = ap (λ (p : Ptr). p.number) pointer ∙ c.summary_of-summary.ensures.number in
+    let there = has_kind _ _ c.in_ok-ptr.ptr _ c.summary_of-summary.result.kind saved.wrote in
+    let same = block_same _ _ _ refl _ _ there in
+    record {
+      names = record {
+        kind = kind_three_or_four c.args.io.now.node _ kind;
+        level_is = ap (λ (p : Ptr). p.level) pointer;
+        length_is = ap (λ (p : Ptr). p.length) pointer;
+      };
+      kind_is = λ bytes may. kind ∙ ap (λ (b : List ℕ). kind_over b) (sym (same bytes may));
+      number_is = λ bytes may. number ∙ ap (λ (b : List ℕ). greatest b 128) (sym (same bytes may));
+    }
+
+pub returns-in_err-ptr-clause-sums : goal.returns-in_err-ptr-clause-sums
+returns-in_err-ptr-clause-sums g c =
+    let p = err_from_is_err_and c.from_residual.result c.from_residual.ensures.1 in
+    rw p.1 tt
 
 pub returns-in_err-ptr-clause-wrote : goal.returns-in_err-ptr-clause-wrote
 returns-in_err-ptr-clause-wrote g c =

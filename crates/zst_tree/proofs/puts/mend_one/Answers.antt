@@ -37,11 +37,11 @@ returns-clause-within g c = λ leaf image space honest up within.
     let fills = FillsFree-then _ _ _ _ _ _ (fills_looks opened.looks) c.close.ensures.works.fills in
     let down = spares_before _ _ _ _ fills in
     IfOk-both _ _ _ c.close.result
-    (λ made wrote names. node_within _ _ _ (g.met.D.Disk.seen_size c.close.new.io.disk.now ∙ fills.size) made _ wrote (SparesTaken space image) c.args.level c.args.ptr leaf c.args.level c.requires.inner names
+    (λ made wrote sums. node_within _ _ _ (g.met.D.Disk.seen_size c.close.new.io.disk.now ∙ fills.size) made _ wrote (SparesTaken space image) c.args.level c.args.ptr leaf c.args.level c.requires.inner sums
     (one_within _ _ _ _ _ _ _ _ _ c.args.child c.args.new c.put_child.ensures.puts
-    (λ k under. opened_within (SparesTaken space image) _ _ up down _ c.args.level c.args.ptr leaf (c.args.level - 1) (child c.open.new.io.node k) (opened.below read k under) (opened.hangs read k under))
+    (λ k under. opened_within (SparesTaken space image) _ _ up down _ c.args.level c.args.ptr leaf (c.args.level - 1) (child c.open.new.io.node k) (opened.below read k under) (opened.hangs read k under) (opened.sums read k under))
     (IsWithin-fewer _ _ _ _ _ _ _ down _ _ within)))
-    c.close.ensures.wrote c.close.ensures.names
+    c.close.ensures.wrote c.close.ensures.sums
 
 pub returns-in_err-open-clause-damaged : goal.returns-in_err-open-clause-damaged
 returns-in_err-open-clause-damaged g c = λ honest.

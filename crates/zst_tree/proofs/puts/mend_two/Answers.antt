@@ -38,12 +38,12 @@ returns-clause-within g c = λ image space honest up within_low within_high.
     let fills = FillsFree-then _ _ _ _ _ _ (fills_looks opened.looks) c.close.ensures.works.fills in
     let down = spares_before _ _ _ _ fills in
     IfOk-both _ _ _ c.close.result
-    (λ made wrote names. node_within _ _ _ (g.met.D.Disk.seen_size c.close.new.io.disk.now ∙ fills.size) made _ wrote (SparesTaken space image) c.args.level c.args.ptr c.args.leaf c.args.level c.requires.inner names
+    (λ made wrote sums. node_within _ _ _ (g.met.D.Disk.seen_size c.close.new.io.disk.now ∙ fills.size) made _ wrote (SparesTaken space image) c.args.level c.args.ptr c.args.leaf c.args.level c.requires.inner sums
     (mixed_within _ _ _ _ _ _ _ _ _ c.args.mend.low c.args.mend.new_low c.args.mend.high c.args.mend.new_high c.requires.flat
     (mixes _ _ _ _ _ _ _ _ _ c.requires.order c.requires.high c.put_child.ensures.puts c.fill.ensures.fills c.put_child-2.ensures.puts)
-    (λ k under. opened_within (SparesTaken space image) _ _ up down _ c.args.level c.args.ptr c.args.leaf (c.args.level - 1) (child c.open.new.io.node k) (opened.below read k under) (opened.hangs read k under))
+    (λ k under. opened_within (SparesTaken space image) _ _ up down _ c.args.level c.args.ptr c.args.leaf (c.args.level - 1) (child c.open.new.io.node k) (opened.below read k under) (opened.hangs read k under) (opened.sums read k under))
     (IsWithin-fewer _ _ _ _ _ _ _ down _ _ within_low) (IsWithin-fewer _ _ _ _ _ _ _ down _ _ within_high)))
-    c.close.ensures.wrote c.close.ensures.names
+    c.close.ensures.wrote c.close.ensures.sums
 
 pub returns-in_err-open-clause-damaged : goal.returns-in_err-open-clause-damaged
 returns-in_err-open-clause-damaged g c = λ honest.

@@ -6,7 +6,7 @@ use Rattle.zst_tree.proofs.SubtreeCases.{node_below}
 use Rattle.zst_tree.proofs.BuiltSubtrees.{spread_parts, node_parts}
 use Rattle.zst_tree.proofs.Results.{delivers_block}
 use Rattle.zst_tree.proofs.Damage.{IsBelow-flat}
-use Rattle.zst_tree.proofs.LaterDamage.{opened_told, opened_below}
+use Rattle.zst_tree.proofs.LaterDamage.{opened_told, opened_below, opened_sums}
 use Rattle.zst_tree.proofs.ChangedTrees.{hangs_spread, opened_hangs}
 use Rattle.zst_tree.proofs.puts.open.Goals as goal
 
@@ -25,6 +25,14 @@ returns-then-is_flat-clause-below g c = λ honest k under.
 
 pub returns-clause-below : goal.returns-clause-below
 returns-clause-below g c = λ honest. opened_below _ _ _ _ _ _ c.requires.inner (search rules) _ (c.load_node.ensures.block honest)
+
+pub returns-then-is_flat-clause-sums : goal.returns-then-is_flat-clause-sums
+returns-then-is_flat-clause-sums g c = λ honest k under.
+    let flat : is_flat c.args.ptr ≡ true = search rules in
+    IsBelow-flat _ _ _ _ _ _ _ _ (subst (λ (p : Ptr). is_flat p ≡ true) (sym (c.fill.ensures.fills.inside k (omega arith) under).child_is) flat)
+
+pub returns-clause-sums : goal.returns-clause-sums
+returns-clause-sums g c = λ honest. opened_sums _ _ _ _ _ _ c.requires.inner (search rules) _ (c.load_node.ensures.block honest)
 
 pub returns-clause-damaged : goal.returns-clause-damaged
 returns-clause-damaged g c = λ honest. opened_told _ _ _ _ _ _ (c.load_node.ensures.names c.requires.inner (search rules) honest)

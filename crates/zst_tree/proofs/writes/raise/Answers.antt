@@ -20,7 +20,7 @@ returns-clause-within g c = λ leaf.
     let fills = c.in_ok-root.ensures.works.fills in
     let same : (c.args.tree.levels + 1) - 1 ≡ c.args.tree.levels = omega arith in
     let old = IsWithin-fewer _ _ _ _ _ _ _ (spares_before _ _ _ _ fills) _ _ (IsWithin-self _ _ c.args.tree.levels c.args.tree.root leaf) in
-    node_within _ _ _ (g.met.D.Disk.seen_size c.close.new.io.disk.now ∙ fills.size) c.in_ok-root.root _ c.in_ok-root.ensures.wrote _ c.args.tree.levels c.args.tree.root leaf (c.args.tree.levels + 1) (omega arith) c.in_ok-root.ensures.names
+    node_within _ _ _ (g.met.D.Disk.seen_size c.close.new.io.disk.now ∙ fills.size) c.in_ok-root.root _ c.in_ok-root.ensures.wrote _ c.args.tree.levels c.args.tree.root leaf (c.args.tree.levels + 1) (omega arith) c.in_ok-root.ensures.sums
     (rw same (raised_within _ _ _ _ _ _ _ _ _ _ _ c.args.tree.past c.args.tree.root c.hole.ensures c.fill.ensures.fills c.put_child.ensures.puts old))
 
 pub returns-in_err-root-clause-never_damaged : goal.returns-in_err-root-clause-never_damaged

@@ -11,6 +11,8 @@ use Rattle.zst_recv.specs.declared.stage.Stage.TheVariants as stages
 use Rattle.zst_recv.proofs.BatchMoves.{moves_begun, moves_passed, moves_refused, not_waits}
 use Rattle.zst_recv.proofs.HandedRecords.{refused_begin, waits_tell}
 use Rattle.zst_recv.proofs.PlanRefusals.{begun_planned, refused_planned}
+use Rattle.zst_recv.specs.Damage.{StaysWith}
+use Rattle.zst_recv.proofs.SetOrigins.{stays_same}
 use Rattle.zst_recv.proofs.batch.Batch.begin.Goals.{in-Waits, in_default}
 use Rattle.zst_recv.proofs.batch.Batch.begin.Goals as goal
 
@@ -45,3 +47,14 @@ returns-in-Ok-clause-moves c = λ len.
 
 pub returns-in-Err-clause-moves : goal.returns-in-Err-clause-moves
 returns-in-Err-clause-moves c = λ len. moves_refused c.args.dir.now c.args.ask.now.target (heads.Begin c.args.header.now len) c.args.self.now _ refl
+
+pub returns-then-not-matches-clause-stays_with : goal.returns-then-not-matches-clause-stays_with
+returns-then-not-matches-clause-stays_with c = stays_same c.args.dir.now c.args.ask.now.target c.args.self.now.stage
+
+pub returns-in-Ok-clause-stays_with : goal.returns-in-Ok-clause-stays_with
+returns-in-Ok-clause-stays_with c =
+    let waits : c.args.self.now.stage ≡ stages.Waits = elim c.match-matches.branch [ in-Waits w ↦ w.in-Waits.is | in_default w ↦ absurd (let both = sym w.matches-is ∙ c.if-not-matches.false in cc) ] in
+    subst (λ (s : coded.Stage). StaysWith c.args.dir.now c.args.ask.now.target s c.in-Ok.batch.stage) (sym waits) c.in-Ok.ensures.begins
+
+pub returns-in-Err-clause-stays_with : goal.returns-in-Err-clause-stays_with
+returns-in-Err-clause-stays_with c = stays_same c.args.dir.now c.args.ask.now.target c.args.self.now.stage

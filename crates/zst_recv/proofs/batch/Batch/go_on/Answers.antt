@@ -1,19 +1,22 @@
 use Rattle.std.proofs.Common.{◌≡◌, ◌+◌, ℕ, Option, Ok, Err, Result, true, false, ap, sym, ◌∙◌, subst, refl, rules, [], ◌∷◌}
 use Rattle.zst_image.specs.Reads.{PartialIs, bound_of}
-use Rattle.zst_block.specs.Blocks.{Has}
+use Rattle.zst_block.specs.Blocks.{Has, SparesTaken}
+use Rattle.zst_objset.specs.Damage.{AreTreesWithin}
 use Rattle.zst_record.specs.Heads.{covered_of}
 use Rattle.zst_model.specs.states.AppliedItems.{◌>>=◌}
 use Rattle.zst_model.specs.pools.Pool as models
 use Rattle.zst_model.specs.declared.refusals.refusal.Refusal.{Refusal}
 use Rattle.zst_model.proofs.Results.{err_is}
 use Rattle.zst_recv.specs.ReceiveSteps.{moved_by, taken, with_applied}
-use Rattle.zst_recv.specs.Stages.{IsBatch, StageFits}
+use Rattle.zst_recv.specs.Stages.{IsBatch}
 use Rattle.zst_recv.specs.TakenRecords.{Takes}
 use Rattle.zst_recv.specs.declared.batch.Batch as batches
 use Rattle.zst_recv.specs.declared.stage.Stage as coded
 use Rattle.zst_recv.specs.declared.stage.Stage.TheVariants as stages
 use Rattle.zst_dir.specs.declared.rows.Partial.{Partial as Row}
 use Rattle.zst_recv.specs.Batches.{Moves}
+use Rattle.zst_recv.specs.Damage.{BeginsWith}
+use Rattle.zst_recv.proofs.SetOrigins.{comes_kept, same_trees}
 use Rattle.zst_recv.proofs.BatchMoves.{moves_gone, moves_kept, moves_refused, neither_is}
 use Rattle.zst_recv.proofs.RecordEffects.{one_more, refuses_on, taken_is, under_way, batch_stays}
 use Rattle.zst_recv.specs.Costs.{Spends}
@@ -58,13 +61,39 @@ returns-clause-took g c = λ tight running ask plain honest number is.
     )
 
 pub returns-in_err-move_by-in-Lives-clause-damaged : goal.returns-in_err-move_by-in-Lives-clause-damaged
-returns-in_err-move_by-in-Lives-clause-damaged g c = λ rows target sector stated found honest fits is.
+returns-in_err-move_by-in-Lives-clause-damaged g c = λ rows target sector stated found honest is.
     let fault = c.in_err-move_by-in-Lives.field-0.0 in
     record {
-      row = c.in-Lives.partial;
-      can = subst (StageFits rows target) c.in-Lives.is fits;
+      set = c.in-Lives.partial.objects;
+      begins = subst (λ (s : coded.Stage). BeginsWith rows target s c.in-Lives.partial.objects) (sym c.in-Lives.is) refl;
       damaged = c.in_err-move_by-in-Lives.ensures.damaged sector stated found honest (sym (err_is c.from_residual.result fault c.from_residual.ensures.1) ∙ is);
     }
+
+pub returns-clause-comes : goal.returns-clause-comes
+returns-clause-comes g c = λ rows target honest. (
+  c.in-Lives.partial.objects,
+  subst (λ (s : coded.Stage). BeginsWith rows target s c.in-Lives.partial.objects) (sym c.in-Lives.is) refl,
+  c.in_ok-move_by-in-Lives.ensures.within honest,
+)
+
+pub returns-in_err-move_by-in-Lives-clause-comes : goal.returns-in_err-move_by-in-Lives-clause-comes
+returns-in_err-move_by-in-Lives-clause-comes g c = λ rows target honest.
+    let io = c.args.io.now in
+    let last = c.move_by.new.io in
+    let old = g.D.Disk.state io.disk.now in
+    let new = g.D.Disk.state last.disk.now in
+    let set = c.in-Lives.partial.objects in (
+      set,
+      subst (λ (s : coded.Stage). BeginsWith rows target s set) (sym c.in-Lives.is) refl,
+      subst (λ (r : Row). AreTreesWithin (SparesTaken io.space old.seen) old.size set (SparesTaken last.space new.seen) r.objects) (sym c.in_err-move_by-in-Lives.ensures.stays)
+          (same_trees old new io.space last.space c.in_err-move_by-in-Lives.ensures.fills.fills set),
+    )
+
+pub returns-in-Waits-clause-comes : goal.returns-in-Waits-clause-comes
+returns-in-Waits-clause-comes g c = λ rows target honest.
+    let io = c.args.io.now in
+    let now = g.D.Disk.state io.disk.now in
+    comes_kept rows target (SparesTaken io.space now.seen) now.size c.args.self.now _ (first_of (cc, search rules))
 
 pub returns-in_err-move_by-in-Lives-clause-spends : goal.returns-in_err-move_by-in-Lives-clause-spends
 returns-in_err-move_by-in-Lives-clause-spends g c =

@@ -5,7 +5,9 @@ use Rattle.zst_record.specs.declared.head.Head.{Head}
 use Rattle.zst_recv.specs.Batches.{Moves}
 use Rattle.zst_recv.specs.Stages.{is_begin, waits_at}
 use Rattle.zst_recv.proofs.BatchMoves.{not_begin, plans_begin, plans_none}
+use Rattle.zst_block.specs.Blocks.{SparesTaken}
 use Rattle.zst_recv.proofs.DamageLemmas.{told_none}
+use Rattle.zst_recv.proofs.SetOrigins.{comes_none, comes_with}
 use Rattle.zst_recv.proofs.RecordEffects.{next_number, runs_now}
 use Rattle.std.proofs.Common.{[], ◌∷◌, refl}
 use Rattle.zst_recv.proofs.CostLemmas.{spends_idle}
@@ -33,7 +35,25 @@ pub returns-in-Begin-clause-damaged : goal.returns-in-Begin-clause-damaged
 returns-in-Begin-clause-damaged g c = λ sector stated found honest is. absurd (told_none c.begin.result sector stated found c.begin.ensures.no_block is)
 
 pub returns-in_default-clause-damaged : goal.returns-in_default-clause-damaged
-returns-in_default-clause-damaged g c = λ sector stated found honest is. c.go_on.ensures.damaged c.args.kept.now.dir c.args.ask.now.target sector stated found honest c.requires.stage is
+returns-in_default-clause-damaged g c = λ sector stated found honest is. c.go_on.ensures.damaged c.args.kept.now.dir c.args.ask.now.target sector stated found honest is
+
+pub returns-in-Begin-clause-comes : goal.returns-in-Begin-clause-comes
+returns-in-Begin-clause-comes g c = λ honest.
+    let io = c.args.io.now in
+    let now = g.D.Disk.state io.disk.now in
+    comes_with c.args.kept.now.dir c.args.ask.now.target (SparesTaken io.space now.seen) now.size c.args.self.now.stage c.begin.new.self.stage c.begin.ensures.stays_with
+
+pub returns-in-End-clause-comes : goal.returns-in-End-clause-comes
+returns-in-End-clause-comes g c = λ honest.
+    let io = c.args.io.now in
+    let now = g.D.Disk.state io.disk.now in
+    let rows = c.args.kept.now.dir in
+    let target = c.args.ask.now.target in
+    let images = SparesTaken io.space now.seen in
+    comes_none rows target images now.size c.args.self.now.stage images c.end.new.self.stage ((c.end.ensures.moves rows target c.in-End.sums c.in-End.to).ends refl)
+
+pub returns-in_default-clause-comes : goal.returns-in_default-clause-comes
+returns-in_default-clause-comes g c = c.go_on.ensures.comes c.args.kept.now.dir c.args.ask.now.target
 
 pub returns-in-Begin-clause-spends : goal.returns-in-Begin-clause-spends
 returns-in-Begin-clause-spends g c = spends_idle (covered_of c.args.covered.now ∷ []) c.args.io.now.space _ c.begin.ensures.no_block

@@ -8,7 +8,7 @@ use Rattle.zst_reader.specs.StandsFor.{StandsFor, pushed_of, HandsOut}
 use Rattle.zst_reader.specs.declared.reader.Reader.{Reader}
 use Rattle.zst_record.specs.Heads.{Covered, size_of}
 use Rattle.zst_outside.specs.Images.{DiskState}
-use Rattle.zst_block.specs.Blocks.{FillsFree, Has}
+use Rattle.zst_block.specs.Blocks.{FillsFree, Has, KeepsBlocks, SparesTaken}
 use Rattle.zst_block.specs.IoCalls.{HasCause, fails, is_damage}
 use Rattle.zst_image.specs.Commits.{Ready}
 use Rattle.zst_image.specs.Reads.{bound_of, free_by}
@@ -29,6 +29,7 @@ use Rattle.zst_recv.specs.ReceiveSteps.{Batch, Stage, at_stage, is_kept, left_by
 use Rattle.zst_recv.specs.Answers.{is_done}
 use Rattle.zst_recv.specs.Feeds.{new_records}
 use Rattle.zst_recv.specs.Commits.{Puts}
+use Rattle.zst_recv.specs.Damage.{ComesFrom, MakesStage}
 use Rattle.zst_recv.specs.Stages.{HasRead, IsBatch, IsStage, Receives, StageFits, TellsBefore, has_partial, is_live, kept_without, received_at, waits_at}
 use Rattle.zst_recv.specs.TakenRecords.{Reads, TakesAll, fault_in, taken_of}
 use Rattle.zst_recv.specs.declared.batch.Batch as batches
@@ -51,6 +52,7 @@ use Rattle.zst_recv.specs.Costs.{PieceIsShort, Spends, records_behind}
 use Rattle.zst_recv.proofs.CostLemmas.{full_keeps_none, piece_grows, same_pool, short_put, short_read}
 use Rattle.zst_recv.specs.Plans.{RefusesEach, RefusesOne, is_planned}
 use Rattle.zst_recv.proofs.KeptBlocks.{keeps_behind, live_partial}
+use Rattle.zst_recv.proofs.SetOrigins.{comes_renewed, keeps_spared, keeps_written, makes_behind, piece_made}
 use Rattle.zst_recv.proofs.PlanRefusals.{both_planned, call_unplanned, over_waits, waits_ahead, waits_kept}
 use Rattle.zst_recv.proofs.recv.Recv.feed.Given.{Over}
 use Rattle.zst_recv.proofs.recv.Recv.feed.Goals as goal
@@ -65,6 +67,9 @@ read_answer fault = Err fault
 
 abbrev put_answer : PoolFault → Result (Unit {0}) PoolFault
 put_answer fault = Err fault
+
+put_told : (one other : PoolFault) → put_answer one ≡ put_answer other → one ≡ other
+put_told one other is = cc
 
 -- what was read can be committed
 can_commit : (g : Over) (c : After-read g) → CanCommit (g.D.Disk.state c.read.new.io.disk.now) c.read.new.io.space c.renew.new.self.kept.body
@@ -99,6 +104,32 @@ read_honest g c told = subst (λ (d : g.row.D.Denot). (g.D.Disk.state d).honest)
 
 read_same : (g : Over) (c : After-read g) → c.read.new.io.disk.ghost_name ≡ c.args.pool.now.io.disk.ghost_name
 read_same g c = c.read.ensures.writes.fills.same ∙ c.renew.ensures.disk.same
+
+-- blocks alone were written, into sectors that the body leaves free
+read_fills : (g : Over) (c : After-read g) → FillsFree (g.D.Disk.state c.args.pool.now.io.disk.now) (free_by c.args.pool.now.kept.body) (g.D.Disk.state c.read.new.io.disk.now) c.read.new.io.space
+read_fills g c =
+    let two = g.D.Disk.state c.read.new.io.disk.now in
+    let free = free_by c.args.pool.now.kept.body in
+    subst (λ (d : DiskState). FillsFree d free two c.read.new.io.space) (ap (λ (d : g.row.D.Denot). g.D.Disk.state d) c.renew.ensures.disk.now)
+    (subst (λ (s : FreeSectors). FillsFree (g.D.Disk.state c.renew.new.self.io.disk.now) s two c.read.new.io.space) c.renew.ensures.space c.read.ensures.writes.fills.fills)
+
+-- so each block that stood still does, where a commit behind them left it
+read_stood : (g : Over) (c : After-read g) (now : DiskState) → KeepsBlocks (g.D.Disk.state c.read.new.io.disk.now).seen c.read.new.io.space now.seen c.read.new.io.space
+    → KeepsBlocks (g.D.Disk.state c.args.pool.now.io.disk.now).seen (free_by c.args.pool.now.kept.body) now.seen (free_by c.args.pool.now.kept.body)
+read_stood g c now keeps = keeps_written (g.D.Disk.state c.args.pool.now.io.disk.now) (g.D.Disk.state c.read.new.io.disk.now) (free_by c.args.pool.now.kept.body) c.read.new.io.space now.seen (read_fills g c) keeps
+
+-- the batch began where the receive stood
+began_at : (g : Over) (c : After-read g) → c.new-batch.result.stage ≡ c.args.self.now.stage
+began_at g c = c.new-batch.ensures.stage ∙ c.replace.ensures.value
+
+-- and its set comes from the one that the receive had
+read_comes : (g : Over) (c : After-read g) → (g.D.Disk.state c.read.new.io.disk.now).honest
+    → ComesFrom c.args.pool.now.kept.dir c.args.self.now.ask.target (SparesTaken (free_by c.args.pool.now.kept.body) (g.D.Disk.state c.args.pool.now.io.disk.now).seen) (g.D.Disk.state c.args.pool.now.io.disk.now).size c.args.self.now.stage
+        (SparesTaken c.read.new.io.space (g.D.Disk.state c.read.new.io.disk.now).seen) c.read.new.batch.stage
+read_comes g c honest =
+    let two = g.D.Disk.state c.read.new.io.disk.now in
+    comes_renewed (g.D.Disk.state c.args.pool.now.io.disk.now) (g.D.Disk.state c.renew.new.self.io.disk.now) c.renew.new.self.io.space c.args.pool.now.kept c.renew.new.self.kept c.args.self.now.ask.target c.new-batch.result.stage c.args.self.now.stage
+    (SparesTaken c.read.new.io.space two.seen) c.read.new.batch.stage (ap (λ (d : g.row.D.Denot). g.D.Disk.state d) c.renew.ensures.disk.now) c.renew.ensures.space c.renew.ensures.kept (began_at g c) (c.read.ensures.writes.comes honest)
 
 -- how a piece was read: the pool is under way since it was at rest, and of the piece was taken what the definition takes before its first fault
 record ReadsPiece (g : Over) (c : After-read g) (tight : Bool) (running : Pool) (text : List ℕ) (stage : Stage) (result : Result (Unit {0}) RecvFault) : Type 0 where
@@ -313,8 +344,8 @@ returns-in-Err-2-clause-damaged g c = λ sector stated found honest alive is.
     let last = ap (λ (io : _). g.D.Disk.state io.disk.now) gave.ensures.io in
     let now = subst (λ (d : DiskState). d.honest) last honest in
     let told = c.in-Err.ensures.writes.damaged sector stated found now (ap (λ (f : RecvFault). Err f) (sym gave.ensures.fault ∙ err_told coded_recv.FeedReport _ _ is)) in
-    damaged_renewed (g.D.Disk.state c.args.pool.now.io.disk.now) (g.D.Disk.state c.renew.new.self.io.disk.now) c.renew.new.self.io.space c.args.pool.now.kept c.renew.new.self.kept c.args.self.now.ask.target sector stated found
-    (ap (λ (d : g.row.D.Denot). g.D.Disk.state d) c.renew.ensures.disk.now) c.renew.ensures.space c.renew.ensures.kept told
+    damaged_renewed (g.D.Disk.state c.args.pool.now.io.disk.now) (g.D.Disk.state c.renew.new.self.io.disk.now) c.renew.new.self.io.space c.args.pool.now.kept c.renew.new.self.kept c.args.self.now.ask.target c.new-batch.result.stage c.args.self.now.stage sector stated found
+    (ap (λ (d : g.row.D.Denot). g.D.Disk.state d) c.renew.ensures.disk.now) c.renew.ensures.space c.renew.ensures.kept (began_at g (goal.at.returns-in-Err-2-clause-damaged g c).After-read) told
 
 pub returns-in-Err-put-clause-damaged : goal.returns-in-Err-put-clause-damaged
 returns-in-Err-put-clause-damaged g c = λ sector stated found honest alive is.
@@ -400,7 +431,7 @@ returns-then-piece-started-clause-pool g c =
     let last = c.give_up.ensures.io in
     subst (λ (f : RecvFault). LeavesPool pool gave.new.pool (Err f)) (sym (gave.ensures.fault ∙ c.too_long.ensures))
     (leaves_refused pool gave.new.pool c.if-pool.false fault pool.io last tt (λ keeps. gave.ensures.body)
-    (λ alive. subst (Ready (g.D.Disk.state pool.io.disk.now)) (sym gave.ensures.body) (c.requires.ready c.if-pool.false)) (λ whole. refl) c.if-pool.false (record { later = omega arith; fault = λ is. absurd (cc is) }) (λ told. told) refl)
+    (λ alive. subst (Ready (g.D.Disk.state pool.io.disk.now)) (sym gave.ensures.body) (c.requires.ready c.if-pool.false)) (λ whole. refl) c.if-pool.false (record { later = omega arith; fault = λ is. absurd (cc is) }) (λ told. told) refl (λ apart ptr bytes has. has) refl)
 
 pub returns-then-piece-started-clause-receive : goal.returns-then-piece-started-clause-receive
 returns-then-piece-started-clause-receive g c =
@@ -459,7 +490,8 @@ returns-in-Err-2-clause-pool g c =
     subst (λ (f : RecvFault). LeavesPool pool gave.new.pool (Err f)) (sym gave.ensures.fault)
     (leaves_refused pool gave.new.pool c.if-pool.false fault c.read.new.io gave.ensures.io c.in-Err.ensures.writes.known (λ keeps. gave.ensures.body ∙ ap (λ (k : PoolState). k.body) c.renew.ensures.kept)
     (λ alive. subst (Ready (g.D.Disk.state c.read.new.io.disk.now)) (sym gave.ensures.body) can.ready) (λ whole. read_told g at (ap is_damage stop ∙ whole)) (read_failed g at ∙ ap fails stop)
-    (subst (HasCause (g.D.Disk.state pool.io.disk.now).faults (g.D.Disk.state c.read.new.io.disk.now).faults) stop (read_cause g at)) (read_honest g at) (read_same g at))
+    (subst (HasCause (g.D.Disk.state pool.io.disk.now).faults (g.D.Disk.state c.read.new.io.disk.now).faults) stop (read_cause g at)) (read_honest g at) (read_same g at)
+    (λ apart. let fills = read_fills g at in keeps_spared (free_by pool.kept.body) (g.D.Disk.state pool.io.disk.now).seen (g.D.Disk.state c.read.new.io.disk.now).seen fills.seen) (let fills = read_fills g at in fills.size))
 
 pub returns-in-Err-2-clause-receive : goal.returns-in-Err-2-clause-receive
 returns-in-Err-2-clause-receive g c =
@@ -509,7 +541,8 @@ returns-in-Err-put-clause-pool g c =
     subst (λ (f : RecvFault). LeavesPool pool gave.new.pool (Err f)) (sym gave.ensures.fault)
     (leaves_refused pool gave.new.pool c.if-pool.false (faults.Pool fault) put.io gave.ensures.io (known_call fault e.known) (λ keeps. gave.ensures.body ∙ ap (λ (k : PoolState). k.body) (e.stays ∙ c.renew.ensures.kept))
     (λ alive. subst (Ready (g.D.Disk.state put.io.disk.now)) (sym gave.ensures.body) (e.ready alive)) (λ whole. e.told (damage_put fault whole) ∙ read_told g at (ap (λ (r : Result (Unit {0}) RecvFault). is_damage (stop_of r)) c.in-Ok.is)) (e.failed ∙ failed_put fault)
-    (cause_put fault (g.D.Disk.state pool.io.disk.now).faults (g.D.Disk.state c.read.new.io.disk.now).faults (g.D.Disk.state put.io.disk.now).faults read.later e.cause) (λ told. read_honest g at (e.honest told)) (e.same ∙ read_same g at))
+    (cause_put fault (g.D.Disk.state pool.io.disk.now).faults (g.D.Disk.state c.read.new.io.disk.now).faults (g.D.Disk.state put.io.disk.now).faults read.later e.cause) (λ told. read_honest g at (e.honest told)) (e.same ∙ read_same g at)
+    (λ apart. read_stood g at (g.D.Disk.state put.io.disk.now) (e.stood (λ told. apart (ap (λ (f : PoolFault). faults.Pool f) (put_told fault pools.DiskFault told))))) (let fills = read_fills g at in e.size ∙ fills.size))
 
 pub returns-in-Err-put-clause-receive : goal.returns-in-Err-put-clause-receive
 returns-in-Err-put-clause-receive g c =
@@ -560,7 +593,8 @@ returns-in-Err-put-2-clause-pool g c =
     subst (λ (f : RecvFault). LeavesPool pool gave.new.pool (Err f)) (sym gave.ensures.fault)
     (leaves_refused pool gave.new.pool c.if-pool.false (faults.Pool fault) put.io gave.ensures.io (known_call fault e.known) (λ keeps. gave.ensures.body ∙ ap (λ (k : PoolState). k.body) (e.stays ∙ c.renew.ensures.kept))
     (λ alive. subst (Ready (g.D.Disk.state put.io.disk.now)) (sym gave.ensures.body) (e.ready alive)) (λ whole. e.told (damage_put fault whole) ∙ read_told g at (ap (λ (r : Result (Unit {0}) RecvFault). is_damage (stop_of r)) c.in-Err.is ∙ ap is_damage none)) (e.failed ∙ failed_put fault)
-    (cause_put fault (g.D.Disk.state pool.io.disk.now).faults (g.D.Disk.state c.read.new.io.disk.now).faults (g.D.Disk.state put.io.disk.now).faults read.later e.cause) (λ told. read_honest g at (e.honest told)) (e.same ∙ read_same g at))
+    (cause_put fault (g.D.Disk.state pool.io.disk.now).faults (g.D.Disk.state c.read.new.io.disk.now).faults (g.D.Disk.state put.io.disk.now).faults read.later e.cause) (λ told. read_honest g at (e.honest told)) (e.same ∙ read_same g at)
+    (λ apart. read_stood g at (g.D.Disk.state put.io.disk.now) (e.stood (λ told. apart (ap (λ (f : PoolFault). faults.Pool f) (put_told fault pools.DiskFault told))))) (let fills = read_fills g at in e.size ∙ fills.size))
 
 pub returns-in-Err-put-2-clause-receive : goal.returns-in-Err-put-2-clause-receive
 returns-in-Err-put-2-clause-receive g c =
@@ -612,6 +646,7 @@ returns-in-Ok-put-2-clause-pool g c =
     e.ready (λ whole. e.told refl ∙ read_told g at (ap (λ (r : Result (Unit {0}) RecvFault). is_damage (stop_of r)) c.in-Err.is ∙ whole)) (e.failed ∙ ap fails (sym none))
     (subst (HasCause (g.D.Disk.state pool.io.disk.now).faults (g.D.Disk.state put.io.disk.now).faults) (sym none)
     (cause_none (g.D.Disk.state pool.io.disk.now).faults (g.D.Disk.state c.read.new.io.disk.now).faults (g.D.Disk.state put.io.disk.now).faults _ read.later e.cause)) (λ told. read_honest g at (e.honest told)) (e.same ∙ read_same g at)
+    (λ apart. read_stood g at (g.D.Disk.state put.io.disk.now) (e.stood (λ told. absurd (cc told)))) (let fills = read_fills g at in e.size ∙ fills.size)
 
 pub returns-in-Ok-put-2-clause-receive : goal.returns-in-Ok-put-2-clause-receive
 returns-in-Ok-put-2-clause-receive g c =
@@ -669,6 +704,7 @@ returns-in-Ok-put-clause-pool g c =
     let put = c.put.new.pool in
     let e = c.in-Ok-put.ensures.commits in
     let read = read_cause g at in
+    let fills = read_fills g at in
     let old = g.D.Disk.state pool.io.disk.now in
     let two = g.D.Disk.state c.read.new.io.disk.now in
     let three = g.D.Disk.state put.io.disk.now in
@@ -678,12 +714,55 @@ returns-in-Ok-put-clause-pool g c =
     (λ goes.
     let live : is_live batch.stage ≡ true = not-false (is_live batch.stage) (sym c.go_on.ensures.done ∙ goes) in
     let none = λ (waits : waits_at batch.stage ≡ true). still_idle batch c.new-batch.result c.read.ensures.gathers.waits c.new-batch.ensures.taken waits in
-    let fills = subst (λ (d : DiskState). FillsFree d free two c.read.new.io.space) (ap (λ (d : g.row.D.Denot). g.D.Disk.state d) c.renew.ensures.disk.now)
-    (subst (λ (s : FreeSectors). FillsFree (g.D.Disk.state c.renew.new.self.io.disk.now) s two c.read.new.io.space) c.renew.ensures.space c.read.ensures.writes.fills.fills) in
     keeps_behind old two three free c.read.new.io.space (free_by put.kept.body) batch.taken fills
     (λ idle. let same = c.put.ensures.idle idle in (ap (λ (d : g.row.D.Denot). g.D.Disk.state d) same.0, ap (λ (k : PoolState). free_by k.body) (same.1 ∙ c.renew.ensures.kept)))
     (λ taken. (c.in-Ok-put.ensures.free taken (live_partial batch.stage live (λ waits. let both = sym taken ∙ none waits in cc (both)))).1))
     e.ready (e.told refl ∙ read_told g at (ap (λ (r : Result (Unit {0}) RecvFault). is_damage (stop_of r)) c.in-Ok.is)) e.failed (cause_none old.faults two.faults three.faults _ read.later e.cause) (λ told. read_honest g at (e.honest told)) (e.same ∙ read_same g at)
+    (read_stood g at three (e.stood (λ told. absurd (cc told)))) (e.size ∙ fills.size)
+
+pub returns-in-Ok-put-clause-makes : goal.returns-in-Ok-put-clause-makes
+returns-in-Ok-put-clause-makes g c = λ honest goes.
+    let at = (goal.at.returns-in-Ok-put-clause-makes g c).After-read in
+    let pool = c.args.pool.now in
+    let put = c.put.new.pool in
+    let recv = c.args.self.now in
+    let old = g.D.Disk.state pool.io.disk.now in
+    let two = g.D.Disk.state c.read.new.io.disk.now in
+    let three = g.D.Disk.state put.io.disk.now in
+    let free = free_by pool.kept.body in
+    let left = free_by put.kept.body in
+    let batch = c.read.new.batch in
+    let fills = read_fills g at in
+    let live : is_live batch.stage ≡ true = not-false (is_live batch.stage) (sym c.go_on.ensures.done ∙ not-true c.go_on.result.done goes) in
+    let none = λ (waits : waits_at batch.stage ≡ true). still_idle batch c.new-batch.result c.read.ensures.gathers.waits c.new-batch.ensures.taken waits in
+    let kept =
+    keeps_behind old two three free c.read.new.io.space left batch.taken fills
+    (λ idle. let same = c.put.ensures.idle idle in (ap (λ (d : g.row.D.Denot). g.D.Disk.state d) same.0, ap (λ (k : PoolState). free_by k.body) (same.1 ∙ c.renew.ensures.kept)))
+    (λ taken. (c.in-Ok-put.ensures.free taken (live_partial batch.stage live (λ waits. let both = sym taken ∙ none waits in cc (both)))).1) in
+    let made =
+    piece_made pool.kept.dir recv.ask.target old two free c.read.new.io.space fills three.seen left recv.stage batch.stage batch.taken (read_comes g at (c.in-Ok-put.ensures.commits.honest honest))
+    (λ untaken_so. ap (λ (b : batches.Batch). b.stage) (c.read.ensures.gathers.idle untaken_so) ∙ began_at g at) kept
+    (λ taken lives. (c.in-Ok-put.ensures.free taken lives).1) in
+    subst (λ (s : coded.Stage). MakesStage pool.kept.dir recv.ask.target old.seen free old.size recv.stage three.seen left s) (sym c.go_on.ensures.stage)
+    (makes_behind pool.kept.dir recv.ask.target old.seen free old.size recv.stage three.seen left batch.stage made)
+
+pub returns-then-pool-clause-makes : goal.returns-then-pool-clause-makes
+returns-then-pool-clause-makes g c = λ honest goes. absurd (cc goes)
+
+pub returns-then-piece-started-clause-makes : goal.returns-then-piece-started-clause-makes
+returns-then-piece-started-clause-makes g c = λ honest goes. absurd (cc goes)
+
+pub returns-in-Err-2-clause-makes : goal.returns-in-Err-2-clause-makes
+returns-in-Err-2-clause-makes g c = λ honest goes. absurd (cc goes)
+
+pub returns-in-Err-put-clause-makes : goal.returns-in-Err-put-clause-makes
+returns-in-Err-put-clause-makes g c = λ honest goes. absurd (cc goes)
+
+pub returns-in-Err-put-2-clause-makes : goal.returns-in-Err-put-2-clause-makes
+returns-in-Err-put-2-clause-makes g c = λ honest goes. absurd (cc goes)
+
+pub returns-in-Ok-put-2-clause-makes : goal.returns-in-Ok-put-2-clause-makes
+returns-in-Ok-put-2-clause-makes g c = λ honest goes. absurd (cc goes)
 
 pub returns-in-Ok-put-clause-receive : goal.returns-in-Ok-put-clause-receive
 returns-in-Ok-put-clause-receive g c =
