@@ -1,5 +1,5 @@
 -- Tokens that a send accepts.
-use Rattle.std.proofs.Common.{◌≡◌, ◌≢◌, ℕ, ◌<◌, Bool, true, false, not, ◌&&◌, ◌||◌, ◌==◌, List, length, Option, Some, None, option_map, Result, Ok, Err, Contains, bytes_eq, if◌then◌else◌, refl, sym, ap, ◌∙◌, find}
+use Rattle.std.proofs.Common.{◌≡◌, ◌≢◌, ℕ, ◌<◌, Bool, true, false, not, ◌&&◌, ◌||◌, ◌==◌, List, [], length, Option, Some, None, option_map, Result, Ok, Err, Contains, bytes_eq, if◌then◌else◌, refl, sym, ap, ◌∙◌, find}
 use Rattle.std.specs.Option.{ok_or, option_or}
 use Rattle.std.proofs.lemmas.Bool.{and_from, and_parts, eq-eqb, eqb-true, lt-ltb, ne_eqb, not_from_true, or_from}
 use Rattle.zst_model.specs.declared.refusals.faults.Lack.TheVariants as lacks
@@ -50,7 +50,7 @@ module _ (token : Token) (pool : Pool) where
   -- ---- what it is from
 
   module _ (lawful : IsPool pool) (sound : Sound pool) (sent : Snapshot) (there : Contains pool.snapshots sent) where
-    snapshot_is : (s : Snapshot) → Contains pool.snapshots s → is_from token pool sent (OfSnapshot s) ≡ true → IsSnapshotFrom token pool sent s
+    pub snapshot_is : (s : Snapshot) → Contains pool.snapshots s → is_from token pool sent (OfSnapshot s) ≡ true → IsSnapshotFrom token pool sent s
     snapshot_is s k e =
         let both = and_parts (s.guid == token.from) (bytes_eq s.redact token.from_redact && comes_before pool (OfSnapshot s) sent) e in
         let rest = and_parts (bytes_eq s.redact token.from_redact) (comes_before pool (OfSnapshot s) sent) both.1 in
@@ -60,7 +60,7 @@ module _ (token : Token) (pool : Pool) where
           before = (before_tested pool (OfSnapshot s) sent lawful sound k there).0 rest.1;
         }
 
-    mark_is : (b : Bookmark) → Contains pool.bookmarks b → is_from token pool sent (OfBookmark b) ≡ true → IsMarkFrom token pool sent b
+    pub mark_is : (b : Bookmark) → Contains pool.bookmarks b → is_from token pool sent (OfBookmark b) ≡ true → IsMarkFrom token pool sent b
     mark_is b k e =
         let both = and_parts (b.guid == token.from) (bytes_eq b.redact token.from_redact && comes_before pool (OfBookmark b) sent) e in
         let rest = and_parts (bytes_eq b.redact token.from_redact) (comes_before pool (OfBookmark b) sent) both.1 in
@@ -70,20 +70,33 @@ module _ (token : Token) (pool : Pool) where
           before = (before_tested pool (OfBookmark b) sent lawful sound k there).0 rest.1;
         }
 
-    snapshot_before : (s : Snapshot) → IsFirst (IsSnapshotFrom token pool sent) pool.snapshots s → comes_before pool (OfSnapshot s) sent ≡ true
-    snapshot_before s first =
-        (before_tested pool (OfSnapshot s) sent lawful sound (first_there (IsSnapshotFrom token pool sent) pool.snapshots s first) there).1 first.holds.before
+    snapshot_before : (s : Snapshot) → Contains pool.snapshots s → IsSnapshotFrom token pool sent s → comes_before pool (OfSnapshot s) sent ≡ true
+    snapshot_before s k is = (before_tested pool (OfSnapshot s) sent lawful sound k there).1 is.before
 
-    mark_before : (b : Bookmark) → IsFirst (IsMarkFrom token pool sent) pool.bookmarks b → comes_before pool (OfBookmark b) sent ≡ true
-    mark_before b first =
-        (before_tested pool (OfBookmark b) sent lawful sound (first_there (IsMarkFrom token pool sent) pool.bookmarks b first) there).1 first.holds.before
+    mark_before : (b : Bookmark) → Contains pool.bookmarks b → IsMarkFrom token pool sent b → comes_before pool (OfBookmark b) sent ≡ true
+    mark_before b k is = (before_tested pool (OfBookmark b) sent lawful sound k there).1 is.before
+
+    pub snapshot_passes : (s : Snapshot) → Contains pool.snapshots s → IsSnapshotFrom token pool sent s → is_from token pool sent (OfSnapshot s) ≡ true
+    snapshot_passes s k is =
+        and_from (s.guid == token.from) (bytes_eq s.redact token.from_redact && comes_before pool (OfSnapshot s) sent) (eq-eqb s.guid token.from is.guid)
+        (and_from (bytes_eq s.redact token.from_redact) (comes_before pool (OfSnapshot s) sent) (bytes_same s.redact token.from_redact is.redact) (snapshot_before s k is))
+
+    pub mark_passes : (b : Bookmark) → Contains pool.bookmarks b → IsMarkFrom token pool sent b → is_from token pool sent (OfBookmark b) ≡ true
+    mark_passes b k is =
+        and_from (b.guid == token.from) (bytes_eq b.redact token.from_redact && comes_before pool (OfBookmark b) sent) (eq-eqb b.guid token.from is.guid)
+        (and_from (bytes_eq b.redact token.from_redact) (comes_before pool (OfBookmark b) sent) (bytes_same b.redact token.from_redact is.redact) (mark_before b k is))
+
+    first_snapshot_there : (s : Snapshot) → IsFirst (IsSnapshotFrom token pool sent) pool.snapshots s → Contains pool.snapshots s
+    first_snapshot_there s first = first_there (IsSnapshotFrom token pool sent) pool.snapshots s first
+
+    first_mark_there : (b : Bookmark) → IsFirst (IsMarkFrom token pool sent) pool.bookmarks b → Contains pool.bookmarks b
+    first_mark_there b first = first_there (IsMarkFrom token pool sent) pool.bookmarks b first
 
     snapshot_found : (s : Snapshot) → IsFirst (IsSnapshotFrom token pool sent) pool.snapshots s → first_snapshot token pool sent ≡ Some (OfSnapshot s)
     snapshot_found s first =
         ap (λ (o : Option Snapshot). option_map OfSnapshot o)
         (first_found (λ x. is_from token pool sent (OfSnapshot x)) (IsSnapshotFrom token pool sent) pool.snapshots snapshot_is s
-        (and_from (s.guid == token.from) (bytes_eq s.redact token.from_redact && comes_before pool (OfSnapshot s) sent) (eq-eqb s.guid token.from first.holds.guid)
-        (and_from (bytes_eq s.redact token.from_redact) (comes_before pool (OfSnapshot s) sent) (bytes_same s.redact token.from_redact first.holds.redact) (snapshot_before s first))) first)
+        (snapshot_passes s (first_snapshot_there s first) first.holds) first)
 
     no_snapshot : NoneHolds (IsSnapshotFrom token pool sent) pool.snapshots → first_snapshot token pool sent ≡ None
     no_snapshot none =
@@ -94,8 +107,7 @@ module _ (token : Token) (pool : Pool) where
     mark_found b first =
         ap (λ (o : Option Bookmark). option_map OfBookmark o)
         (first_found (λ x. is_from token pool sent (OfBookmark x)) (IsMarkFrom token pool sent) pool.bookmarks mark_is b
-        (and_from (b.guid == token.from) (bytes_eq b.redact token.from_redact && comes_before pool (OfBookmark b) sent) (eq-eqb b.guid token.from first.holds.guid)
-        (and_from (bytes_eq b.redact token.from_redact) (comes_before pool (OfBookmark b) sent) (bytes_same b.redact token.from_redact first.holds.redact) (mark_before b first))) first)
+        (mark_passes b (first_mark_there b first) first.holds) first)
 
     no_mark : NoneHolds (IsMarkFrom token pool sent) pool.bookmarks → first_bookmark token pool sent ≡ None
     no_mark none =
@@ -132,10 +144,10 @@ module _ (token : Token) (pool : Pool) where
     stands redaction (FromNothing zero) = refl
     stands redaction (FromSnapshot s some first whole) =
         passed (not (comes_before pool (OfSnapshot s) sent)) (plans.NotAncestor (names.Snapshot sent.name) (name_of_source (OfSnapshot s))) (past_source (Some (OfSnapshot s)) redaction)
-        (not_from_true (comes_before pool (OfSnapshot s) sent) (snapshot_before s first))
+        (not_from_true (comes_before pool (OfSnapshot s) sent) (snapshot_before s (first_snapshot_there s first) first.holds))
     stands redaction (FromMark b some none first) =
         passed (not (comes_before pool (OfBookmark b) sent)) (plans.NotAncestor (names.Snapshot sent.name) (name_of_source (OfBookmark b))) (past_source (Some (OfBookmark b)) redaction)
-        (not_from_true (comes_before pool (OfBookmark b) sent) (mark_before b first))
+        (not_from_true (comes_before pool (OfBookmark b) sent) (mark_before b (first_mark_there b first) first.holds))
 
     is_whole : {source : Option Source} → IsSentFrom token pool sent source → is_redacted source ≡ false
     is_whole (FromNothing zero) = refl
@@ -144,10 +156,14 @@ module _ (token : Token) (pool : Pool) where
 
   -- ---- the redaction bookmark
 
-  mark_of : (b : Bookmark) → is_marked token b ≡ true → IsMarkOf token b
+  pub mark_of : (b : Bookmark) → is_marked token b ≡ true → IsMarkOf token b
   mark_of b e =
       let both = and_parts (b.guid == token.to) (bytes_eq b.redact token.redact) e in
       (eqb-true b.guid token.to both.0, same_bytes b.redact token.redact both.1)
+
+  pub mark_is_found : (b : Bookmark) → IsMarkOf token b → is_marked token b ≡ true
+  mark_is_found b is =
+      and_from (b.guid == token.to) (bytes_eq b.redact token.redact) (eq-eqb b.guid token.to is.0) (bytes_same b.redact token.redact is.1)
 
   abbrev marked_found : Option Bookmark → Result (Option Bookmark) PlanFault
   marked_found found = ok_or (option_map Some found) (no_guid token.to)
@@ -160,8 +176,7 @@ module _ (token : Token) (pool : Pool) where
   redaction_found (ByMark b some first) =
       ap if_marked (lt-ltb 0 (length token.redact) some)
       ∙ ap marked_found
-      (first_found (is_marked token) (IsMarkOf token) pool.bookmarks (λ x k e. mark_of x e) b
-      (and_from (b.guid == token.to) (bytes_eq b.redact token.redact) (eq-eqb b.guid token.to first.holds.0) (bytes_same b.redact token.redact first.holds.1)) first)
+      (first_found (is_marked token) (IsMarkOf token) pool.bookmarks (λ x k e. mark_of x e) b (mark_is_found b first.holds) first)
 
   no_redaction : 0 < length token.redact → NoneHolds (IsMarkOf token) pool.bookmarks → find_marked token pool ≡ Err (no_guid token.to)
   no_redaction some none =
@@ -179,8 +194,10 @@ module _ (token : Token) (pool : Pool) where
       (ap (λ (gs : List ℕ). has_guids gs) mark.holds.1 ∙ lt-ltb 0 (length token.redact) some)
       (eq-eqb b.guid sent.guid (mark.holds.0 ∙ sym first.holds))))
 
-pub accepted : TokensAreAccepted
-accepted token pool sent source redaction dataset lawful sound first whole from marked found =
+pub accepted_so : (token : Token) (pool : Pool) (sent : Snapshot) (source : Option Source) (redaction : Option Bookmark)
+    → IsPool pool → Sound pool → IsFirstTo token pool sent → sent.redact ≡ [] → IsSentFrom token pool sent source → IsRedactedBy token pool redaction
+    → resumed_send token pool ≡ Ok (record { snapshot = sent; kind = kind_of pool sent; source = source; redaction = redaction })
+accepted_so token pool sent source redaction lawful sound first whole from marked =
     let there = first_there (λ (s : Snapshot). s.guid ≡ token.to) pool.snapshots sent first in
     let relay : Result Sent PlanFault = Ok (record { snapshot = sent; kind = kind_of pool sent; source = source; redaction = redaction }) in
     sent_by token pool
@@ -191,6 +208,10 @@ accepted token pool sent source redaction dataset lawful sound first whole from 
     ∙ redacts_it token pool sent (if_no_relay sent source relay) first marked
     ∙ passed (has_guids sent.redact || is_redacted source) (plans.Unsupported lacks.Relay) relay
     (or_from (has_guids sent.redact) (is_redacted source) (ap (λ (gs : List ℕ). has_guids gs) whole) (is_whole token pool lawful sound sent there from))
+
+pub accepted : TokensAreAccepted
+accepted token pool sent source redaction dataset lawful sound first whole from marked found =
+    accepted_so token pool sent source redaction lawful sound first whole from marked
     ∙ ap (λ (kind : ℕ). Ok (record { snapshot = sent; kind = kind; source = source; redaction = redaction })) (kind_found pool sent dataset found)
 
 pub sent_absent : SentIsAbsent

@@ -1,8 +1,10 @@
 -- What is found first in a list, and what is found last.
 use Rattle.std.proofs.Common.{◌≡◌, inl, inr, ◌⊎◌, Bool, true, false, cond, List, [], ◌∷◌, ◌++◌, Some, None, Contains, AllPairs, filter, find, refl, sym, ap, ◌∙◌, subst}
-use Rattle.std.proofs.lemmas.Bool.{false_from_ne_true}
+use Rattle.std.proofs.lemmas.Bool.{false_from_ne_true, true≢false}
+use Rattle.std.proofs.lemmas.Option.{same_Some}
 use Rattle.std.proofs.lemmas.List.Elements.{All-head, Contains-append_left}
 use Rattle.zst_model.proofs.InsertedLaws.{contains_cases, contains_first, contains_later, contains_nothing, AllPairs-head, AllPairs-tail}
+use Rattle.zst_model.proofs.FoundElements.{none_passes}
 use Rattle.zst_laws.proofs.pools.Rows.{none_from_absent}
 use Rattle.zst_laws.specs.LineageRefusals.{NoneHolds}
 use Rattle.zst_plan.specs.AcceptedStreams.{IsFirst}
@@ -35,6 +37,40 @@ first_there {A = A} Is xs x first = subst (λ (ys : List A). Contains ys x) (sym
     go : (before : List A) → Contains (before ++ x ∷ first.behind) x
     go [] = contains_first x first.behind
     go (y ∷ before) = contains_later y (before ++ x ∷ first.behind) x (go before)
+
+-- what a test of something finds is the first of which it holds, and where it finds none, it holds of none
+pub found_is_first : {A : Type 0} (p : A → Bool) (Is : A → Type 0) (xs : List A) → ((y : A) → Contains xs y → p y ≡ true → Is y) → ((y : A) → Contains xs y → Is y → p y ≡ true)
+    → (x : A) → find p xs ≡ Some x → IsFirst Is xs x
+found_is_first {A = A} p Is [] says passes x h = absurd (cc)
+found_is_first {A = A} p Is (y ∷ ys) says passes x h =
+    go (p y) refl h (found_is_first p Is ys (λ z k. says z (contains_later y ys z k)) (λ z k. passes z (contains_later y ys z k)) x)
+  where
+    none : (before : List A) → NoneHolds Is before → p y ≡ false → (z : A) → (y ≡ z) ⊎ Contains before z → Is z → ⊥
+    none before others e z (inl same) holds = true≢false (sym (passes y (contains_first y ys) (subst Is (sym same) holds)) ∙ e)
+    none before others e z (inr k) holds = others z k holds
+
+    go : (t : Bool) → p y ≡ t → cond t (Some y) (find p ys) ≡ Some x → (find p ys ≡ Some x → IsFirst Is ys x) → IsFirst Is (y ∷ ys) x
+    go true e is rest =
+        let same = same_Some y x is in
+        record {
+          before = [];
+          behind = ys;
+          stands = ap (λ (z : A). z ∷ ys) same;
+          holds = subst Is same (says y (contains_first y ys) e);
+          none_before = λ z k. absurd (contains_nothing z k);
+        }
+    go false e is rest =
+        let later = rest is in
+        record {
+          before = y ∷ later.before;
+          behind = later.behind;
+          stands = ap (λ (zs : List A). y ∷ zs) later.stands;
+          holds = later.holds;
+          none_before = λ z k. none later.before later.none_before e z (contains_cases y later.before z k);
+        }
+
+pub none_holds : {A : Type 0} (p : A → Bool) (Is : A → Type 0) (xs : List A) → ((y : A) → Contains xs y → Is y → p y ≡ true) → find p xs ≡ None → NoneHolds Is xs
+none_holds p Is xs passes h y k holds = true≢false (sym (passes y k holds) ∙ none_passes p xs h y k)
 
 -- a filter that none passes leaves nothing
 pub filter_none : {A : Type 0} (p : A → Bool) (xs : List A) → ((x : A) → Contains xs x → p x ≡ false) → filter p xs ≡ []

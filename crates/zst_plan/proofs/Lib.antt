@@ -16,4 +16,5 @@ mod PlanSteps
 mod AcceptedStreams
 mod AcceptedTokens
 mod RefusedStreams
+mod SentTokens
 pub mod AlikeAnswers

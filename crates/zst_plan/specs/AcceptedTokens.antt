@@ -1,13 +1,19 @@
 -- What a send from a token gives, and where what the token states is absent (zfs-send(8), -t).
-use Rattle.std.specs.Prelude.{◌≡◌, ◌≢◌, ◌<◌, [], length, Option, Some, None, Ok, Err}
+use Rattle.std.specs.Prelude.{◌≡◌, ◌≢◌, ◌<◌, [], length, Option, Some, None, Ok, Err, Contains}
 use Rattle.zst_model.specs.declared.refusals.subjects.AbsentSubject.TheVariants as missing
 use Rattle.zst_model.specs.declared.refusals.plan_fault.PlanFault.TheVariants as plans
 use Rattle.zst_model.specs.pools.Ancestry.{Source, OfSnapshot, OfBookmark}
 use Rattle.zst_model.specs.pools.Pool.{Pool, Dataset, Snapshot, Bookmark, IsPool, dataset_named, dataset_of_snapshot}
 use Rattle.zst_model.specs.pools.Soundness.{Sound}
+use Rattle.zst_model.specs.declared.sends.ask.SendAsk.{SendAsk}
+use Rattle.zst_model.specs.declared.sends.header.Point.{Point}
+use Rattle.zst_model.specs.sends.Headers.{Sent, from_guid, header_of, redaction_guids, source_guids}
+use Rattle.zst_model.specs.sends.SendPlan.{send_plan}
 use Rattle.zst_laws.specs.LineageRefusals.{NoneHolds}
 use Rattle.zst_laws.specs.SendPlans.{StandsBeforeSnapshot}
+use Rattle.zst_laws.specs.RedactionLists.{HaveOwnGuids}
 use Rattle.zst_token.specs.declared.token.Token.{Token}
+use Rattle.zst_token.specs.PartialToken.{token_for}
 use Rattle.zst_plan.specs.AcceptedStreams.{IsFirst}
 use Rattle.zst_plan.specs.ResumePlan.{resumed_send}
 
@@ -75,3 +81,22 @@ MarkIsAbsent =
     (token : Token) (pool : Pool) (sent : Snapshot) (source : Option Source)
     → IsPool pool → Sound pool → IsFirstTo token pool sent → IsSentFrom token pool sent source → 0 < length token.redact → NoneHolds (IsMarkOf token) pool.bookmarks
     → resumed_send token pool ≡ Err (plans.NoSuch (missing.Guid token.to))
+
+-- a send gives the snapshot that another gave, from the same guid and for the same redaction guids
+pub record IsAgain (sent again : Sent) : Type 0 where
+  pub snapshot : again.snapshot ≡ sent.snapshot
+  pub kind : again.kind ≡ sent.kind
+  pub from : from_guid again.source ≡ from_guid sent.source
+  pub from_redact : source_guids again.source ≡ source_guids sent.source
+  pub redact : redaction_guids again.redaction ≡ redaction_guids sent.redaction
+
+-- no snapshot with the guid of what was sent from is redacted
+abbrev pub HasWholeSource : Pool → Sent → Type 0
+HasWholeSource pool sent = (s : Snapshot) → Contains pool.snapshots s → s.guid ≡ from_guid sent.source → s.redact ≡ []
+
+-- whatever a send gives, the token of its header gives again, at any point, where no two snapshots have one guid
+abbrev pub SendsHaveTokens : Type 0
+SendsHaveTokens =
+    (ask : SendAsk) (pool : Pool) (sent : Sent) (point : Point)
+    → IsPool pool → Sound pool → HaveOwnGuids pool → HasWholeSource pool sent → send_plan ask pool ≡ Ok sent
+    → (again : Sent) × (resumed_send (token_for (header_of sent) point) pool ≡ Ok again) × IsAgain sent again

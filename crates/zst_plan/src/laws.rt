@@ -1,5 +1,5 @@
 ghost use Rattle.zst_plan.specs.AcceptedStreams.{StreamsBegin, StreamsGoOn, GoingOnIsExact};
-ghost use Rattle.zst_plan.specs.AcceptedTokens.{TokensAreAccepted, SentIsAbsent, FromIsAbsent, MarkIsAbsent};
+ghost use Rattle.zst_plan.specs.AcceptedTokens.{TokensAreAccepted, SendsHaveTokens, SentIsAbsent, FromIsAbsent, MarkIsAbsent};
 ghost use Rattle.zst_plan.specs.ContainedBases.{ContainedIsCovered};
 ghost use Rattle.zst_plan.specs.RefusedStreams.{NameStops, NameHasNoMark, PartialIsThere, PartialIsElsewhere, PartialIsAbsent};
 ghost use Rattle.zst_plan.specs.RefusedStreams.{TargetIsThere, LatestIsAnother, LatestIsAbsent, TargetIsOfKind, HeadIsChanged, MarkIsLater};
@@ -75,4 +75,9 @@ pub fn tokens_are_accepted()
     ensures sent { SentIsAbsent }
     ensures from { FromIsAbsent }
     ensures mark { MarkIsAbsent }
+{}
+
+/// What a send gave, the token of its header gives again.
+pub fn sends_have_tokens()
+    ensures { SendsHaveTokens }
 {}

@@ -1,7 +1,6 @@
 -- What a feed answers at each of its ends.
 use Rattle.std.proofs.Common.{◌≡◌, ◌⊎◌, inl, inr, ℕ, ◌+◌, ◌-◌, ◌^◌, ◌<◌, ◌≤◌, ◌++◌, min, arith, ◌&&◌, Bool, true, false, cond, List, length, Option, Some, None, Ok, Err, refl, sym, ap, ◌∙◌, subst}
 use Rattle.std.specs.Prelude.{IsSome, not, sum_by, IfErr, IfSome, Result}
-use Rattle.zst_uber.specs.declared.uber.Uber.{Uber}
 use Rattle.std.proofs.lemmas.List.{length-drop}
 use Rattle.zst_outside.specs.Images.{DiskState, Leaves-none}
 use Rattle.zst_space.specs.FreeSectors.{FreeSectors}
@@ -63,12 +62,9 @@ module _ (old one : DiskState) (kept same : PoolState) (space : FreeSectors) (di
 
 -- ---- what is left
 
-abbrev state_of : Uber → Rows → PoolState
-state_of body rows = record { body = body; dir = rows }
-
 -- what is kept of a pool whose rows alone changed
 pub dropped_is : (target : List ℕ) (before after : PoolState) → after.dir ≡ (kept_without true target before).dir → after.body ≡ before.body → after ≡ kept_without true target before
-dropped_is target before after rows body = ap (λ (b : Uber). state_of b after.dir) body ∙ ap (state_of before.body) rows
+dropped_is target before after rows body = ap (λ b. record before { body = b; dir = after.dir }) body ∙ ap (λ (d : Rows). record before { dir = d }) rows
 
 -- a receive that is over has no partial state under way
 pub over_leaves : (code : coded.Stage) (target : List ℕ) (kept : PoolState) → is_live code ≡ false → kept ≡ kept_without (has_partial code) target kept

@@ -4,7 +4,7 @@ mod RecordCounts
 mod OwnRefusals
 mod DrainLemmas
 mod PieceFronts
-mod RecordOrder
+pub mod RecordOrder
 mod HandedRecords
 mod CoveredEnds
 mod BatchStages

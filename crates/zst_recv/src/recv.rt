@@ -136,8 +136,8 @@ impl Recv {
         // As long as BEGIN isn't covered nothing is committed.
         ensures waits { is_waiting self.new ≡ true → pool.new.kept ≡ pool.old.kept }
         // After a refusal that keeps no records before it, what is kept of the pool stays, but for a partial state under way that isn't kept.
-        ensures refused { (fault : RecvFault) → pool.old.io.failed ≡ false → result ≡ Err fault → keeps_before fault ≡ false
-            → pool.new.kept ≡ kept_without (has_partial (stage_of self.old)) (ask_of self.old).target pool.old.kept }
+        ensures refused { pool.old.io.failed ≡ false
+            → IfErr result (λ fault. keeps_before fault ≡ false → pool.new.kept ≡ kept_without (has_partial (stage_of self.old)) (ask_of self.old).target pool.old.kept) }
         ensures pool { LeavesPool pool.old pool.new result }
         ensures receive { LeavesReceive pool.new.kept.dir piece.now self.old self.new result }
     {

@@ -19,20 +19,11 @@ use Rattle.zst_stream.specs.Items.{items_by, items_of}
 use Rattle.zst_stream.specs.PassedRecords.{IsBegin}
 use Rattle.zst_stream.proofs.ItemStreams.{say_append}
 use Rattle.zst_recv.specs.ReceiveSteps.{Stage, Waits, Lives, Ends, Batch, batch_of, batch_by, began, begun, moved_by, of_plan, opened, taken, taken_at, went_on, with_applied}
-use Rattle.zst_replication.specs.Resumption.{IsApplied}
+use Rattle.zst_replication.specs.Resumption.{AppliedBehind}
 use Rattle.zst_replication.proofs.RecordEffects.{all_applied, applied_on, moves}
 use Rattle.zst_replication.proofs.FirstRecords.{FirstIsBegin}
 use Rattle.zst_replication.proofs.Results.{plan_ok}
 use Rattle.zst_replication.proofs.StreamRecords.{IsEnd}
-
--- behind these records a partial state is what they make of that with which it began, and the first of them is the BEGIN that was planned
-pub record AppliedBehind (ask : RecvAsk) (start : Pool) (records : List Covered) (flags : ℕ) (partial : Partial) : Type 0 where
-  pub is : IsApplied ask start flags (items_of flags records) partial
-  pub first : Covered
-  pub rest : List Covered
-  pub len : ℕ
-  pub records_are : records ≡ first ∷ rest
-  pub head_is : first.head ≡ heads.Begin is.header len
 
 -- so it is behind those up to END; what stands behind END isn't taken
 pub record BehindEnd (ask : RecvAsk) (start : Pool) (records : List Covered) (partial : Partial) : Type 0 where
@@ -107,7 +98,7 @@ module _ (law : ReceivedIsApplied) (ask : RecvAsk) (start pool : Pool) where
   -- ---- the records behind it
 
   -- one record more
-  behind_on : (c : Covered) (records : List Covered) (flags : ℕ) (partial next : Partial) → AppliedBehind ask start records flags partial
+  pub behind_on : (c : Covered) (records : List Covered) (flags : ℕ) (partial next : Partial) → AppliedBehind ask start records flags partial
       → apply_all (items_by flags c.payload c.head) partial.objects.state ≡ Ok next.objects.state → next.point ≡ point_of partial.point (items_by flags c.payload c.head)
       → next ≡ record partial { objects = next.objects; point = next.point } → AppliedBehind ask start (records ++ c ∷ []) flags next
   behind_on c records flags partial next behind applied point further =
@@ -161,7 +152,7 @@ module _ (law : ReceivedIsApplied) (ask : RecvAsk) (start pool : Pool) where
   went_applied c records flags partial batch after (heads.Spill object size to) head is behind e = moved_applied c records flags partial batch after behind e
   went_applied c records flags partial batch after (heads.Redact object offset size to) head is behind e = moved_applied c records flags partial batch after behind e
 
-  taken_applied : (c : Covered) (records : List Covered) (batch after : Batch) (stage : Stage) → batch.stage ≡ stage → (records ≡ [] → IsBegin c.head) → Applied ask start pool stage records
+  pub taken_applied : (c : Covered) (records : List Covered) (batch after : Batch) (stage : Stage) → batch.stage ≡ stage → (records ≡ [] → IsBegin c.head) → Applied ask start pool stage records
       → taken_at ask pool c batch stage ≡ Ok after → Applied ask start pool after.stage (records ++ c ∷ [])
   taken_applied c records batch after Waits is begins applied e =
       subst (λ (cs : List Covered). Applied ask start pool after.stage (cs ++ c ∷ [])) (sym applied.1) (began_applied c batch after c.head refl (begins applied.1) applied.0 e)

@@ -15,7 +15,11 @@ mod ReplicaLemmas
 mod FreshReceives
 mod ResumedReceives
 mod Chains
+mod RefusedFeeds
+mod EndedReceives
 mod Pieces
+mod FeedFaults
+mod KeptReceives
 mod SendableStreams
 mod MatchingBases
 mod EarlierDates

@@ -3,7 +3,7 @@ use Rattle.std.proofs.Common.{◌≡◌, ℕ, ◌+◌, Bool, true, false, not, L
 use Rattle.std.specs.Prelude.{Contains, bytes_eq, IfSome, bit_and}
 use Rattle.std.specs.Option.{ok_or, option_map_or}
 use Rattle.std.proofs.lemmas.List.Elements.{All-contains}
-use Rattle.std.proofs.lemmas.Bool.{true≢false, not-false}
+use Rattle.std.proofs.lemmas.Bool.{and_parts, not-false, true≢false}
 use Rattle.std.proofs.lemmas.Bool.Decides.{nat_tests}
 use Rattle.std.proofs.lemmas.Option.{same_Some}
 use Rattle.zst_model.proofs.InsertedLaws.{contains_first, contains_later}
@@ -196,9 +196,22 @@ resumed_is header old plan e =
     let right = unless_ok (not (planning.goes_on old header)) (wrong_resume old header) (Ok (Resumes old)) plan going.1 in
     sym (ok_parts (Resumes old) plan right.1)
 
-pub resumes : (ask : RecvAsk) (header : Header) (pool : Pool) (old : Partial) (plan : RecvPlan) → partial_of ask.target pool ≡ Some old → recv_plan ask header pool ≡ Ok plan → plan ≡ Resumes old
+-- it is planned by that alone
+pub resumed_ok : (ask : RecvAsk) (header : Header) (pool : Pool) (old : Partial) (plan : RecvPlan) → partial_of ask.target pool ≡ Some old → recv_plan ask header pool ≡ Ok plan → resumed_plan header old ≡ Ok plan
 unfolding recv_plan
-resumes ask header pool old plan found e =
+resumed_ok ask header pool old plan found e =
     let next : List ℕ → Result RecvPlan PlanFault = λ component. option_map_or (resumed_plan header) (partial_of ask.target pool) (fresh_plan ask header component pool) in
     let named = bind_ok (component_for ask header) next plan e in
-    resumed_is header old plan (subst (λ (o : Option Partial). option_map_or (resumed_plan header) o (fresh_plan ask header named.0 pool) ≡ Ok plan) found named.2)
+    subst (λ (o : Option Partial). option_map_or (resumed_plan header) o (fresh_plan ask header named.0 pool) ≡ Ok plan) found named.2
+
+pub resumes : (ask : RecvAsk) (header : Header) (pool : Pool) (old : Partial) (plan : RecvPlan) → partial_of ask.target pool ≡ Some old → recv_plan ask header pool ≡ Ok plan → plan ≡ Resumes old
+resumes ask header pool old plan found e = resumed_is header old plan (resumed_ok ask header pool old plan found e)
+
+-- and the stream has its guids
+pub resumed_guids : (header : Header) (old : Partial) (plan : RecvPlan) → resumed_plan header old ≡ Ok plan → (old.header.to ≡ header.to) × (old.header.from ≡ header.from)
+resumed_guids header old plan e =
+    let going = unless_ok (not (is_resumed header)) (plans.PartialExists old.target) _ plan e in
+    let right = unless_ok (not (planning.goes_on old header)) (wrong_resume old header) (Ok (Resumes old)) plan going.1 in
+    let all = and_parts _ _ (not-false (planning.goes_on old header) right.0) in
+    let guids = and_parts (old.header.to == header.to) (old.header.from == header.from) all.0 in
+    (same_number old.header.to header.to guids.0, same_number old.header.from header.from guids.1)

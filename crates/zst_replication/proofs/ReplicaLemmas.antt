@@ -28,12 +28,13 @@ use Rattle.zst_send.specs.Sends.{begun, begun_text, begun_view}
 use Rattle.zst_recv.specs.Feeds.{receives}
 use Rattle.zst_recv.specs.ReceiveSteps.{Stage, Waits, Lives, Ends, Fed, Goes, Stops, opened, pool_of}
 use Rattle.zst_replication.specs.Grounds.{Grounds}
+use Rattle.zst_replication.specs.KeptReceives.{keep_by}
 use Rattle.zst_replication.specs.Outcomes.{HasOneMore, Progress, course_on}
 use Rattle.zst_replication.specs.Replicas.{AreOfStream, IsSendable}
-use Rattle.zst_replication.proofs.AppliedRecords.{Applied, AppliedBehind, BehindEnd}
+use Rattle.zst_replication.specs.Resumption.{AppliedBehind}
+use Rattle.zst_replication.proofs.AppliedRecords.{Applied, BehindEnd}
 use Rattle.zst_replication.proofs.FinishedReceives.{one_more, one_more_kept}
 use Rattle.zst_replication.proofs.FeedSequences.{Stands, Way, receives_way}
-use Rattle.zst_replication.proofs.RunningPools.{keep_by}
 use Rattle.zst_replication.proofs.StoppedReceives.{living_nothing, living_partial, start_untouched}
 use Rattle.zst_replication.proofs.StreamRecords.{Stream, all_said, begin_is, stream_of}
 

@@ -27,11 +27,11 @@ use Rattle.zst_recv.specs.Feeds.{receives}
 use Rattle.zst_recv.specs.ReceiveSteps.{pool_of}
 use Rattle.zst_recv.specs.Tokens.{token_of_partial}
 use Rattle.zst_replication.specs.Grounds.{Grounds}
+use Rattle.zst_replication.specs.KeptReceives.{keep_by}
 use Rattle.zst_replication.specs.Outcomes.{HasOneMore, Progress, course_on}
 use Rattle.zst_replication.specs.Resumption.{FitRestIsReceived, IsUnderway, RestIsReceived, ResumedStopsAreProgress, TokensGoOn}
 use Rattle.zst_replication.proofs.ReceivePlans.{resumes}
 use Rattle.zst_replication.proofs.ReplicaLemmas.{BeginsWith, made, progressed, received}
-use Rattle.zst_replication.proofs.RunningPools.{keep_by}
 
 -- ---- the receive
 

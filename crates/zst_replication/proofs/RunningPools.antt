@@ -18,6 +18,7 @@ use Rattle.zst_record.specs.Heads.{Covered}
 use Rattle.zst_recv.proofs.CommitLemmas.{commit_is}
 use Rattle.zst_recv.specs.Answers.{is_done}
 use Rattle.zst_recv.specs.ReceiveSteps.{Stage, Waits, Lives, Ends, Batch, at_stage, batch_of, batch_by, began, moved_by, of_plan, opened, put, put_at, taken, taken_at, went_on, with_applied}
+use Rattle.zst_replication.specs.KeptReceives.{keep_by}
 use Rattle.zst_replication.proofs.RecordEffects.{moves}
 use Rattle.zst_replication.proofs.ReceivePlans.{base_there, begins_anew, resumes}
 use Rattle.zst_replication.proofs.Results.{plan_ok}
@@ -78,10 +79,6 @@ abbrev pub Runs : RecvAsk → Pool → Stage → Pool → Type 0
 Runs ask start Waits pool = pool ≡ start
 Runs ask start (Lives flags partial) pool = AddsPartial ask start pool partial
 Runs ask start (Ends partial) pool = Finished ask start pool partial
-
--- whether a receive is one that is kept: as the target's partial state is, or as it was asked
-abbrev pub keep_by : RecvAsk → Pool → Bool
-keep_by ask start = option_map_or (λ old. old.keep) (partial_of ask.target start) ask.keep
 
 -- a partial state of such a receive
 pub record IsAsked (ask : RecvAsk) (start : Pool) (partial : Partial) : Type 0 where

@@ -29,7 +29,7 @@ module _ (ask : RecvAsk) (start pool : Pool) (partial : Partial) (asked : IsAske
   heads_kept (inl same) = inl (ap (λ (p : Pool). p.datasets) under.pool_is ∙ same)
   heads_kept (inr back) = inr (back.0.0, ap (λ (p : Pool). p.datasets) under.pool_is ∙ back.1)
 
-  untouched : IsUntouched ask (kept_of start) (kept_of pool)
+  pub untouched : IsUntouched ask (kept_of start) (kept_of pool)
   untouched = record {
     id = ap (λ (p : Pool). p.id) under.pool_is;
     guids = ap (λ (p : Pool). p.guids) under.pool_is;

@@ -6,3 +6,5 @@ pub mod Outcomes
 pub mod Replicas
 pub mod Resumption
 pub mod Soundness
+pub mod KeptReceives
+pub mod FeedFaults

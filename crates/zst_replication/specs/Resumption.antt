@@ -1,5 +1,5 @@
 -- The laws of a receive that is cut and goes on (zfs-receive(8), -s; zfs-send(8), -t).
-use Rattle.std.specs.Prelude.{ℕ, ◌≡◌, true, List, Some, None, Ok}
+use Rattle.std.specs.Prelude.{ℕ, ◌≡◌, true, List, ◌∷◌, Some, None, Ok}
 use Rattle.std.specs.List.{concat}
 use Rattle.zst_model.specs.declared.sends.header.Header.{Header}
 use Rattle.zst_model.specs.declared.sends.header.Point.{Point}
@@ -14,6 +14,8 @@ use Rattle.zst_model.specs.states.AppliedItems.{apply_all}
 use Rattle.zst_model.specs.states.State.{State, IsState}
 use Rattle.zst_plan.specs.RecvPlan.{Base, RecvPlan, Begins, Resumes, component_for, recv_plan}
 use Rattle.zst_plan.specs.declared.receive.RecvAsk.{RecvAsk}
+use Rattle.zst_record.specs.Heads.{Covered}
+use Rattle.zst_record.specs.declared.head.Head.TheVariants as heads
 use Rattle.zst_stream.specs.Items.{items_of}
 use Rattle.zst_stream.specs.Reading.{reading}
 use Rattle.zst_send.specs.Sends.{begun}
@@ -71,13 +73,39 @@ pub record IsApplied (ask : RecvAsk) (pool : Pool) (flags : ℕ) (items : List I
   pub reached : partial.point ≡ point_of begun.point items
   pub stays : partial ≡ record begun { objects = partial.objects; point = partial.point }
 
+-- behind these records a partial state is what they make of that with which it began, and the first of them is the BEGIN that was planned
+pub record AppliedBehind (ask : RecvAsk) (start : Pool) (records : List Covered) (flags : ℕ) (partial : Partial) : Type 0 where
+  pub is : IsApplied ask start flags (items_of flags records) partial
+  pub first : Covered
+  pub rest : List Covered
+  pub len : ℕ
+  pub records_are : records ≡ first ∷ rest
+  pub head_is : first.head ≡ heads.Begin is.header len
+
+-- a partial state that was begun has the header of the stream's BEGIN, and one that goes on the header that it had; both guids are BEGIN's
+pub record IsHeaded (ask : RecvAsk) (pool : Pool) (header : Header) (partial : Partial) : Type 0 where
+  pub fresh : partial_of ask.target pool ≡ None → partial.header ≡ header
+  pub resumed : (old : Partial) → partial_of ask.target pool ≡ Some old → partial.header ≡ old.header
+  pub to : partial.header.to ≡ header.to
+  pub from : partial.header.from ≡ header.from
+
 -- Whatever is read, and however it is cut into pieces: while a receive is under way, its partial state is what all records that the pieces cover
--- make of that with which it began, and where it is one that is kept, the image has it.
+-- make of that with which it began, by the header of the BEGIN among them, and where it is one that is kept, the image has it.
 abbrev pub PiecesAreApplied : Type 0
 PiecesAreApplied =
     (ask : RecvAsk) (pool now : Pool) (flags : ℕ) (partial : Partial) (pieces : List (List ℕ))
     → receives ask pool pieces ≡ Goes now (Lives flags partial)
-    → IsApplied ask pool flags (items_of flags (reading (concat pieces)).covered) partial × (partial.keep ≡ true → partial_of ask.target (kept_of now) ≡ Some partial)
+    → (behind : AppliedBehind ask pool (reading (concat pieces)).covered flags partial) × IsHeaded ask pool behind.is.header partial
+    × (partial.keep ≡ true → partial_of ask.target (kept_of now) ≡ Some partial)
+
+-- Whatever is read, from a send or not, and however it is cut into pieces: a receive into a lawful pool that comes to END makes one snapshot more,
+-- with BEGIN's guid and the state that all covered records make of that with which it began; nothing else changes.
+abbrev pub EndsAreApplied : Type 0
+EndsAreApplied =
+    (ask : RecvAsk) (pool after : Pool) (partial : Partial) (pieces : List (List ℕ))
+    → IsPool pool → receives ask pool pieces ≡ Goes after (Ends partial)
+    → (flags : ℕ) × (behind : AppliedBehind ask pool (reading (concat pieces)).covered flags partial) × IsHeaded ask pool behind.is.header partial
+    × HasOneMore pool after ask.target partial.component partial.base partial.header partial.objects.state
 
 -- The token of a partial state that is on its way names the point that stands there, and the stream that is sent by it goes on with that state.
 abbrev pub TokensGoOn : Type 0

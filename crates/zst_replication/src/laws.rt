@@ -3,7 +3,7 @@ ghost use Rattle.zst_replication.specs.Grounds.{Grounds};
 ghost use Rattle.zst_replication.specs.Histories.{EventsAreHistory, ReceivedRemembers, ReceivesRemember};
 ghost use Rattle.zst_replication.specs.MatchingBases.{BasesMatch, FullMatches, OneMoreIsKept, PlainCanBeSent, RestCanBeSent, SourceIsKnown};
 ghost use Rattle.zst_replication.specs.Replicas.{CutLeavesNothing, LeftIsKept, SentIsReceived, StopsAreProgress};
-ghost use Rattle.zst_replication.specs.Resumption.{ChainsAreUnderway, ChainsComplete, FitRestIsReceived, PiecesAreApplied, RestIsReceived, ResumedStopsAreProgress, TokensGoOn};
+ghost use Rattle.zst_replication.specs.Resumption.{ChainsAreUnderway, ChainsComplete, EndsAreApplied, FitRestIsReceived, PiecesAreApplied, RestIsReceived, ResumedStopsAreProgress, TokensGoOn};
 ghost use Rattle.zst_replication.specs.Soundness.{ReceivesKeepSound};
 
 /// What a feed applies is counted by the records that its text covers.
@@ -71,6 +71,15 @@ pub fn rest_is_received()
 /// records make of that with which it began, and the image has it where it is kept.
 pub fn pieces_are_applied()
     ensures { PiecesAreApplied }
+{
+    zst_laws::received_is_state();
+    zst_stream::fronts_agree();
+}
+
+/// Whatever is read, from a send or not: a receive that comes to END makes one snapshot more, with BEGIN's guid and the state
+/// that all covered records make of that with which it began.
+pub fn ends_are_applied()
+    ensures { EndsAreApplied }
 {
     zst_laws::received_is_state();
     zst_stream::fronts_agree();

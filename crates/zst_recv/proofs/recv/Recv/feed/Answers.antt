@@ -794,32 +794,31 @@ returns-in-Ok-put-clause-receive g c =
 -- ---- what a refusal leaves
 
 pub returns-then-pool-clause-refused : goal.returns-then-pool-clause-refused
-returns-then-pool-clause-refused g c = λ fault alive is keeps. absurd (let both : true ≡ false = sym c.if-pool.true ∙ alive in cc both)
+returns-then-pool-clause-refused g c = λ alive keeps. absurd (let both : true ≡ false = sym c.if-pool.true ∙ alive in cc both)
 
 pub returns-then-piece-started-clause-refused : goal.returns-then-piece-started-clause-refused
-returns-then-piece-started-clause-refused g c = λ fault alive is keeps.
+returns-then-piece-started-clause-refused g c = λ alive keeps.
     left_kept g (goal.at.returns-then-piece-started-clause-refused g c).After-has_partial-held c.args.pool.now.kept c.give_up.new.pool.kept c.give_up.ensures.kept refl
 
 pub returns-in-Err-2-clause-refused : goal.returns-in-Err-2-clause-refused
-returns-in-Err-2-clause-refused g c = λ fault alive is keeps.
+returns-in-Err-2-clause-refused g c = λ alive keeps.
     let gave = c.give_up-in-Err-2 in
     left_kept g (goal.at.returns-in-Err-2-clause-refused g c).After-has_partial-held c.renew.new.self.kept gave.new.pool.kept gave.ensures.kept c.renew.ensures.kept
 
 pub returns-in-Err-put-clause-refused : goal.returns-in-Err-put-clause-refused
-returns-in-Err-put-clause-refused g c = λ fault alive is keeps.
+returns-in-Err-put-clause-refused g c = λ alive keeps.
     let gave = c.give_up-in-Err-put in
     left_kept g (goal.at.returns-in-Err-put-clause-refused g c).After-has_partial-held c.put.new.pool.kept gave.new.pool.kept gave.ensures.kept (c.in-Err-put.ensures.commits.stays ∙ c.renew.ensures.kept)
 
 pub returns-in-Err-put-2-clause-refused : goal.returns-in-Err-put-2-clause-refused
-returns-in-Err-put-2-clause-refused g c = λ fault alive is keeps.
+returns-in-Err-put-2-clause-refused g c = λ alive keeps.
     let gave = c.give_up-in-Err-put-2 in
     left_kept g (goal.at.returns-in-Err-put-2-clause-refused g c).After-has_partial-held c.put-in-Err.new.pool.kept gave.new.pool.kept gave.ensures.kept (c.in-Err-put-2.ensures.commits.stays ∙ c.renew.ensures.kept)
 
 pub returns-in-Ok-put-2-clause-refused : goal.returns-in-Ok-put-2-clause-refused
-returns-in-Ok-put-2-clause-refused g c = λ fault alive is keeps.
+returns-in-Ok-put-2-clause-refused g c = λ alive none.
     absurd (let kept : keeps_before c.in-Err.fault ≡ true = sym c.keeps_before.ensures ∙ c.if-keeps_before.true in
-    let none : keeps_before c.in-Err.fault ≡ false = ap keeps_before (err_told coded_recv.FeedReport c.in-Err.fault fault is) ∙ keeps in
     let both : true ≡ false = sym kept ∙ none in cc both)
 
 pub returns-in-Ok-put-clause-refused : goal.returns-in-Ok-put-clause-refused
-returns-in-Ok-put-clause-refused g c = λ fault alive is keeps. absurd (cc is)
+returns-in-Ok-put-clause-refused g c = λ alive. tt
