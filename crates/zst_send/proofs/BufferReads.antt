@@ -11,15 +11,16 @@ use Rattle.zst_block.specs.declared.ptr.Ptr.{Ptr}
 use Rattle.zst_block.proofs.IoCallLemmas.{Looks-none}
 use Rattle.zst_objset.specs.Damage.{DamageFact, IfDamage}
 use Rattle.zst_tree.specs.Damage.{IsSeen}
-use Rattle.zst_send.specs.BufferReads.{CopiesOf, GivesMore, ReadsAtMost}
+use Rattle.zst_send.specs.BufferReads.{CopiesOf, GivesMore, IsPutOf, ReadsAtMost}
 use Rattle.zst_send.specs.Costs.{IsHeld, reads_due}
+use Rattle.zst_send.specs.DueItems.{block_of}
 use Rattle.zst_send.specs.Damage.{IsDamagedDue, IsDamagedLoad, IsDamagedPayload}
-use Rattle.zst_send.specs.PendingRecords.{BufferFits, IsLoaded, IsPayload, IsPending, PayloadFits, PendingFits}
+use Rattle.zst_send.specs.PendingRecords.{BufferFits, HasBlockOf, HoldsBlock, IsFresh, IsLoaded, IsPayload, IsPending, PayloadFits, PendingFits}
 use Rattle.zst_send.specs.Records.{blocks_behind}
 use Rattle.zst_send.specs.declared.block_buffer.BlockBuffer.{BlockBuffer}
 use Rattle.zst_send.specs.declared.due_items.DueItems.{DueItems}
 use Rattle.zst_send.specs.declared.pending_record.Payload.{Payload}
-use Rattle.zst_send.specs.declared.pending_record.Payload.TheVariants.{Block}
+use Rattle.zst_send.specs.declared.pending_record.Payload.TheVariants.{Block, Bonus, Nothing}
 use Rattle.zst_send.specs.declared.pending_record.PendingRecord.{PendingRecord}
 use Rattle.zst_send.proofs.BlockDamage.{short_told}
 
@@ -128,3 +129,32 @@ module _ (pending : PendingRecord) (ptr : Ptr) (is : pending.payload ≡ Block p
 -- a refusal leaves a pending record as it was
 pub gives_none : (pending : PendingRecord) (fault : BlockFault) → PendingFits pending → GivesMore pending pending (Err fault)
 gives_none pending fault fits = record { some = tt; moved = tt; payload = refl; stays = refl; fits = fits }
+
+-- ---- what follows a record that was put, and what the buffer has of that
+
+-- nothing follows it
+pub lone_put_of : (due : DueItems) (buffer : BlockBuffer) (pending : PendingRecord) → IsFresh Nothing pending → IsPutOf due buffer pending
+lone_put_of due buffer pending fresh = record {
+  fits = record { head = fresh.long; payload = subst PayloadFits (sym fresh.payload_is) tt; given = (let none = fresh.given in omega (arith, none)) };
+  given = fresh.given;
+  follows = subst (HasBlockOf due) (sym fresh.payload_is) tt;
+  held = subst (IsHeld buffer.holds) (sym fresh.payload_is) tt;
+}
+
+-- a bonus does
+pub bonus_put_of : (due : DueItems) (buffer : BlockBuffer) (pending : PendingRecord) (field : List ℕ) (count : ℕ) → IsFresh (Bonus field count) pending → count ≤ 320 → IsPutOf due buffer pending
+bonus_put_of due buffer pending field count fresh most = record {
+  fits = record { head = fresh.long; payload = subst PayloadFits (sym fresh.payload_is) most; given = (let none = fresh.given in omega (arith, none)) };
+  given = fresh.given;
+  follows = subst (HasBlockOf due) (sym fresh.payload_is) tt;
+  held = subst (IsHeld buffer.holds) (sym fresh.payload_is) tt;
+}
+
+-- the block that is due does, which the buffer has
+pub block_put_of : (due : DueItems) (buffer : BlockBuffer) (pending : PendingRecord) (ptr : Ptr) → IsFresh (Block ptr) pending → HoldsBlock ptr buffer → block_of due ≡ Some ptr → IsPutOf due buffer pending
+block_put_of due buffer pending ptr fresh has is = record {
+  fits = record { head = fresh.long; payload = subst PayloadFits (sym fresh.payload_is) has.long; given = (let none = fresh.given in omega (arith, none)) };
+  given = fresh.given;
+  follows = subst (HasBlockOf due) (sym fresh.payload_is) is;
+  held = subst (IsHeld buffer.holds) (sym fresh.payload_is) has.holds;
+}

@@ -8,10 +8,11 @@ use Rattle.zst_objset.specs.Damage.{DamageFact, IfDamaged}
 use Rattle.zst_tree.specs.Damage.{IsSeen}
 use Rattle.zst_send.specs.Costs.{IsHeld}
 use Rattle.zst_send.specs.Damage.{IsDamagedPayload}
-use Rattle.zst_send.specs.PendingRecords.{BufferFits, IsLoaded, IsPending, PendingFits}
+use Rattle.zst_send.specs.PendingRecords.{BufferFits, HasBlockOf, IsLoaded, IsPending, PendingFits}
 use Rattle.zst_send.specs.Records.{blocks_behind}
 use Rattle.zst_send.specs.Takes.{FillsAtMost}
 use Rattle.zst_send.specs.declared.block_buffer.BlockBuffer.{BlockBuffer}
+use Rattle.zst_send.specs.declared.due_items.DueItems.{DueItems}
 use Rattle.zst_send.specs.declared.pending_record.PendingRecord.{PendingRecord}
 
 -- whatever the image, so many blocks are read at most, the buffer stays in its range, and damage is told so, of what the disk had so far
@@ -38,3 +39,10 @@ pub record GivesMore (old new : PendingRecord) (result : Result ℕ BlockFault) 
   pub payload : new.payload ≡ old.payload
   pub stays : OnErr result (new ≡ old)
   pub fits : PendingFits new
+
+-- a record of what is due was put, of which none was given: the block that follows it is the one that is due, and the buffer has that
+pub record IsPutOf (due : DueItems) (buffer : BlockBuffer) (pending : PendingRecord) : Type 0 where
+  pub fits : PendingFits pending
+  pub given : pending.given ≡ 0
+  pub follows : HasBlockOf due pending.payload
+  pub held : IsHeld buffer.holds pending.payload

@@ -2,6 +2,7 @@ pub mod BufferReads
 pub mod Costs
 pub mod Damage
 pub mod DueItems
+pub mod ItemHeads
 pub mod KnownPointers
 pub mod NextRecords
 pub mod Openings
@@ -11,3 +12,4 @@ pub mod Sends
 pub mod SendState
 pub mod Takes
 pub mod WalkPositions
+pub mod WalkReads

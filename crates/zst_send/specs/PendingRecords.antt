@@ -1,5 +1,5 @@
 -- The pending record, and the block that is read for it.
-use Rattle.std.specs.Prelude.{◌≡◌, ℕ, ◌+◌, ◌%◌, ◌≤◌, List, [], ◌++◌, length, take, drop, Option, Some, None, IfSome}
+use Rattle.std.specs.Prelude.{◌≡◌, ℕ, ◌+◌, ◌%◌, ◌<◌, ◌≤◌, List, [], ◌++◌, length, take, drop, Option, Some, None, IfSome}
 use Rattle.zst_block.specs.declared.ptr.Ptr.{Ptr}
 use Rattle.zst_model.specs.declared.states.item.Item.{Item}
 use Rattle.zst_record.specs.Formats.{record_len}
@@ -47,6 +47,12 @@ HasBlockOf due Nothing = Unit {0}
 HasBlockOf due (Bonus field count) = Unit {0}
 HasBlockOf due (Block ptr) = block_of due ≡ Some ptr
 
+-- a record was put, of which none was given, and this follows it
+pub record IsFresh (payload : Payload) (pending : PendingRecord) : Type 0 where
+  pub payload_is : pending.payload ≡ payload
+  pub long : length pending.head ≡ record_len
+  pub given : pending.given ≡ 0
+
 -- ---- ranges, whatever the image
 
 -- the count of the bytes that follow the record
@@ -71,3 +77,16 @@ pub record PendingFits (pending : PendingRecord) : Type 0 where
 pub record BufferFits (buffer : BlockBuffer) : Type 0 where
   pub long : length buffer.bytes.items ≡ 131072
   pub held : IfSome buffer.holds (λ ptr. (ptr.length ≤ 131072) × (ptr.length % 512 ≡ 0))
+
+-- the buffer has the block that a pointer names: whole sectors, no longer than the longest block
+pub record HoldsBlock (ptr : Ptr) (buffer : BlockBuffer) : Type 0 where
+  pub holds : buffer.holds ≡ Some ptr
+  pub long : ptr.length ≤ 131072
+  pub whole : ptr.length % 512 ≡ 0
+
+-- of a pending record something is left, and there is room for a byte of it
+pub record CanGive (pending : PendingRecord) (buffer : BlockBuffer) (into : List ℕ) : Type 0 where
+  pub fits : PendingFits pending
+  pub buffer_fits : BufferFits buffer
+  pub some : 0 < length into
+  pub left : pending.given < record_len + payload_size pending.payload

@@ -4,7 +4,7 @@ ghost use Rattle.zst_block.specs.IoCalls.{stop_of};
 ghost use Rattle.zst_objset.specs.Damage.{IfDamaged};
 ghost use Rattle.zst_send.specs.BufferReads.{ReadsAtMost};
 ghost use Rattle.zst_send.specs.Damage.{IsDamagedLoad, IsDamagedRead};
-ghost use Rattle.zst_send.specs.PendingRecords.{IsLoaded, BufferFits};
+ghost use Rattle.zst_send.specs.PendingRecords.{BufferFits, HoldsBlock, IsLoaded};
 ghost use Rattle.zst_tree.specs.Damage.{IsSeen};
 ghost use Rattle.zst_tree.specs.Indices.{Delivers};
 ghost use Rattle.zst_tree.specs.Steps.{LooksAtMost};
@@ -48,12 +48,10 @@ impl BlockBuffer {
         ensures loaded { (bytes : List ℕ) → IsHonest io.new → IsLoaded (blocks_of io.old) self.old → blocks_of io.old ptr.now bytes
             → IsLoaded (blocks_of io.new) self.new }
 
-        ensures long { OnOk result (ptr.now.length ≤ 131072) }
-        ensures whole { OnOk result (ptr.now.length % 512 ≡ 0) }
         // It is read at most once, and not where it was there already.
         ensures reads { ReadsAtMost 1 (λ images size. IsDamagedLoad images size ptr.now) (io_of io.old) (io_of io.new) self.new result }
         ensures kept { self.old.holds ≡ Some ptr.now → (disk_of io.new).calls ≤ (disk_of io.old).calls }
-        ensures holds { OnOk result (self.new.holds ≡ Some ptr.now) }
+        ensures holds { OnOk result (HoldsBlock ptr.now self.new) }
     {
         if self.holds == Some(*ptr) {
             return Ok(());

@@ -1,4 +1,4 @@
-ghost use Rattle.std.specs.Prelude.{◌≡◌, ◌==◌, ◌+◌, ◌-◌, ◌%◌, ◌<◌, ◌≤◌, ◌++◌, false, List, [], ℕ, IfOk, drop, length, min, pred, take};
+ghost use Rattle.std.specs.Prelude.{◌≡◌, ◌==◌, ◌+◌, ◌-◌, ◌<◌, ◌≤◌, ◌++◌, false, List, [], ℕ, IfOk, drop, length, min, pred, take};
 ghost use Rattle.zst_block.specs.IoStates.{IsHonest, blocks_of, io_of};
 ghost use Rattle.zst_dnode.specs.Dnode.{DnodeFits};
 ghost use Rattle.zst_model.specs.declared.states.item.Change.TheVariants.{Put};
@@ -7,15 +7,16 @@ ghost use Rattle.zst_model.specs.declared.states.item.Item.TheVariants.{At};
 ghost use Rattle.zst_record.specs.Formats.{record_len};
 ghost use Rattle.zst_record.specs.Heads.{payload_len};
 ghost use Rattle.zst_record.specs.Payload.{begin_payload};
-ghost use Rattle.zst_send.specs.BufferReads.{CopiesOf, GivesMore, ReadsAtMost};
-ghost use Rattle.zst_send.specs.Costs.{IsHeld, reads_due};
+ghost use Rattle.zst_send.specs.BufferReads.{CopiesOf, GivesMore, IsPutOf, ReadsAtMost};
+ghost use Rattle.zst_send.specs.Costs.{reads_due};
 ghost use Rattle.zst_send.specs.Damage.{IsDamagedDue};
 ghost use Rattle.zst_send.specs.DueItems.{DueFits, IsFirst, head_in};
+ghost use Rattle.zst_send.specs.ItemHeads.{IsFollowed, IsLone};
 ghost use Rattle.zst_send.specs.Records.{IsOfItem};
-ghost use Rattle.zst_send.specs.PendingRecords.{HasBlockOf, IsLoaded, IsPut, IsPending, BufferFits, PendingFits, payload_size};
-ghost use Rattle.zst_stream.specs.FoundItems.{HasBonus, found_item};
+ghost use Rattle.zst_send.specs.PendingRecords.{BufferFits, CanGive, IsFresh, IsLoaded, IsPending, IsPut, PendingFits, payload_size};
+ghost use Rattle.zst_stream.specs.FoundItems.{found_item};
 ghost use Rattle.zst_stream.specs.Image.{front_of, piece_after};
-ghost use Rattle.zst_stream.specs.Records.{item_head, item_payload, padded_bonus, piece_for};
+ghost use Rattle.zst_stream.specs.Records.{item_payload, padded_bonus, piece_for};
 ghost use Rattle.zst_tree.specs.Indices.{Delivers};
 ghost use Rattle.zst_writer.specs.Writes.{HasWritten, bytes_after};
 
@@ -66,9 +67,7 @@ impl PendingRecord {
         requires { payload_len head.now ≡ 0 }
         ensures written { (text : List ℕ) → HasWritten writer.old text → HasWritten writer.new (text ++ bytes_after text head.now) }
         ensures head { (text : List ℕ) → HasWritten writer.old text → result.head ≡ bytes_after text head.now }
-        ensures payload { result.payload ≡ Payload.Nothing }
-        ensures long { length result.head ≡ record_len }
-        ensures given { result.given ≡ 0 }
+        ensures fresh { IsFresh Payload.Nothing result }
     {
         let mut bytes = [0; RECORD_LEN];
         writer.put(head, &[], &mut bytes);
@@ -84,9 +83,7 @@ impl PendingRecord {
         requires { HasWritten writer.old [] }
         ensures written { HasWritten writer.new (front_of header) }
         ensures head { result.head ++ begin_payload header ≡ front_of header }
-        ensures payload { (field : List ℕ) × (result.payload ≡ Payload.Bonus field (length (begin_payload header))) × (take (length (begin_payload header)) field ≡ begin_payload header) }
-        ensures long { length result.head ≡ record_len }
-        ensures given { result.given ≡ 0 }
+        ensures payload { (field : List ℕ) × IsFresh (Payload.Bonus field (length (begin_payload header))) result × (take (length (begin_payload header)) field ≡ begin_payload header) }
         ensures fits { PendingFits result }
     {
         let mut room = [0; LONGEST_BEGIN_PAYLOAD];
@@ -128,12 +125,9 @@ impl PendingRecord {
 
         // Whatever the image, damage is told of the block that is due, that block follows the record, and the buffer has it then.
         ensures reads { ReadsAtMost (reads_due due.now) (λ images size. IsDamagedDue images size due.now) (io_of io.old) (io_of io.new) buffer.new result }
-        ensures follows { IfOk result (λ pending. HasBlockOf due.now pending.payload) }
-        ensures pending { IfOk result PendingFits }
-        ensures fresh { IfOk result (λ pending. pending.given ≡ 0) }
+        ensures follows { IfOk result (IsPutOf due.now buffer.new) }
         // What follows the record is what is due.
         ensures size { (item : Item) → IsFirst (blocks_of io.old) due.now item → IfOk result (λ pending. IsOfItem item pending.payload) }
-        ensures held { IfOk result (λ pending. IsHeld buffer.new.holds pending.payload) }
     {
         match *due {
             DueItems::Absent { first, count } => Ok(PendingRecord::of(
@@ -220,10 +214,7 @@ impl PendingRecord {
         io: &mut Io<'_, D>,
         into: &mut [u8],
     ) -> Result<usize, BlockFault>
-        requires pending { PendingFits self.old }
-        requires buffer { BufferFits buffer.old }
-        requires some { 0 < length into.old }
-        requires left { self.old.given < record_len + payload_size self.old.payload }
+        requires can { CanGive self.old buffer.old into.old }
 
         // The next bytes are given, and those behind them are left.
         ensures gives { (left : List ℕ) → IsHonest io.new → IsLoaded (blocks_of io.old) buffer.old
@@ -246,10 +237,7 @@ impl PendingRecord {
         io: &mut Io<'_, D>,
         into: &mut [u8],
     ) -> Result<usize, BlockFault>
-        requires pending { PendingFits self.now }
-        requires buffer { BufferFits buffer.old }
-        requires some { 0 < length into.old }
-        requires left { self.now.given < record_len + payload_size self.now.payload }
+        requires can { CanGive self.now buffer.old into.old }
         ensures gives { (left : List ℕ) → IsHonest io.new → IsLoaded (blocks_of io.old) buffer.old
             → IsPending (blocks_of io.old) self.now left
             → Delivers (λ count. (take count into.new ≡ take count left) × (count ≤ length left)) result }
@@ -272,14 +260,10 @@ impl PendingRecord {
 
     // The record of an item that nothing follows.
     fn of(writer: &mut Writer, item: &ItemRef<'_>, to: u64) -> PendingRecord
-        requires alone { item_payload (found_item item.now) ≡ [] }
-        requires len { payload_len (item_head to (found_item item.now)) ≡ 0 }
-        requires bonus { HasBonus item.now }
+        requires item { IsLone to item.now }
         ensures put { (text : List ℕ) → HasWritten writer.old text
             → HasWritten writer.new (text ++ piece_after text (piece_for to (found_item item.now))) × (result.head ≡ piece_after text (piece_for to (found_item item.now))) }
-        ensures payload { result.payload ≡ Payload.Nothing }
-        ensures long { length result.head ≡ record_len }
-        ensures given { result.given ≡ 0 }
+        ensures fresh { IsFresh Payload.Nothing result }
     {
         PendingRecord::alone(writer, &head_of(item, to))
     }
@@ -292,15 +276,10 @@ impl PendingRecord {
         ptr: Ptr,
         to: u64,
     ) -> PendingRecord
-        requires item { item_payload (found_item item.now) ≡ bytes.now }
-        requires bonus { HasBonus item.now }
-        requires len { payload_len (item_head to (found_item item.now)) ≡ length bytes.now }
-        requires words { length bytes.now % 4 ≡ 0 }
+        requires item { IsFollowed to item.now bytes.now }
         ensures put { (text : List ℕ) → HasWritten writer.old text
             → HasWritten writer.new (text ++ piece_after text (piece_for to (found_item item.now))) × (result.head ++ bytes.now ≡ piece_after text (piece_for to (found_item item.now))) }
-        ensures payload { result.payload ≡ Payload.Block ptr }
-        ensures long { length result.head ≡ record_len }
-        ensures given { result.given ≡ 0 }
+        ensures fresh { IsFresh (Payload.Block ptr) result }
     {
         let mut head = [0; RECORD_LEN];
         writer.put(&head_of(item, to), bytes, &mut head);
@@ -317,9 +296,7 @@ impl PendingRecord {
         ensures put { (text : List ℕ) (item : Item) → HasWritten writer.old text
             → item ≡ At object (Put (head_in dnode.now) (take dnode.now.bonus_len dnode.now.bonus) false (pred dnode.now.end))
             → HasWritten writer.new (text ++ piece_after text (piece_for to item)) × (result.head ++ item_payload item ≡ piece_after text (piece_for to item)) }
-        ensures payload { (field : List ℕ) × (count : ℕ) × (result.payload ≡ Payload.Bonus field count) × (take count field ≡ padded_bonus (take dnode.now.bonus_len dnode.now.bonus)) × (count ≤ 320) }
-        ensures long { length result.head ≡ record_len }
-        ensures given { result.given ≡ 0 }
+        ensures payload { (field : List ℕ) × (count : ℕ) × IsFresh (Payload.Bonus field count) result × (take count field ≡ padded_bonus (take dnode.now.bonus_len dnode.now.bonus)) × (count ≤ 320) }
     {
         let bonus = &dnode.bonus[..dnode.bonus_len as usize];
         let mut room = [0; 320];

@@ -1,20 +1,17 @@
 ghost use Rattle.std.specs.Prelude.{◌≡◌, ◌*◌, ◌+◌, ◌≤◌, true, Contains, List, None, Some, IfOk, IfSome, OnOk, min, ℕ};
 ghost use Rattle.zst_block.specs.IoStates.{IsHonest, blocks_of, disk_of, io_of};
-ghost use Rattle.zst_block.specs.IoCalls.{Looks, stop_of};
 ghost use Rattle.zst_model.specs.declared.sends.header.Header.{Header};
 ghost use Rattle.zst_model.specs.declared.states.item.Item.{Item};
 ghost use Rattle.zst_model.specs.sends.View.{view_of};
 ghost use Rattle.zst_model.specs.states.DatedState.{DatedState};
-ghost use Rattle.zst_objset.specs.Damage.{IfDamaged};
 ghost use Rattle.zst_objset.specs.Sets.{SetHolds};
 ghost use Rattle.zst_send.specs.Costs.{cells_due, cells_next, ended, looks_ahead};
 ghost use Rattle.zst_send.specs.DueItems.{DueFits, is_run};
 ghost use Rattle.zst_send.specs.KnownPointers.{DueStands, IsAmong, WalkStands};
 ghost use Rattle.zst_send.specs.WalkPositions.{ComesFirst, Gives, IsPositionOf, IsWalk, WalkFits, items_left};
+ghost use Rattle.zst_send.specs.WalkReads.{StepsIn};
 ghost use Rattle.zst_traverse.specs.Cells.{choice_after};
-ghost use Rattle.zst_traverse.specs.Damage.{IsDamagedCell};
 ghost use Rattle.zst_objset.specs.TightSets.{SetIsTight};
-ghost use Rattle.zst_tree.specs.Damage.{IsSeen};
 ghost use Rattle.zst_tree.specs.Indices.{Delivers};
 
 use crate::due_items::{DueItems, joined};
@@ -68,9 +65,7 @@ impl Walk {
 
         // Whatever the image, what comes next is in its range, and damage is told of a block of the walk.
         ensures walk { WalkFits self.new }
-        ensures ranges { IfOk result (λ next. IfSome next DueFits) }
-        ensures damaged { IsHonest io.new → IfDamaged result (IsDamagedCell (IsSeen (disk_of io.old).seen) (disk_of io.old).size set.now) }
-        ensures looks { Looks (io_of io.old) (io_of io.new) (stop_of result) }
+        ensures steps { StepsIn set.now (io_of io.old) (io_of io.new) result (λ next. IfSome next DueFits) }
         // Of a set whose slots are tight it reads at most 64 blocks for each included number or pair that comes, and for each look that it is further ahead.
         ensures few { (header : Header) (snap : DatedState) (held : List Item) → IsHonest io.new → SetIsTight (blocks_of io.old) set.now snap
             → IsWalk (blocks_of io.old) snap self.old held
@@ -102,10 +97,7 @@ impl Walk {
         ensures stands { (images : List (List ℕ)) → Contains images (disk_of io.old).seen → IsHonest io.new → WalkStands (IsAmong images) set.now self.old
             → OnOk result (WalkStands (IsAmong images) set.now self.new) × IfOk result (λ next. IfSome next (DueStands (IsAmong images) set.now)) }
         ensures walk { WalkFits self.new }
-        ensures ranges { IfOk result (λ next. IfSome next DueFits) }
-        ensures damaged { IsHonest io.new → IfDamaged result (IsDamagedCell (IsSeen (disk_of io.old).seen) (disk_of io.old).size set.now) }
-        ensures looks { Looks (io_of io.old) (io_of io.new) (stop_of result) }
-        ensures few { (snap : DatedState) → IsHonest io.new → SetIsTight (blocks_of io.old) set.now snap → (disk_of io.new).calls ≤ (disk_of io.old).calls + 64 }
+        ensures steps { StepsIn set.now (io_of io.old) (io_of io.new) result (λ next. IfSome next DueFits) }
         ensures ahead { (snap : DatedState) → IsHonest io.new → SetIsTight (blocks_of io.old) set.now snap → IsPositionOf snap self.old.position
             → IfOk result (λ next. (disk_of io.new).calls + 64 * looks_ahead snap self.old ≤ (disk_of io.old).calls + 64 * (min 1 (cells_next snap next) + ended self.new.position)) }
     {
@@ -135,9 +127,7 @@ impl Walk {
         ensures stands { (images : List (List ℕ)) → Contains images (disk_of io.old).seen → IsHonest io.new
             → OnOk result (WalkStands (IsAmong images) set.now self.new) × IfOk result (DueStands (IsAmong images) set.now) }
         ensures walk { WalkFits self.new }
-        ensures ranges { IfOk result DueFits }
-        ensures damaged { IsHonest io.new → IfDamaged result (IsDamagedCell (IsSeen (disk_of io.old).seen) (disk_of io.old).size set.now) }
-        ensures looks { Looks (io_of io.old) (io_of io.new) (stop_of result) }
+        ensures steps { StepsIn set.now (io_of io.old) (io_of io.new) result DueFits }
         ensures few { (header : Header) (snap : DatedState) (left : List Item) → IsHonest io.new → SetIsTight (blocks_of io.old) set.now snap
             → ComesFirst (blocks_of io.old) snap (view_of header snap (choice_after source)) left self.old.position (Some run)
             → IfOk result (λ due. (disk_of io.new).calls + 64 * (cells_due snap run + ended self.old.position) ≤ (disk_of io.old).calls + 64 * (cells_due snap due + looks_ahead snap self.new)) }

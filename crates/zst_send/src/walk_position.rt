@@ -1,21 +1,17 @@
 ghost use Rattle.std.specs.Prelude.{◌≡◌, ◌*◌, ◌+◌, ◌<◌, ◌≤◌, true, Contains, IfOk, IfSome, List, None, Ok, ℕ};
 ghost use Rattle.zst_block.specs.IoStates.{IsHonest, blocks_of, disk_of, io_of};
-ghost use Rattle.zst_block.specs.IoCalls.{Looks, stop_of};
 ghost use Rattle.zst_model.specs.declared.sends.header.Header.{Header};
 ghost use Rattle.zst_model.specs.sends.View.{view_of};
 ghost use Rattle.zst_model.specs.states.DatedState.{DatedState};
 ghost use Rattle.zst_model.specs.states.State.{number_bound};
-ghost use Rattle.zst_objset.specs.Damage.{IfDamaged};
 ghost use Rattle.zst_objset.specs.Sets.{SetHolds};
 ghost use Rattle.zst_send.specs.Costs.{cells_due, ended, is_ended};
 ghost use Rattle.zst_send.specs.DueItems.{DueFits};
 ghost use Rattle.zst_send.specs.KnownPointers.{DueStands, IsAmong};
 ghost use Rattle.zst_send.specs.WalkPositions.{GoesTo, IsPositionOf, PositionFits, position_after};
-ghost use Rattle.zst_traverse.specs.Cells.{FoundFits, IsNextCell, choice_after};
-ghost use Rattle.zst_traverse.specs.StandingEntries.{FoundStands};
-ghost use Rattle.zst_traverse.specs.Damage.{IsDamagedCell};
+ghost use Rattle.zst_send.specs.WalkReads.{FindsNext, StepsIn};
+ghost use Rattle.zst_traverse.specs.Cells.{FoundFits, choice_after};
 ghost use Rattle.zst_objset.specs.TightSets.{SetIsTight};
-ghost use Rattle.zst_tree.specs.Damage.{IsSeen};
 ghost use Rattle.zst_tree.specs.Indices.{Delivers};
 
 use crate::due_items::{DueItems, due_of};
@@ -147,9 +143,7 @@ impl WalkPosition {
 
         // Whatever the image, what is found is in its range, and damage is told of a block of the walk.
         ensures position { PositionFits self.new }
-        ensures ranges { IfOk result (λ found. IfSome found DueFits) }
-        ensures damaged { IsHonest io.new → IfDamaged result (IsDamagedCell (IsSeen (disk_of io.old).seen) (disk_of io.old).size set.now) }
-        ensures looks { Looks (io_of io.old) (io_of io.new) (stop_of result) }
+        ensures steps { StepsIn set.now (io_of io.old) (io_of io.new) result (λ found. IfSome found DueFits) }
         // Of a set whose slots are tight it reads at most 64 blocks, and behind all numbers none. Where nothing is found it goes behind them, and else what is found has an included number or pair.
         ensures few { (snap : DatedState) → IsHonest io.new → SetIsTight (blocks_of io.old) set.now snap
             → (disk_of io.new).calls + 64 * ended self.old ≤ (disk_of io.old).calls + 64 }
@@ -182,12 +176,7 @@ fn next_found<D: Disk>(
     source: Option<u64>,
     position: &WalkPosition,
 ) -> Result<Option<WalkEntry>, BlockFault>
-    ensures found { (snap : DatedState) → IsHonest io.new → SetHolds (blocks_of io.old) set.now snap
-        → Delivers (IsNextCell (blocks_of io.new) snap (choice_after source) position.now.point position.now.slot) result }
-    ensures ranges { IfOk result (λ found. IfSome found (FoundFits position.now.point)) }
-    ensures stands { IsHonest io.new → IfOk result (λ found. IfSome found (FoundStands (IsSeen (disk_of io.old).seen) set.now)) }
-    ensures damaged { IsHonest io.new → IfDamaged result (IsDamagedCell (IsSeen (disk_of io.old).seen) (disk_of io.old).size set.now) }
-    ensures looks { Looks (io_of io.old) (io_of io.new) (stop_of result) }
+    ensures finds { FindsNext set.now source position.now (io_of io.old) (io_of io.new) result }
     ensures few { (snap : DatedState) → IsHonest io.new → SetIsTight (blocks_of io.old) set.now snap
         → (disk_of io.new).calls + 64 * ended position.now ≤ (disk_of io.old).calls + 64 }
 {
@@ -209,12 +198,7 @@ fn counted<D: Disk, L: Ledger>(
     requires name { blank.name ≡ L.name }
     requires parts { blank.parts ≡ L.parts }
     requires some { 0 < blank.parts }
-    ensures found { (snap : DatedState) → IsHonest io.new → SetHolds (blocks_of io.old) set.now snap
-        → Delivers (IsNextCell (blocks_of io.new) snap (choice_after source) position.now.point position.now.slot) result }
-    ensures ranges { IfOk result (λ found. IfSome found (FoundFits position.now.point)) }
-    ensures stands { IsHonest io.new → IfOk result (λ found. IfSome found (FoundStands (IsSeen (disk_of io.old).seen) set.now)) }
-    ensures damaged { IsHonest io.new → IfDamaged result (IsDamagedCell (IsSeen (disk_of io.old).seen) (disk_of io.old).size set.now) }
-    ensures looks { Looks (io_of io.old) (io_of io.new) (stop_of result) }
+    ensures finds { FindsNext set.now source position.now (io_of io.old) (io_of io.new) result }
     ensures few { (snap : DatedState) → IsHonest io.new → SetIsTight (blocks_of io.old) set.now snap → (disk_of io.new).calls ≤ (disk_of io.old).calls + 64 }
 {
     let mut steps = Steps::<L>::new(blank);

@@ -22,7 +22,7 @@ use Rattle.zst_objset.specs.Damage.{IsNoData, StandsIn}
 use Rattle.zst_objset.specs.Dnodes.{BlockIs, IsThereIn, ObjectIn, outside, read_unless, tree_of}
 use Rattle.zst_traverse.specs.Cells.{CellIs, choice_with, IsNextPairs, told_block}
 use Rattle.zst_traverse.specs.Dates.{FindsLate}
-use Rattle.zst_traverse.specs.Runs.{outside_indices, cell_of, FindsIn, IsRun, IsTurn, TakesTurn}
+use Rattle.zst_traverse.specs.Runs.{outside_indices, cell_of, count_of, FindsIn, IsRun, IsTurn, TakesTurn}
 use Rattle.zst_traverse.specs.StandingEntries.{CellStands}
 use Rattle.zst_traverse.specs.declared.pairs.Run.{Run}
 use Rattle.zst_traverse.specs.declared.pairs.Turn.{Turn}
@@ -186,6 +186,19 @@ module _ (has : Blocks) (snap : DatedState) (source : Option ℕ) (listed withhe
 read_block : (has : Blocks) (withheld : Bool) (ptr : Ptr) (block : Block) → withheld ≡ false → BlockIs (read_unless withheld has) ptr block → BlockIs has ptr block
 read_block has true ptr block read is = absurd (true≢false read)
 read_block has false ptr block read is = is
+
+-- what is told of indices that are alike
+pub record IsCounted (what : Cell) (alike_are left_are count : ℕ) : Type 0 where
+  pub some : 0 < count
+  pub alike : count ≤ alike_are
+  pub left : count ≤ left_are
+  pub one : what ≡ cells.Data → count ≡ 1
+
+pub counted : (what : Cell) (alike left count : ℕ) → count ≡ count_of what alike left → 0 < alike → 0 < left → IsCounted what alike left count
+unfolding count_of
+counted cells.Hole alike left count is some more = record { some = omega (arith, is, some, more); alike = omega (arith, is); left = omega (arith, is); one = λ data. absurd (cc) }
+counted cells.Redacted alike left count is some more = record { some = omega (arith, is, some, more); alike = omega (arith, is); left = omega (arith, is); one = λ data. absurd (cc) }
+counted cells.Data alike left count is some more = record { some = omega (arith, is); alike = omega (arith, is, some); left = omega (arith, is, more); one = λ data. is }
 
 -- what a look-up in an object's tree shows is a run
 pub is_run : (has : Blocks) (withheld : ℕ → Bool) (dnode : Dnode) (object : Object) (date : ℕ) (dates : ℕ → ℕ) (map : Map) → ObjectIn has (outside_indices withheld has) dnode object date dates map → (index : ℕ) → index < dnode.end → dnode.end ≤ index_bound → (run : Run) (alike : ℕ)

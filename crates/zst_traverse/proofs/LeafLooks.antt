@@ -16,12 +16,14 @@ use Rattle.zst_objset.specs.Sets.{date_in, IsLeafIn, Spells}
 use Rattle.zst_objset.proofs.LeafLaws.{leaf_in}
 use Rattle.zst_objset.proofs.SearchLaws.{lacks_none}
 use Rattle.zst_traverse.specs.Cells.{choice_after, IsNextGone, NoNumber}
-use Rattle.zst_traverse.specs.Leaves.{EndsAll, EndsLeaf, IfNothing, IsFromIn, IsNext, LooksTightly, ShowsAhead, StandsFor}
+use Rattle.zst_traverse.specs.Leaves.{Advances, AheadFits, EndsAll, EndsLeaf, GoesOn, IfNothing, IsFromIn, IsNext, LooksTightly, NumberFits, ShowsAhead, StandsFor}
 use Rattle.zst_traverse.specs.Slots.{AreEarly, IsFirstSlot, ShowsAbsent}
 use Rattle.zst_objset.specs.TightSets.{IsTightLeaf, IsTightSlot}
 use Rattle.zst_traverse.specs.declared.leaves.WalkStep.{WalkStep}
 use Rattle.zst_traverse.specs.declared.leaves.WalkStep.TheVariants as ahead
 use Rattle.zst_traverse.specs.declared.leaves.Leaf.{Leaf}
+use Rattle.zst_traverse.specs.declared.walk_entry.WalkEntry.{WalkEntry}
+use Rattle.zst_traverse.specs.declared.walk_entry.WalkEntry.TheVariants as entries
 use Rattle.zst_traverse.proofs.Numbers.{ahead_behind, early_in, gone_in, leaf_late, there_in}
 
 -- the dnode at a place of a leaf is that of an object that tells a late date, and no number from one on and before it is included
@@ -124,3 +126,26 @@ next_tightly {leaf} {source} {from} {before} {after} result next = record {
   few = if_ok IsNext (IfNothing (after ≤ before + 1)) (next_some (after ≤ before + 1)) result next;
   late = λ late start. next;
 }
+
+-- a number at or after one is so of an earlier one
+pub number_fits : (from number : ℕ) → from ≤ number → (found : WalkEntry) → NumberFits number found → NumberFits from found
+number_fits from number on (entries.Object k dnode) is = (omega (arith, on, is.0), is.1, is.2)
+number_fits from number on (entries.Gone first count) is = (omega (arith, on, is.0), is.1, is.2)
+number_fits from number on (entries.Pairs object first count what ptr) is = is
+
+-- what a look shows that goes on past a number, it shows from an earlier one on
+module _ (from number : ℕ) (on : from ≤ number) where
+  pub advanced_fits : (result : Result WalkStep BlockFault) → IfOk result (Advances number) → IfOk result (AheadFits from)
+  advanced_fits (Ok (ahead.Next found)) is = number_fits from number on found is
+  advanced_fits (Ok (ahead.Nothing below)) is = omega (arith, on, is)
+  advanced_fits (Err fault) is = tt
+
+  pub advanced_on : (result : Result WalkStep BlockFault) → IfOk result (Advances number) → IfOk result (GoesOn from)
+  advanced_on (Ok (ahead.Next found)) is = tt
+  advanced_on (Ok (ahead.Nothing below)) is = omega (arith, on, is)
+  advanced_on (Err fault) is = tt
+
+  pub passes_from : (result : Result WalkStep BlockFault) → IfOk result (AheadFits number) → IfOk result (GoesOn number) → IfOk result (Advances from)
+  passes_from (Ok (ahead.Next found)) fits goes = number_fits from number on found fits
+  passes_from (Ok (ahead.Nothing below)) fits goes = omega (arith, on, goes)
+  passes_from (Err fault) fits goes = tt

@@ -41,6 +41,12 @@ pub record IsFromIn (number : ℕ) (leaf : Leaf) : Type 0 where
   pub count : (0 < leaf.count) × (leaf.index + leaf.count ≤ 2 ^ 49)
   pub from : (0 < number) × (16 * leaf.index ≤ number) × (number ≤ 16 * leaf.index + 16)
 
+-- a number stands in the leaves of the indices for which a leaf's pointer stands, or is that at which they end
+pub record IsFromUpTo (number : ℕ) (leaf : Leaf) : Type 0 where
+  pub index : leaf.index < 2 ^ 44
+  pub count : leaf.index + leaf.count ≤ 2 ^ 49
+  pub from : (0 < number) × (16 * leaf.index ≤ number) × (number ≤ 16 * (leaf.index + leaf.count)) × (number ≤ 2 ^ 48)
+
 -- what a look from a number on shows: the first included number, or that there is none below another
 abbrev pub ShowsAhead : Blocks → (ℕ → ℕ → Blocks) → DatedState → Choice → ℕ → WalkStep → Type 0
 ShowsAhead has reads snap choice from (Next found) = IsNextNumberIn has reads snap choice from found
@@ -61,6 +67,11 @@ NumberFits from (Pairs object first count what ptr) = ⊥
 abbrev pub AheadFits : ℕ → WalkStep → Type 0
 AheadFits from (Next found) = NumberFits from found
 AheadFits from (Nothing below) = from ≤ below
+
+-- whatever the image, a look finds a number, or goes on past the one at which it began
+abbrev pub Advances : ℕ → WalkStep → Type 0
+Advances from (Next found) = NumberFits from found
+Advances from (Nothing below) = from < below
 
 -- it goes on past the number
 abbrev pub GoesOn : ℕ → WalkStep → Type 0
@@ -92,3 +103,10 @@ pub record LooksTightly (leaf : Leaf) (source : Option ℕ) (number before after
   pub ends : IfOk result EndsLeaf
   pub few : IfOk result (IfNothing (after ≤ before + 1))
   pub late : is_after source leaf.ptr.number ≡ true → number ≡ 16 * leaf.index → IfOk result IsNext
+
+-- what a look at a hole in place of leaves, from a number on, shows: all of its numbers have the hole's date
+pub record PassesHole (leaf : Leaf) (source : Option ℕ) (from : ℕ) (step : WalkStep) : Type 0 where
+  pub ranges : AheadFits from step
+  pub goes_on : from < 2 ^ 48 → from < 16 * (leaf.index + leaf.count) → GoesOn from step
+  pub ends : EndsLeaf step
+  pub late : is_after source leaf.ptr.number ≡ true → from < 2 ^ 48 → from < 16 * (leaf.index + leaf.count) → IsNext step

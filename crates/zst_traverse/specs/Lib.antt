@@ -6,3 +6,4 @@ pub mod Runs
 pub mod Slots
 pub mod StandingEntries
 pub mod Damage
+pub mod WalkCalls

@@ -1,5 +1,9 @@
 -- Indices of an object that are alike.
-use Rattle.std.specs.Prelude.{◌≡◌, ◌⊎◌, Bool, true, ℕ, ◌+◌, ◌*◌, ◌<◌, ◌≤◌, ◌==◌, if◌then◌else◌, Option, Some, None, false}
+use Rattle.std.specs.Prelude.{◌≡◌, ◌⊎◌, Bool, true, ℕ, ◌+◌, ◌*◌, ◌<◌, ◌≤◌, ◌==◌, if◌then◌else◌, min, Option, Some, None, Result, Ok, Err, false, IfNone, IfOk}
+use Rattle.zst_block.specs.IoCalls.{stop_of}
+use Rattle.zst_block.specs.IoStates.{IoState}
+use Rattle.zst_block.specs.declared.fault.BlockFault.{BlockFault}
+use Rattle.zst_tree.specs.Steps.{LooksInSteps}
 use Rattle.zst_block.specs.declared.ptr.Ptr.{Ptr}
 use Rattle.zst_model.specs.declared.sends.header.Point.{Point}
 use Rattle.zst_model.specs.declared.states.cell.Cell.{Cell}
@@ -19,6 +23,17 @@ cell_of ptr size =
     if ptr.kind == 0 then Some cells.Hole
     else (if ptr.kind == 1 then (if ptr.length == size then Some cells.Data else None)
     else (if ptr.kind == 2 then Some cells.Redacted else None))
+
+-- so many are told of those that are alike, where so many are left below the end: data alone
+unfoldable pub count_of : Cell → ℕ → ℕ → ℕ
+count_of cells.Hole alike left = min alike left
+count_of cells.Redacted alike left = min alike left
+count_of cells.Data alike left = 1
+
+-- a withheld index is told as redacted, alone
+abbrev pub TellsWithheld : Turn → Result Run BlockFault → Type 0
+TellsWithheld turn (Ok run) = (run.first ≡ turn.index) × (run.count ≡ 1) × (run.what ≡ cells.Redacted)
+TellsWithheld turn (Err fault) = ⊥
 
 -- the data of all indices but these is read
 abbrev pub outside_indices : (ℕ → Bool) → Blocks → ℕ → Blocks
@@ -41,6 +56,11 @@ FindsPairs has snap choice point (Some run) = IsNextPairs has snap choice point 
 -- whatever the image, a run is from an index on and below another
 abbrev pub RunFits : ℕ → ℕ → Run → Type 0
 RunFits from below run = (from ≤ run.first) × (0 < run.count) × (run.first + run.count ≤ below)
+
+-- a search of an object's indices takes at most so many steps, and fewer where it finds none
+pub record SearchesIn (most fewer : ℕ) (old new : IoState) (result : Result (Option Run) BlockFault) (before after : ℕ) : Type 0 where
+  pub looks : LooksInSteps most old new (stop_of result) before after
+  pub none : IfOk result (λ found. IfNone found (after ≤ before + fewer))
 
 -- ---- what comes next of an object's indices: the first that is dated late, or is in a list
 

@@ -31,19 +31,13 @@ CellStands images set cells.Data ptr = IsDataOf images set ptr
 abbrev pub RunStands : (List ℕ → Type 0) → ObjSet → Run → Type 0
 RunStands images set run = CellStands images set run.what run.ptr
 
--- what is found of the numbers is the dnode of an object that may stand in the set, or numbers without objects
-abbrev pub NumberStands : (List ℕ → Type 0) → ObjSet → WalkEntry → Type 0
-NumberStands images set (Object number dnode) = StandsIn images set dnode
-NumberStands images set (Gone first count) = Unit {0}
-NumberStands images set (Pairs object first count what ptr) = ⊥
-
--- so it is with what a look shows
-abbrev pub AheadStands : (List ℕ → Type 0) → ObjSet → WalkStep → Type 0
-AheadStands images set (Next found) = NumberStands images set found
-AheadStands images set (Nothing below) = Unit {0}
-
 -- what a walk finds may stand in the set
 abbrev pub FoundStands : (List ℕ → Type 0) → ObjSet → WalkEntry → Type 0
 FoundStands images set (Object number dnode) = StandsIn images set dnode
 FoundStands images set (Gone first count) = Unit {0}
 FoundStands images set (Pairs object first count what ptr) = CellStands images set what ptr
+
+-- so it is with what a look shows
+abbrev pub AheadStands : (List ℕ → Type 0) → ObjSet → WalkStep → Type 0
+AheadStands images set (Next found) = FoundStands images set found
+AheadStands images set (Nothing below) = Unit {0}

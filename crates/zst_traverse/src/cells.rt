@@ -1,5 +1,5 @@
 //! The first included number or index at or after a point.
-ghost use Rattle.std.specs.Prelude.{◌≡◌, ◌⊎◌, ◌+◌, ◌*◌, ◌/◌, ◌^◌, ◌<◌, ◌≤◌, false, true, ℕ, IfNone, IfOk, IfSome, Some};
+ghost use Rattle.std.specs.Prelude.{◌≡◌, ◌⊎◌, ◌+◌, ◌*◌, ◌/◌, ◌^◌, ◌<◌, ◌≤◌, false, true, ℕ, IfOk, IfSome, Some};
 ghost use Rattle.zst_block.specs.IoStates.{IsHonest, blocks_of, disk_of, io_of};
 ghost use Rattle.zst_block.specs.IoCalls.{stop_of};
 ghost use Rattle.zst_dnode.specs.Dnode.{DnodeFits};
@@ -9,14 +9,14 @@ ghost use Rattle.zst_tree.specs.Damage.{HangsIn, IsSeen, MayHave};
 ghost use Rattle.zst_tree.specs.Indices.{Delivers};
 ghost use Rattle.zst_tree.specs.declared.tree.ObjSet.{ObjSet};
 ghost use Rattle.zst_tree.specs.Steps.{LooksBySteps, LooksInSteps};
-ghost use Rattle.zst_objset.specs.Damage.{IfDamaged, StandsIn};
+ghost use Rattle.zst_objset.specs.Damage.{StandsIn};
 ghost use Rattle.zst_objset.specs.Dnodes.{DnodeIn, outside};
 ghost use Rattle.zst_objset.specs.Sets.{LeafIn, SetHoldsBut};
 ghost use Rattle.zst_traverse.specs.Cells.{choice_with, FoundFits, IsNextCellIn};
 ghost use Rattle.zst_traverse.specs.Leaves.{HoldsLeaf, HoldsTightLeaf};
-ghost use Rattle.zst_traverse.specs.Runs.{FindsPairs, RunFits};
+ghost use Rattle.zst_traverse.specs.Runs.{FindsPairs, RunFits, SearchesIn};
 ghost use Rattle.zst_traverse.specs.StandingEntries.{FoundStands, RunStands};
-ghost use Rattle.zst_traverse.specs.Damage.{IsDamagedCell};
+ghost use Rattle.zst_traverse.specs.WalkCalls.{IsOfWalk};
 ghost use Rattle.zst_objset.specs.TightSets.{SetIsTightIn};
 ghost use Rattle.zst_model.specs.sends.Inclusion.{Pairs};
 ghost use Rattle.zst_model.specs.fields.Lists.{has_pair};
@@ -45,8 +45,7 @@ pub(crate) fn dnode_in<D: Disk, L: Ledger>(
     ensures found { (snap : DatedState) (pairs : Pairs) → IsHonest io.new → LeafIn (blocks_of io.old) (outside pairs (blocks_of io.old)) snap leaf.now.index leaf.now.ptr
         → Delivers (DnodeIn (blocks_of io.old) (outside pairs (blocks_of io.old)) snap number) result }
     ensures ranges { IfOk result (λ found. IfSome found DnodeFits) }
-    ensures stands { (set : ObjSet) → IsHonest io.new → HangsIn (MayHave (IsSeen (disk_of io.old).seen)) set.tree leaf.now.ptr → IfOk result (λ found. IfSome found (StandsIn (IsSeen (disk_of io.old).seen) set)) }
-    ensures damaged { (set : ObjSet) → IsHonest io.new → HangsIn (MayHave (IsSeen (disk_of io.old).seen)) set.tree leaf.now.ptr → IfDamaged result (IsDamagedCell (IsSeen (disk_of io.old).seen) (disk_of io.old).size set) }
+    ensures of_walk { (set : ObjSet) → IsHonest io.new → HangsIn (MayHave (IsSeen (disk_of io.old).seen)) set.tree leaf.now.ptr → IsOfWalk (disk_of io.old).seen (disk_of io.old).size set result (λ images found. IfSome found (StandsIn images set)) }
     ensures looks { LooksInSteps 1 (io_of io.old) (io_of io.new) (stop_of result) steps.old steps.new }
 {
     if leaf.ptr.kind == 0 {
@@ -75,10 +74,8 @@ fn own_pairs<D: Disk, L: Ledger>(
     ensures found { (snap : DatedState) → IsHonest io.new → IsState snap.state → LeafIn (blocks_of io.old) (outside (has_pair withheld.now) (blocks_of io.old)) snap leaf.now.index leaf.now.ptr
         → Delivers (FindsPairs (blocks_of io.old) snap (choice_with source listed.now withheld.now) point) result }
     ensures ranges { IfOk result (λ found. IfSome found (RunFits 0 (2 ^ 43))) }
-    ensures stands { (set : ObjSet) → IsHonest io.new → HangsIn (MayHave (IsSeen (disk_of io.old).seen)) set.tree leaf.now.ptr → IfOk result (λ found. IfSome found (RunStands (IsSeen (disk_of io.old).seen) set)) }
-    ensures damaged { (set : ObjSet) → IsHonest io.new → HangsIn (MayHave (IsSeen (disk_of io.old).seen)) set.tree leaf.now.ptr → IfDamaged result (IsDamagedCell (IsSeen (disk_of io.old).seen) (disk_of io.old).size set) }
-    ensures looks { LooksInSteps 21 (io_of io.old) (io_of io.new) (stop_of result) steps.old steps.new }
-    ensures none { IfOk result (λ found. IfNone found (steps.new ≤ steps.old + 14)) }
+    ensures of_walk { (set : ObjSet) → IsHonest io.new → HangsIn (MayHave (IsSeen (disk_of io.old).seen)) set.tree leaf.now.ptr → IsOfWalk (disk_of io.old).seen (disk_of io.old).size set result (λ images found. IfSome found (RunStands images set)) }
+    ensures steps { SearchesIn 21 14 (io_of io.old) (io_of io.new) result steps.old steps.new }
 {
     match dnode_in(io, leaf, point.object, steps)? {
         None => Ok(None),
@@ -116,8 +113,7 @@ fn behind_slot<D: Disk, L: Ledger>(
     ensures found { (snap : DatedState) → IsHonest io.new → HoldsLeaf (blocks_of io.old) (outside (has_pair withheld.now) (blocks_of io.old)) set.now snap leaf.now
         → Delivers (IsNextCellIn (blocks_of io.old) (outside (has_pair withheld.now) (blocks_of io.old)) snap (choice_with source listed.now withheld.now) point false) result }
     ensures ranges { IfOk result (λ found. IfSome found (FoundFits point)) }
-    ensures stands { IsHonest io.new → HangsIn (MayHave (IsSeen (disk_of io.old).seen)) set.now.tree leaf.now.ptr → IfOk result (λ found. IfSome found (FoundStands (IsSeen (disk_of io.old).seen) set.now)) }
-    ensures damaged { IsHonest io.new → HangsIn (MayHave (IsSeen (disk_of io.old).seen)) set.now.tree leaf.now.ptr → IfDamaged result (IsDamagedCell (IsSeen (disk_of io.old).seen) (disk_of io.old).size set.now) }
+    ensures of_walk { IsHonest io.new → HangsIn (MayHave (IsSeen (disk_of io.old).seen)) set.now.tree leaf.now.ptr → IsOfWalk (disk_of io.old).seen (disk_of io.old).size set.now result (λ images found. IfSome found (FoundStands images set.now)) }
     ensures looks { LooksBySteps (io_of io.old) (io_of io.new) (stop_of result) steps.old steps.new }
     ensures few { (snap : DatedState) → IsHonest io.new → HoldsTightLeaf (blocks_of io.old) (outside (has_pair withheld.now) (blocks_of io.old)) set.now snap leaf.now
         → AreIncluded snap (choice_with source listed.now withheld.now) listed.now withheld.now → steps.new ≤ steps.old + 57 }
@@ -166,8 +162,7 @@ pub fn next_cell<D: Disk, L: Ledger>(
 
     // Whatever the image, what is found is in its range and stands in the set, and damage is told of a block of the walk.
     ensures ranges { IfOk result (λ found. IfSome found (FoundFits point)) }
-    ensures stands { IsHonest io.new → IfOk result (λ found. IfSome found (FoundStands (IsSeen (disk_of io.old).seen) set.now)) }
-    ensures damaged { IsHonest io.new → IfDamaged result (IsDamagedCell (IsSeen (disk_of io.old).seen) (disk_of io.old).size set.now) }
+    ensures of_walk { IsHonest io.new → IsOfWalk (disk_of io.old).seen (disk_of io.old).size set.now result (λ images found. IfSome found (FoundStands images set.now)) }
 
     // It only reads, a block each step, and of a set whose slots are tight at most 64, where each number that a list has a pair of is included.
     ensures looks { LooksBySteps (io_of io.old) (io_of io.new) (stop_of result) steps.old steps.new }

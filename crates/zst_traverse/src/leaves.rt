@@ -1,10 +1,10 @@
 //! The leaves of a set, as a walk looks at them.
-ghost use Rattle.std.specs.Prelude.{◌≡◌, ◌+◌, ◌*◌, ◌^◌, ◌<◌, ◌≤◌, true, ℕ, List, IfOk, OnOk};
+ghost use Rattle.std.specs.Prelude.{◌≡◌, ◌+◌, ◌*◌, ◌^◌, ◌<◌, ◌≤◌, ℕ, List, IfOk, OnOk};
 ghost use Rattle.zst_space.specs.FreeSectors.{FreeSectors};
 ghost use Rattle.zst_block.specs.Blocks.{Has};
 ghost use Rattle.zst_block.specs.IoStates.{IsHonest, blocks_of, disk_of, io_of};
 ghost use Rattle.zst_block.specs.IoCalls.{stop_of};
-ghost use Rattle.zst_model.specs.sends.Inclusion.{is_after, Pairs};
+ghost use Rattle.zst_model.specs.sends.Inclusion.{Pairs};
 ghost use Rattle.zst_model.specs.states.DatedState.{DatedState};
 ghost use Rattle.zst_tree.specs.Damage.{HangsIn, IsSeen, MayHave, NamesDamage, NamesNode};
 ghost use Rattle.zst_tree.specs.Lookups.{Shows};
@@ -14,9 +14,9 @@ ghost use Rattle.zst_tree.specs.Steps.{LooksInSteps};
 ghost use Rattle.zst_objset.specs.Damage.{IfDamaged, IsDamagedLeaf, IsLoaded};
 ghost use Rattle.zst_objset.specs.Sets.{HasSlotsIn, LeafIn};
 ghost use Rattle.zst_traverse.specs.Cells.{choice_after};
-ghost use Rattle.zst_traverse.specs.Leaves.{AheadFits, EndsLeaf, GoesOn, IsFromIn, IsNext, LooksTightly, ShowsAhead, StandsFor, StandsTightly};
+ghost use Rattle.zst_traverse.specs.Leaves.{AheadFits, GoesOn, IsFromIn, IsFromUpTo, LooksTightly, PassesHole, ShowsAhead, StandsFor, StandsTightly};
 ghost use Rattle.zst_traverse.specs.StandingEntries.{AheadStands};
-ghost use Rattle.zst_traverse.specs.Damage.{IsDamagedCell};
+ghost use Rattle.zst_traverse.specs.WalkCalls.{IsOfWalk};
 ghost use Rattle.zst_objset.specs.Dnodes.{outside};
 
 use crate::dates::is_after;
@@ -87,15 +87,10 @@ pub(crate) fn load_leaf<D: Disk, L: Ledger>(
 
 // What a hole in place of leaves shows from a number on: their numbers are absent since its date.
 fn in_hole(leaf: &Leaf, source: Option<u64>, from: u64) -> WalkStep
-    requires index { leaf.now.index < 2 ^ 44 }
-    requires count { leaf.now.index + leaf.now.count ≤ 2 ^ 49 }
-    requires from { (0 < from) × (16 * leaf.now.index ≤ from) × (from ≤ 16 * (leaf.now.index + leaf.now.count)) × (from ≤ 2 ^ 48) }
+    requires leaf { IsFromUpTo from leaf.now }
     ensures shows { (snap : DatedState) (pairs : Pairs) (image : List ℕ) (space : FreeSectors) → leaf.now.ptr.kind ≡ 0 → StandsFor (Has image space) (outside pairs (Has image space)) snap leaf.now → ShowsAhead (Has image space) (outside pairs (Has image space)) snap (choice_after source) from result }
-    ensures ranges { AheadFits from result }
-    ensures goes_on { from < 2 ^ 48 → from < 16 * (leaf.now.index + leaf.now.count) → GoesOn from result }
+    ensures passes { PassesHole leaf.now source from result }
     ensures stands { (seen : List ℕ) (set : ObjSet) → AheadStands (IsSeen seen) set result }
-    ensures ends { EndsLeaf result }
-    ensures late { is_after source leaf.now.ptr.number ≡ true → from < 2 ^ 48 → from < 16 * (leaf.now.index + leaf.now.count) → IsNext result }
 {
     let below = NUMBER_BOUND.min(16 * (leaf.index + leaf.count));
     if from < below && is_after(source, leaf.ptr.number) {
@@ -119,8 +114,7 @@ pub(crate) fn look<D: Disk, L: Ledger>(
         → Delivers (ShowsAhead (blocks_of io.old) (outside pairs (blocks_of io.old)) snap (choice_after source) from) result }
     ensures ranges { IfOk result (AheadFits from) }
     ensures goes_on { from < 16 * leaf.now.index + 16 → IfOk result (GoesOn from) }
-    ensures stands { (set : ObjSet) → IsHonest io.new → HangsIn (MayHave (IsSeen (disk_of io.old).seen)) set.tree leaf.now.ptr → IfOk result (AheadStands (IsSeen (disk_of io.old).seen) set) }
-    ensures damaged { (set : ObjSet) → IsHonest io.new → HangsIn (MayHave (IsSeen (disk_of io.old).seen)) set.tree leaf.now.ptr → IfDamaged result (IsDamagedCell (IsSeen (disk_of io.old).seen) (disk_of io.old).size set) }
+    ensures of_walk { (set : ObjSet) → IsHonest io.new → HangsIn (MayHave (IsSeen (disk_of io.old).seen)) set.tree leaf.now.ptr → IsOfWalk (disk_of io.old).seen (disk_of io.old).size set result (λ images. AheadStands images set) }
 
     // In a tight leaf an object that may be included is.
     ensures tightly { (snap : DatedState) (pairs : Pairs) → IsHonest io.new → StandsTightly (blocks_of io.old) (outside pairs (blocks_of io.old)) snap leaf.now

@@ -8,14 +8,14 @@ ghost use Rattle.zst_model.specs.states.DatedState.{DatedState};
 ghost use Rattle.zst_tree.specs.Damage.{HangsIn, IsSeen, MayHave};
 ghost use Rattle.zst_tree.specs.Indices.{Delivers};
 ghost use Rattle.zst_tree.specs.Steps.{LooksBySteps, LooksInSteps};
-ghost use Rattle.zst_objset.specs.Damage.{IfDamaged, StandsIn};
+ghost use Rattle.zst_objset.specs.Damage.{StandsIn};
 ghost use Rattle.zst_objset.specs.Dnodes.{outside};
 ghost use Rattle.zst_objset.specs.Sets.{SetHoldsBut};
 ghost use Rattle.zst_traverse.specs.Cells.{choice_with};
-ghost use Rattle.zst_traverse.specs.Damage.{IsDamagedCell};
+ghost use Rattle.zst_traverse.specs.WalkCalls.{IsOfWalk};
 ghost use Rattle.zst_traverse.specs.Leaves.{FindsNumber, HoldsLeaf, HoldsTightLeaf, IsFromIn, NumberFits};
 ghost use Rattle.zst_traverse.specs.ListedNumbers.{AreIncluded, FindsListed, FindsObject, FindsOf, first_found, IsListedBelow, or_below};
-ghost use Rattle.zst_traverse.specs.StandingEntries.{NumberStands};
+ghost use Rattle.zst_traverse.specs.StandingEntries.{FoundStands};
 
 use crate::cells::dnode_in;
 use crate::leaves::{Leaf, leaf_at};
@@ -78,8 +78,7 @@ fn listed_object<D: Disk, L: Ledger>(
     ensures found { (snap : DatedState) → IsHonest io.new → SetHoldsBut (blocks_of io.old) (has_pair withheld.now) set.now snap
         → Delivers (FindsObject (blocks_of io.old) (outside (has_pair withheld.now) (blocks_of io.old)) snap listed.now withheld.now number) result }
     ensures ranges { IfOk result (λ found. IfSome found DnodeFits) }
-    ensures stands { IsHonest io.new → IfOk result (λ found. IfSome found (StandsIn (IsSeen (disk_of io.old).seen) set.now)) }
-    ensures damaged { IsHonest io.new → IfDamaged result (IsDamagedCell (IsSeen (disk_of io.old).seen) (disk_of io.old).size set.now) }
+    ensures of_walk { IsHonest io.new → IsOfWalk (disk_of io.old).seen (disk_of io.old).size set.now result (λ images found. IfSome found (StandsIn images set.now)) }
     ensures looks { LooksInSteps 8 (io_of io.old) (io_of io.new) (stop_of result) steps.old steps.new }
 {
     let leaf = leaf_at(io, &set.tree, number / 16, steps)?;
@@ -124,8 +123,7 @@ pub(crate) fn next_listed<D: Disk, L: Ledger>(
     ensures found { (snap : DatedState) → IsHonest io.new → HoldsLeaf (blocks_of io.old) (outside (has_pair withheld.now) (blocks_of io.old)) set.now snap leaf.now
         → Delivers (FindsNumber (blocks_of io.old) (outside (has_pair withheld.now) (blocks_of io.old)) snap (choice_with source listed.now withheld.now) from) result }
     ensures ranges { IfOk result (λ found. IfSome found (NumberFits from)) }
-    ensures stands { IsHonest io.new → HangsIn (MayHave (IsSeen (disk_of io.old).seen)) set.now.tree leaf.now.ptr → IfOk result (λ found. IfSome found (NumberStands (IsSeen (disk_of io.old).seen) set.now)) }
-    ensures damaged { IsHonest io.new → HangsIn (MayHave (IsSeen (disk_of io.old).seen)) set.now.tree leaf.now.ptr → IfDamaged result (IsDamagedCell (IsSeen (disk_of io.old).seen) (disk_of io.old).size set.now) }
+    ensures of_walk { IsHonest io.new → HangsIn (MayHave (IsSeen (disk_of io.old).seen)) set.now.tree leaf.now.ptr → IsOfWalk (disk_of io.old).seen (disk_of io.old).size set.now result (λ images found. IfSome found (FoundStands images set.now)) }
     ensures looks { LooksBySteps (io_of io.old) (io_of io.new) (stop_of result) steps.old steps.new }
     ensures few { (snap : DatedState) → IsHonest io.new → HoldsTightLeaf (blocks_of io.old) (outside (has_pair withheld.now) (blocks_of io.old)) set.now snap leaf.now
         → AreIncluded snap (choice_with source listed.now withheld.now) listed.now withheld.now → steps.new ≤ steps.old + 43 }

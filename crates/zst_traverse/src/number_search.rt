@@ -6,12 +6,11 @@ ghost use Rattle.zst_model.specs.states.DatedState.{DatedState};
 ghost use Rattle.zst_tree.specs.Damage.{HangsIn, IsSeen, MayHave};
 ghost use Rattle.zst_tree.specs.Indices.{Delivers};
 ghost use Rattle.zst_tree.specs.Steps.{LooksBySteps, LooksInSteps};
-ghost use Rattle.zst_objset.specs.Damage.{IfDamaged};
 ghost use Rattle.zst_objset.specs.Sets.{SetHoldsBut};
 ghost use Rattle.zst_traverse.specs.Cells.{choice_after};
-ghost use Rattle.zst_traverse.specs.Leaves.{AheadFits, EndsAll, FindsNumber, GoesOn, HoldsLeaf, HoldsTightLeaf, IsFromIn, NumberFits, ShowsAhead};
-ghost use Rattle.zst_traverse.specs.StandingEntries.{AheadStands, NumberStands};
-ghost use Rattle.zst_traverse.specs.Damage.{IsDamagedCell};
+ghost use Rattle.zst_traverse.specs.Leaves.{Advances, EndsAll, FindsNumber, HoldsLeaf, HoldsTightLeaf, IsFromIn, NumberFits, ShowsAhead};
+ghost use Rattle.zst_traverse.specs.StandingEntries.{AheadStands, FoundStands};
+ghost use Rattle.zst_traverse.specs.WalkCalls.{IsOfWalk};
 ghost use Rattle.zst_objset.specs.TightSets.{SetIsTightIn};
 ghost use Rattle.zst_objset.specs.Dnodes.{outside};
 ghost use Rattle.zst_model.specs.sends.Inclusion.{Pairs};
@@ -40,10 +39,8 @@ fn look_on<D: Disk, L: Ledger>(
     requires from { (0 < from) × (from < 2 ^ 48) }
     ensures shows { (snap : DatedState) (pairs : Pairs) → IsHonest io.new → SetHoldsBut (blocks_of io.old) pairs set.now snap
         → Delivers (ShowsAhead (blocks_of io.old) (outside pairs (blocks_of io.old)) snap (choice_after source) from) result }
-    ensures ranges { IfOk result (AheadFits from) }
-    ensures goes_on { IfOk result (GoesOn from) }
-    ensures stands { IsHonest io.new → IfOk result (AheadStands (IsSeen (disk_of io.old).seen) set.now) }
-    ensures damaged { IsHonest io.new → IfDamaged result (IsDamagedCell (IsSeen (disk_of io.old).seen) (disk_of io.old).size set.now) }
+    ensures goes_on { IfOk result (Advances from) }
+    ensures of_walk { IsHonest io.new → IsOfWalk (disk_of io.old).seen (disk_of io.old).size set.now result (λ images. AheadStands images set.now) }
     ensures ends { (snap : DatedState) (pairs : Pairs) → IsHonest io.new → SetIsTightIn (blocks_of io.old) (outside pairs (blocks_of io.old)) set.now snap → from % 16 ≡ 0 → IfOk result EndsAll }
     ensures looks { LooksInSteps 34 (io_of io.old) (io_of io.new) (stop_of result) steps.old steps.new }
 {
@@ -72,8 +69,7 @@ pub(crate) fn next_number<D: Disk, L: Ledger>(
     ensures found { (snap : DatedState) (pairs : Pairs) → IsHonest io.new → HoldsLeaf (blocks_of io.old) (outside pairs (blocks_of io.old)) set.now snap leaf.now
         → Delivers (FindsNumber (blocks_of io.old) (outside pairs (blocks_of io.old)) snap (choice_after source) from) result }
     ensures ranges { IfOk result (λ found. IfSome found (NumberFits from)) }
-    ensures stands { IsHonest io.new → HangsIn (MayHave (IsSeen (disk_of io.old).seen)) set.now.tree leaf.now.ptr → IfOk result (λ found. IfSome found (NumberStands (IsSeen (disk_of io.old).seen) set.now)) }
-    ensures damaged { IsHonest io.new → HangsIn (MayHave (IsSeen (disk_of io.old).seen)) set.now.tree leaf.now.ptr → IfDamaged result (IsDamagedCell (IsSeen (disk_of io.old).seen) (disk_of io.old).size set.now) }
+    ensures of_walk { IsHonest io.new → HangsIn (MayHave (IsSeen (disk_of io.old).seen)) set.now.tree leaf.now.ptr → IsOfWalk (disk_of io.old).seen (disk_of io.old).size set.now result (λ images found. IfSome found (FoundStands images set.now)) }
     ensures looks { LooksBySteps (io_of io.old) (io_of io.new) (stop_of result) steps.old steps.new }
     ensures few { (snap : DatedState) (pairs : Pairs) → IsHonest io.new → HoldsTightLeaf (blocks_of io.old) (outside pairs (blocks_of io.old)) set.now snap leaf.now → steps.new ≤ steps.old + 35 }
 {

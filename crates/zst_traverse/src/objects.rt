@@ -10,13 +10,13 @@ ghost use Rattle.zst_tree.specs.Damage.{IsSeen};
 ghost use Rattle.zst_tree.specs.Indices.{Delivers};
 ghost use Rattle.zst_tree.specs.declared.tree.ObjSet.{ObjSet};
 ghost use Rattle.zst_tree.specs.Steps.{LooksInSteps};
-ghost use Rattle.zst_objset.specs.Damage.{IfDamaged, StandsIn};
+ghost use Rattle.zst_objset.specs.Damage.{StandsIn};
 ghost use Rattle.zst_objset.specs.Dnodes.{IsThereIn, outside};
 ghost use Rattle.zst_objset.specs.Sets.{date_in};
 ghost use Rattle.zst_traverse.specs.Cells.{choice_after};
-ghost use Rattle.zst_traverse.specs.Leaves.{AheadFits, GoesOn, IsNext, ShowsAhead};
+ghost use Rattle.zst_traverse.specs.Leaves.{Advances, IsNext, ShowsAhead};
 ghost use Rattle.zst_traverse.specs.StandingEntries.{AheadStands};
-ghost use Rattle.zst_traverse.specs.Damage.{IsDamagedCell};
+ghost use Rattle.zst_traverse.specs.WalkCalls.{IsOfWalk};
 ghost use Rattle.zst_objset.specs.TightSets.{IsTightSlot};
 
 use crate::dates::{is_after, next_late};
@@ -44,10 +44,8 @@ pub(crate) fn judged<D: Disk, L: Ledger>(
     requires dnode { DnodeFits dnode }
     ensures shows { (snap : DatedState) (pairs : Pairs) → IsHonest io.new → IsThereIn (blocks_of io.old) (outside pairs (blocks_of io.old)) snap number dnode
         → Delivers (ShowsAhead (blocks_of io.old) (outside pairs (blocks_of io.old)) snap (choice_after source) number) result }
-    ensures ranges { IfOk result (AheadFits number) }
-    ensures goes_on { IfOk result (GoesOn number) }
-    ensures stands { (set : ObjSet) → IsHonest io.new → StandsIn (IsSeen (disk_of io.old).seen) set dnode → IfOk result (AheadStands (IsSeen (disk_of io.old).seen) set) }
-    ensures damaged { (set : ObjSet) → IsHonest io.new → StandsIn (IsSeen (disk_of io.old).seen) set dnode → IfDamaged result (IsDamagedCell (IsSeen (disk_of io.old).seen) (disk_of io.old).size set) }
+    ensures goes_on { IfOk result (Advances number) }
+    ensures of_walk { (set : ObjSet) → IsHonest io.new → StandsIn (IsSeen (disk_of io.old).seen) set dnode → IsOfWalk (disk_of io.old).seen (disk_of io.old).size set result (λ images. AheadStands images set) }
     ensures next { (snap : DatedState) (pairs : Pairs) → IsHonest io.new → IsThereIn (blocks_of io.old) (outside pairs (blocks_of io.old)) snap number dnode
         → IsTightSlot snap number (slots.There dnode) → is_after source (date_in (slots.There dnode)) ≡ true → IfOk result IsNext }
     ensures looks { LooksInSteps 13 (io_of io.old) (io_of io.new) (stop_of result) steps.old steps.new }

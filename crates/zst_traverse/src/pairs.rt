@@ -1,22 +1,21 @@
 //! The search for the first included indices of an object.
-ghost use Rattle.std.specs.Prelude.{◌≡◌, ◌↔◌, ◌+◌, ◌*◌, ◌^◌, ◌<◌, ◌≤◌, true, ℕ, Bool, false, IfErr, IfNone, IfOk, IfSome};
+ghost use Rattle.std.specs.Prelude.{◌≡◌, ◌↔◌, ◌+◌, ◌*◌, ◌^◌, ◌<◌, ◌≤◌, true, ℕ, Bool, false, IfOk, IfSome};
 ghost use Rattle.zst_block.specs.IoStates.{IsHonest, blocks_of, disk_of, io_of};
 ghost use Rattle.zst_block.specs.IoCalls.{stop_of};
 ghost use Rattle.zst_dnode.specs.Dnode.{DnodeFits};
-ghost use Rattle.zst_model.specs.declared.states.cell.Cell.TheVariants as cells;
 ghost use Rattle.zst_model.specs.states.DatedState.{DatedState};
 ghost use Rattle.zst_tree.specs.Damage.{IsSeen};
 ghost use Rattle.zst_tree.specs.Indices.{Delivers, Map};
 ghost use Rattle.zst_tree.specs.declared.tree.ObjSet.{ObjSet};
 ghost use Rattle.zst_tree.specs.Steps.{LooksInSteps};
-ghost use Rattle.zst_objset.specs.Damage.{IfDamaged, StandsIn};
+ghost use Rattle.zst_objset.specs.Damage.{StandsIn};
 ghost use Rattle.zst_objset.specs.Dnodes.{IsThereIn, ObjectIn, outside};
 ghost use Rattle.zst_model.specs.fields.Lists.{has_pair};
 ghost use Rattle.zst_model.specs.states.State.{IsObject, IsState, Object};
 ghost use Rattle.zst_traverse.specs.Cells.{choice_with};
-ghost use Rattle.zst_traverse.specs.Runs.{outside_indices, cell_of, FindsIn, FindsPairs, IsRun, RunFits, TakesTurn};
+ghost use Rattle.zst_traverse.specs.Runs.{outside_indices, cell_of, count_of, FindsIn, FindsPairs, IsRun, RunFits, SearchesIn, TakesTurn, TellsWithheld};
 ghost use Rattle.zst_traverse.specs.StandingEntries.{RunStands};
-ghost use Rattle.zst_traverse.specs.Damage.{IsDamagedCell};
+ghost use Rattle.zst_traverse.specs.WalkCalls.{IsOfWalk};
 
 use crate::dates::next_late;
 use std::sync::ledger::Ledger;
@@ -58,11 +57,9 @@ fn cell_of(ptr: &Ptr, size: u32) -> Option<Cell>
 }
 
 // How many indices are told of so many that are alike, where so many are left below the end.
+#[tactic(auto, unfolding(crate::specs::Runs::count_of))]
 fn count_of(what: Cell, alike: u64, left: u64) -> u64
-    requires { (0 < alike) × (0 < left) }
-    ensures some { 0 < result }
-    ensures most { (result ≤ alike) × (result ≤ left) }
-    ensures one { what ≡ cells.Data → result ≡ 1 }
+    ensures { result ≡ count_of what alike left }
 {
     match what {
         Cell::Data => 1,
@@ -85,8 +82,7 @@ fn run_at<D: Disk, L: Ledger>(
         → ObjectIn (blocks_of io.old) (outside_indices withheld (blocks_of io.old)) dnode.now object date dates map
         → Delivers (IsRun (blocks_of io.old) withheld object dates index) result }
     ensures ranges { IfOk result (RunFits index dnode.now.end) }
-    ensures stands { (set : ObjSet) → IsHonest io.new → StandsIn (IsSeen (disk_of io.old).seen) set dnode.now → IfOk result (RunStands (IsSeen (disk_of io.old).seen) set) }
-    ensures damaged { (set : ObjSet) → IsHonest io.new → StandsIn (IsSeen (disk_of io.old).seen) set dnode.now → IfDamaged result (IsDamagedCell (IsSeen (disk_of io.old).seen) (disk_of io.old).size set) }
+    ensures of_walk { (set : ObjSet) → IsHonest io.new → StandsIn (IsSeen (disk_of io.old).seen) set dnode.now → IsOfWalk (disk_of io.old).seen (disk_of io.old).size set result (λ images. RunStands images set) }
     ensures looks { LooksInSteps 7 (io_of io.old) (io_of io.new) (stop_of result) steps.old steps.new }
 {
     let (ptr, alike) = tree_of(dnode).get(io, index, steps)?;
@@ -173,10 +169,8 @@ pub(crate) fn next_pairs<D: Disk, L: Ledger>(
         → IsThereIn (blocks_of io.old) (outside (has_pair withheld.now) (blocks_of io.old)) snap point.object dnode.now
         → Delivers (FindsPairs (blocks_of io.old) snap (choice_with source listed.now withheld.now) point) result }
     ensures ranges { IfOk result (λ found. IfSome found (RunFits 0 dnode.now.end)) }
-    ensures stands { (set : ObjSet) → IsHonest io.new → StandsIn (IsSeen (disk_of io.old).seen) set dnode.now → IfOk result (λ found. IfSome found (RunStands (IsSeen (disk_of io.old).seen) set)) }
-    ensures damaged { (set : ObjSet) → IsHonest io.new → StandsIn (IsSeen (disk_of io.old).seen) set dnode.now → IfDamaged result (IsDamagedCell (IsSeen (disk_of io.old).seen) (disk_of io.old).size set) }
-    ensures looks { LooksInSteps 20 (io_of io.old) (io_of io.new) (stop_of result) steps.old steps.new }
-    ensures none { IfOk result (λ found. IfNone found (steps.new ≤ steps.old + 13)) }
+    ensures of_walk { (set : ObjSet) → IsHonest io.new → StandsIn (IsSeen (disk_of io.old).seen) set dnode.now → IsOfWalk (disk_of io.old).seen (disk_of io.old).size set result (λ images found. IfSome found (RunStands images set)) }
+    ensures steps { SearchesIn 20 13 (io_of io.old) (io_of io.new) result steps.old steps.new }
 {
     let from = first_index(point.offset, dnode.block_size);
     let late = next_late(io, &tree_of(dnode), source, from, dnode.end, steps)?;
@@ -201,14 +195,12 @@ fn run_of<D: Disk, L: Ledger>(
 ) -> Result<Run, BlockFault>
     requires dnode { DnodeFits dnode.now }
     requires turn { (0 < turn.most) × (turn.index + turn.most ≤ dnode.now.end) }
-    ensures withheld { turn.is_withheld ≡ true → IfOk result (λ run. (run.first ≡ turn.index) × (run.count ≡ 1) × (run.what ≡ cells.Redacted)) × ((disk_of io.new).calls ≤ (disk_of io.old).calls) }
+    ensures withheld { turn.is_withheld ≡ true → TellsWithheld turn result × ((disk_of io.new).calls ≤ (disk_of io.old).calls) }
     ensures run { (object : Object) (date : ℕ) (dates : ℕ → ℕ) (map : Map) (withheld : ℕ → Bool) → IsHonest io.new → IsObject object → turn.is_withheld ≡ false → withheld turn.index ≡ false
         → ObjectIn (blocks_of io.old) (outside_indices withheld (blocks_of io.old)) dnode.now object date dates map
         → Delivers (λ run. IsRun (blocks_of io.old) withheld object dates turn.index run × (run.count ≤ turn.most)) result }
-    ensures ok { (turn.is_withheld ≡ true) → IfErr result (λ fault. ⊥) }
     ensures ranges { IfOk result (RunFits turn.index dnode.now.end) }
-    ensures stands { (set : ObjSet) → IsHonest io.new → StandsIn (IsSeen (disk_of io.old).seen) set dnode.now → IfOk result (RunStands (IsSeen (disk_of io.old).seen) set) }
-    ensures damaged { (set : ObjSet) → IsHonest io.new → StandsIn (IsSeen (disk_of io.old).seen) set dnode.now → IfDamaged result (IsDamagedCell (IsSeen (disk_of io.old).seen) (disk_of io.old).size set) }
+    ensures of_walk { (set : ObjSet) → IsHonest io.new → StandsIn (IsSeen (disk_of io.old).seen) set dnode.now → IsOfWalk (disk_of io.old).seen (disk_of io.old).size set result (λ images. RunStands images set) }
     ensures looks { LooksInSteps 7 (io_of io.old) (io_of io.new) (stop_of result) steps.old steps.new }
 {
     if turn.is_withheld {

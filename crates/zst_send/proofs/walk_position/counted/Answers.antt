@@ -10,13 +10,18 @@ use Rattle.zst_traverse.specs.Cells.{choice_with, IsNextCellIn}
 use Rattle.zst_traverse.specs.ListedNumbers.{AreIncluded}
 use Rattle.zst_send.proofs.walk_position.counted.Goals as goal
 
--- where no pair is listed or withheld, all data are read
-pub returns-clause-found : goal.returns-clause-found
-returns-clause-found g c = λ snap honest holds.
-    let was = blocks_of c.args.io.now in
-    let has = blocks_of c.next_cell.new.io in
-    subst (λ (l : Runs). Delivers (IsNextCellIn has (outside (has_pair l) has) snap (choice_with c.args.source l l) c.args.position.now.point c.args.position.now.slot) c.next_cell.result) c.empty-none.ensures
-    (c.next_cell.ensures.found snap honest (subst (λ (l : Runs). SetHoldsBut was (has_pair l) c.args.set.now snap) (sym c.empty-none.ensures) holds))
+pub returns-clause-finds : goal.returns-clause-finds
+returns-clause-finds g c = record {
+  -- where no pair is listed or withheld, all data are read
+  found = λ snap honest holds.
+      let was = blocks_of c.args.io.now in
+      let has = blocks_of c.next_cell.new.io in
+      subst (λ (l : Runs). Delivers (IsNextCellIn has (outside (has_pair l) has) snap (choice_with c.args.source l l) c.args.position.now.point c.args.position.now.slot) c.next_cell.result) c.empty-none.ensures
+      (c.next_cell.ensures.found snap honest (subst (λ (l : Runs). SetHoldsBut was (has_pair l) c.args.set.now snap) (sym c.empty-none.ensures) holds));
+  ranges = c.next_cell.ensures.ranges;
+  of_walk = c.next_cell.ensures.of_walk;
+  looks = c.next_cell.ensures.looks.looks;
+}
 
 pub returns-clause-few : goal.returns-clause-few
 returns-clause-few g c = λ snap honest tight.
@@ -25,6 +30,3 @@ returns-clause-few g c = λ snap honest tight.
     let tight_in = subst (λ (l : Runs). SetIsTightIn has (outside (has_pair l) has) c.args.set.now snap) (sym c.empty-none.ensures) tight in
     let included = subst (λ (l : Runs). AreIncluded snap (choice_with c.args.source l l) l l) (sym c.empty-none.ensures) (λ k i listed. absurd (false≢true listed)) in
     omega (arith, begins, c.next_cell.ensures.few snap honest tight_in included, c.next_cell.ensures.looks.calls)
-
-pub returns-clause-looks : goal.returns-clause-looks
-returns-clause-looks g c = c.next_cell.ensures.looks.looks

@@ -2,7 +2,13 @@ use Rattle.std.proofs.Common.{◌≡◌, ℕ, ◌/◌, false, Bool, List, sym, s
 use Rattle.std.proofs.lemmas.Result.{err_from_is_err_and}
 use Rattle.zst_space.specs.FreeSectors.{FreeSectors}
 use Rattle.zst_block.specs.Blocks.{Has}
-use Rattle.zst_block.specs.IoStates.{blocks_of}
+use Rattle.std.specs.Prelude.{IfSome}
+use Rattle.zst_block.specs.IoStates.{blocks_of, disk_of}
+use Rattle.zst_tree.specs.Damage.{HangsIn, IsSeen, MayHave}
+use Rattle.zst_tree.proofs.Damage.{seen_before}
+use Rattle.zst_traverse.proofs.Damage.{named_told, tall_told}
+use Rattle.zst_traverse.specs.StandingEntries.{FoundStands}
+use Rattle.zst_traverse.specs.WalkCalls.{IsOfWalk}
 use Rattle.zst_tree.proofs.Results.{delivers_if}
 use Rattle.zst_tree.specs.Indices.{Delivers}
 use Rattle.zst_objset.proofs.LeafLaws.{look_on}
@@ -19,8 +25,7 @@ pub returns-then-point-ge-NUMBER_BOUND : goal.returns-then-point-ge-NUMBER_BOUND
 returns-then-point-ge-NUMBER_BOUND g c = record {
   found = λ snap honest holds. past_next (blocks_of c.args.io.now) (outside (has_pair c.args.withheld.now) (blocks_of c.args.io.now)) snap (choice_with c.args.from c.args.listed.now c.args.withheld.now) c.args.point c.args.slot holds.lawful (omega arith);
   ranges = tt;
-  stands = λ honest. tt;
-  damaged = λ honest. tt;
+  of_walk = λ honest. record { stands = tt; damaged = tt };
   looks = BySteps-none _ _;
   few = λ snap honest tight included. omega arith;
 }
@@ -63,18 +68,35 @@ returns-else-is_passed-clause-few g c = λ snap honest tight included.
 pub returns-then-set-gt7-clause-ranges : goal.returns-then-set-gt7-clause-ranges
 returns-then-set-gt7-clause-ranges g c = tt
 
-pub returns-then-set-gt7-clause-stands : goal.returns-then-set-gt7-clause-stands
-returns-then-set-gt7-clause-stands g c = λ honest. tt
+pub returns-then-set-gt7-clause-of_walk : goal.returns-then-set-gt7-clause-of_walk
+returns-then-set-gt7-clause-of_walk g c = λ honest.
+    let disk = disk_of c.args.io.now in
+    record { stands = tt; damaged = rw c.of_layout.ensures (tall_told (IsSeen disk.seen) disk.size c.args.set.now (omega arith)) }
 
 pub returns-in_err-leaf-clause-ranges : goal.returns-in_err-leaf-clause-ranges
 returns-in_err-leaf-clause-ranges g c =
     let p = err_from_is_err_and c.from_residual.result c.from_residual.ensures.1 in
     rw p.1 tt
 
-pub returns-in_err-leaf-clause-stands : goal.returns-in_err-leaf-clause-stands
-returns-in_err-leaf-clause-stands g c = λ honest.
+pub returns-in_err-leaf-clause-of_walk : goal.returns-in_err-leaf-clause-of_walk
+returns-in_err-leaf-clause-of_walk g c = λ honest.
     let p = err_from_is_err_and c.from_residual.result c.from_residual.ensures.1 in
-    rw p.1 tt
+    let disk = disk_of c.args.io.now in
+    rw (p.1, p.2) (record { stands = tt; damaged = named_told (IsSeen disk.seen) disk.size c.args.set.now c.in_err-leaf.field-0.0 (c.in_err-leaf.ensures.damaged honest) })
+
+pub returns-then-is_passed-clause-of_walk : goal.returns-then-is_passed-clause-of_walk
+returns-then-is_passed-clause-of_walk g c = λ honest.
+    let looks = c.in_ok-leaf.ensures.looks.by_steps.looks in
+    let was = c.behind_slot.ensures.looks.looks.reads.honest honest in
+    let on = look_on (λ (seen : List ℕ) (space : FreeSectors). HangsIn (MayHave (IsSeen seen)) c.args.set.now.tree c.in_ok-leaf.leaf.ptr) looks (c.in_ok-leaf.ensures.hangs was) in
+    seen_before looks (λ (seen : List ℕ) (size : ℕ). IsOfWalk seen size c.args.set.now c.behind_slot.result (λ images found. IfSome found (FoundStands images c.args.set.now))) (c.behind_slot.ensures.of_walk honest on)
+
+pub returns-else-is_passed-clause-of_walk : goal.returns-else-is_passed-clause-of_walk
+returns-else-is_passed-clause-of_walk g c = λ honest.
+    let looks = c.in_ok-leaf.ensures.looks.by_steps.looks in
+    let was = c.next_listed.ensures.looks.looks.reads.honest honest in
+    let on = look_on (λ (seen : List ℕ) (space : FreeSectors). HangsIn (MayHave (IsSeen seen)) c.args.set.now.tree c.in_ok-leaf.leaf.ptr) looks (c.in_ok-leaf.ensures.hangs was) in
+    seen_before looks (λ (seen : List ℕ) (size : ℕ). IsOfWalk seen size c.args.set.now c.next_listed.result (λ images found. IfSome found (FoundStands images c.args.set.now))) (c.next_listed.ensures.of_walk honest on)
 
 pub returns-in_err-leaf-clause-looks : goal.returns-in_err-leaf-clause-looks
 returns-in_err-leaf-clause-looks g c =

@@ -1,5 +1,5 @@
 use Rattle.std.proofs.lemmas.Result.{err_from_is_err_and}
-use Rattle.std.proofs.Common.{ℕ, ◌+◌, ◌-◌, ◌*◌, ◌<◌, List, subst, arith}
+use Rattle.std.proofs.Common.{ℕ, ◌+◌, ◌-◌, ◌*◌, ◌<◌, ◌≤◌, List, subst, arith}
 use Rattle.zst_space.specs.FreeSectors.{FreeSectors}
 use Rattle.zst_block.specs.Blocks.{Has}
 use Rattle.zst_block.specs.IoStates.{IsHonest, blocks_of, disk_of}
@@ -10,18 +10,17 @@ use Rattle.zst_tree.specs.Damage.{HangsIn, IsSeen, MayHave}
 use Rattle.zst_tree.specs.declared.tree.ObjSet.{ObjSet}
 use Rattle.zst_tree.specs.Indices.{Delivers}
 use Rattle.zst_objset.proofs.LeafLaws.{look_back, look_on}
-use Rattle.zst_objset.specs.Damage.{HasSlot, IfDamaged, StandsIn}
+use Rattle.zst_objset.specs.Damage.{HasSlot, StandsIn}
 use Rattle.zst_objset.specs.Dnodes.{IsThereIn, outside}
 use Rattle.zst_traverse.specs.Cells.{choice_after}
 use Rattle.zst_traverse.specs.Leaves.{ShowsAhead, StandsFor}
-use Rattle.zst_traverse.specs.Slots.{HasGlance, ShowsLate}
+use Rattle.zst_traverse.specs.Slots.{GlanceFits, HasGlance, ShowsLate}
 use Rattle.zst_traverse.specs.StandingEntries.{AheadStands}
-use Rattle.zst_traverse.specs.Damage.{IsDamagedCell}
+use Rattle.zst_traverse.specs.WalkCalls.{IsOfWalk}
 use Rattle.zst_traverse.specs.declared.slots.Glance.{Glance}
-use Rattle.zst_traverse.proofs.Damage.{dnode_stands}
-use Rattle.zst_traverse.proofs.LeafLooks.{gone_shown, if_nothing, late_shown, next_tightly, not_lacking, nothing_shown, object_shown, ObjectShown}
+use Rattle.zst_traverse.proofs.Damage.{dnode_stands, lacking_cell, leaf_told}
+use Rattle.zst_traverse.proofs.LeafLooks.{advanced_fits, advanced_on, gone_shown, if_nothing, late_shown, next_tightly, not_lacking, nothing_shown, object_shown, ObjectShown}
 use Rattle.zst_model.specs.states.DatedState.{DatedState}
-use Rattle.std.specs.Prelude.{IfOk}
 use Rattle.zst_traverse.proofs.leaves.look.Given as given
 use Rattle.zst_tree.proofs.StepLooks.{InSteps-more, InSteps-none, InSteps-then}
 use Rattle.zst_traverse.proofs.leaves.look.Goals as goal
@@ -38,8 +37,7 @@ returns-in-Some-Nothing g c = record {
       (λ held spells. subst (λ (seen : Glance). ShowsLate held c.args.source c.args.leaf.now.index (c.args.from - 16 * c.args.leaf.now.index) seen) c.in-Some-Nothing.field-0-is (c.in-Some-Nothing.ensures.shows held spells));
   ranges = c.requires.leaf.from.2;
   goes_on = λ before. before;
-  stands = λ set honest hangs. tt;
-  damaged = λ set honest hangs. tt;
+  of_walk = λ set honest hangs. record { stands = tt; damaged = tt };
   tightly = λ snap pairs honest held. record {
     ends = omega arith;
     few = c.in_ok-load_leaf.ensures.looks.few;
@@ -82,17 +80,12 @@ dnode_there g c set honest hangs =
     has.0 has.1 in
     look_on (λ (seen : List ℕ) (space : FreeSectors). StandsIn (IsSeen seen) set dnode) c.in_ok-load_leaf.ensures.looks.by_steps.looks stands
 
-pub returns-then-leaf-eq0-clause-stands : goal.returns-then-leaf-eq0-clause-stands
-returns-then-leaf-eq0-clause-stands g c = λ set honest hangs. c.in_hole.ensures.stands _ set
+pub returns-then-leaf-eq0-clause-of_walk : goal.returns-then-leaf-eq0-clause-of_walk
+returns-then-leaf-eq0-clause-of_walk g c = λ set honest hangs. record { stands = c.in_hole.ensures.stands _ set; damaged = tt }
 
-pub returns-in-Some-There-clause-stands : goal.returns-in-Some-There-clause-stands
-returns-in-Some-There-clause-stands g c = λ set honest hangs.
-    seen_before c.in_ok-load_leaf.ensures.looks.by_steps.looks (λ (seen : List ℕ) (size : ℕ). IfOk c.judged.result (AheadStands (IsSeen seen) set)) (c.judged.ensures.stands set honest (dnode_there g c set honest hangs))
-
-pub returns-in-Some-There-clause-damaged : goal.returns-in-Some-There-clause-damaged
-returns-in-Some-There-clause-damaged g c = λ set honest hangs.
-    let on = dnode_there g c set honest hangs in
-    seen_before c.in_ok-load_leaf.ensures.looks.by_steps.looks (λ (seen : List ℕ) (size : ℕ). IfDamaged c.judged.result (IsDamagedCell (IsSeen seen) size set)) (c.judged.ensures.damaged set honest on)
+pub returns-in-Some-There-clause-of_walk : goal.returns-in-Some-There-clause-of_walk
+returns-in-Some-There-clause-of_walk g c = λ set honest hangs.
+    seen_before c.in_ok-load_leaf.ensures.looks.by_steps.looks (λ (seen : List ℕ) (size : ℕ). IsOfWalk seen size set c.judged.result (λ images. AheadStands images set)) (c.judged.ensures.of_walk set honest (dnode_there g c set honest hangs))
 
 pub returns-in-Some-There-clause-tightly : goal.returns-in-Some-There-clause-tightly
 returns-in-Some-There-clause-tightly g c = λ snap pairs honest held.
@@ -103,20 +96,17 @@ returns-in-Some-There-clause-tightly g c = λ snap pairs honest held.
 pub returns-in-Some-There-clause-looks : goal.returns-in-Some-There-clause-looks
 returns-in-Some-There-clause-looks g c = InSteps-then (omega arith) c.in_ok-load_leaf.ensures.looks c.judged.ensures.looks
 
-pub returns-then-leaf-eq0-clause-damaged : goal.returns-then-leaf-eq0-clause-damaged
-returns-then-leaf-eq0-clause-damaged g c = λ set honest hangs. tt
-
 pub returns-then-leaf-eq0-clause-looks : goal.returns-then-leaf-eq0-clause-looks
 returns-then-leaf-eq0-clause-looks g c = InSteps-none _ _
 
 pub returns-then-leaf-eq0-clause-ranges : goal.returns-then-leaf-eq0-clause-ranges
-returns-then-leaf-eq0-clause-ranges g c = c.in_hole.ensures.ranges
+returns-then-leaf-eq0-clause-ranges g c = c.in_hole.ensures.passes.ranges
 
 pub returns-then-leaf-eq0-clause-tightly : goal.returns-then-leaf-eq0-clause-tightly
 returns-then-leaf-eq0-clause-tightly g c = λ snap pairs honest held. record {
-  ends = c.in_hole.ensures.ends;
+  ends = c.in_hole.ensures.passes.ends;
   few = if_nothing _ c.in_hole.result (omega arith);
-  late = λ late start. c.in_hole.ensures.late late (omega (arith, start, c.requires.leaf.index)) (omega (arith, start, c.requires.leaf.count.0));
+  late = λ late start. c.in_hole.ensures.passes.late late (omega (arith, start, c.requires.leaf.index)) (omega (arith, start, c.requires.leaf.count.0));
 }
 
 pub returns-in_err-load_leaf-clause-ranges : goal.returns-in_err-load_leaf-clause-ranges
@@ -129,10 +119,11 @@ returns-in_err-load_leaf-clause-goes_on g c = λ before.
     let p = err_from_is_err_and c.from_residual.result c.from_residual.ensures.1 in
     rw p.1 tt
 
-pub returns-in_err-load_leaf-clause-stands : goal.returns-in_err-load_leaf-clause-stands
-returns-in_err-load_leaf-clause-stands g c = λ set honest hangs.
+pub returns-in_err-load_leaf-clause-of_walk : goal.returns-in_err-load_leaf-clause-of_walk
+returns-in_err-load_leaf-clause-of_walk g c = λ set honest hangs.
     let p = err_from_is_err_and c.from_residual.result c.from_residual.ensures.1 in
-    rw p.1 tt
+    let disk = disk_of c.args.io.now in
+    rw (p.1, p.2) (record { stands = tt; damaged = leaf_told (IsSeen disk.seen) disk.size set c.args.leaf.now.ptr hangs c.in_err-load_leaf.field-0.0 (c.in_err-load_leaf.ensures.damaged honest) })
 
 pub returns-in_err-load_leaf-clause-tightly : goal.returns-in_err-load_leaf-clause-tightly
 returns-in_err-load_leaf-clause-tightly g c = λ snap pairs honest held.
@@ -150,17 +141,17 @@ returns-in-None-clause-ranges g c = tt
 pub returns-in-None-clause-goes_on : goal.returns-in-None-clause-goes_on
 returns-in-None-clause-goes_on g c = λ before. tt
 
-pub returns-in-None-clause-stands : goal.returns-in-None-clause-stands
-returns-in-None-clause-stands g c = λ set honest hangs. tt
+pub returns-in-None-clause-of_walk : goal.returns-in-None-clause-of_walk
+returns-in-None-clause-of_walk g c = λ set honest hangs. record {
+  stands = tt;
+  damaged = rw c.of_layout.ensures (lacking_cell _ _ set c.args.leaf.now.ptr c.load_leaf.new.io.node hangs (c.in_ok-load_leaf.ensures.loaded honest) c.in-None.ensures.none);
+}
 
 pub returns-in-None-clause-tightly : goal.returns-in-None-clause-tightly
 returns-in-None-clause-tightly g c = λ snap pairs honest held. next_tightly _ tt
 
-pub returns-in-Some-Absent-clause-damaged : goal.returns-in-Some-Absent-clause-damaged
-returns-in-Some-Absent-clause-damaged g c = λ set honest hangs. tt
-
-pub returns-in-Some-Absent-clause-stands : goal.returns-in-Some-Absent-clause-stands
-returns-in-Some-Absent-clause-stands g c = λ set honest hangs. tt
+pub returns-in-Some-Absent-clause-of_walk : goal.returns-in-Some-Absent-clause-of_walk
+returns-in-Some-Absent-clause-of_walk g c = λ set honest hangs. record { stands = tt; damaged = tt }
 
 pub returns-in-Some-Absent-clause-looks : goal.returns-in-Some-Absent-clause-looks
 returns-in-Some-Absent-clause-looks g c = InSteps-more (omega arith) c.in_ok-load_leaf.ensures.looks
@@ -174,7 +165,19 @@ load_leaf-requires g c = record { index = c.requires.leaf.index }
 pub in_hole-requires : goal.in_hole-requires
 in_hole-requires g c =
     let leaf = c.requires.leaf in
-    record { index = leaf.index; count = leaf.count.1; from = (leaf.from.0, leaf.from.1, omega (arith, leaf.from.2, leaf.count.0), omega (arith, leaf.from.2, leaf.index)) }
+    record { leaf = record { index = leaf.index; count = leaf.count.1; from = (leaf.from.0, leaf.from.1, omega (arith, leaf.from.2, leaf.count.0), omega (arith, leaf.from.2, leaf.index)) } }
 
 pub glance_at-requires : goal.glance_at-requires
 glance_at-requires g c = record { leaf = c.requires.leaf.index; from = omega (arith, c.requires.leaf.from.2) }
+
+-- the number that is judged is at or after the one from which the look goes on
+place_from : (g : given.Over) (c : goal.After-judged g) → c.args.from ≤ 16 * c.args.leaf.now.index + c.in-Some-There.place
+place_from g c =
+    let fits = subst (GlanceFits c.args.leaf.now.index (c.args.from - 16 * c.args.leaf.now.index)) c.in-Some-There.field-0-is c.in-Some-There.ensures.ranges in
+    omega (arith, fits.0, c.requires.leaf.from.1)
+
+pub returns-in-Some-There-clause-ranges : goal.returns-in-Some-There-clause-ranges
+returns-in-Some-There-clause-ranges g c = advanced_fits c.args.from _ (place_from g c) c.judged.result c.judged.ensures.goes_on
+
+pub returns-in-Some-There-clause-goes_on : goal.returns-in-Some-There-clause-goes_on
+returns-in-Some-There-clause-goes_on g c = λ before. advanced_on c.args.from _ (place_from g c) c.judged.result c.judged.ensures.goes_on

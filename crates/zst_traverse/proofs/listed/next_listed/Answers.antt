@@ -3,11 +3,15 @@ use Rattle.std.specs.Prelude.{IfSome, Option, Some}
 use Rattle.std.proofs.lemmas.Result.{err_from_is_err_and}
 use Rattle.zst_space.specs.FreeSectors.{FreeSectors}
 use Rattle.zst_block.specs.Blocks.{Has}
-use Rattle.zst_block.specs.IoStates.{blocks_of}
+use Rattle.zst_block.specs.IoStates.{blocks_of, disk_of}
 use Rattle.zst_dnode.specs.Dnode.{DnodeFits}
 use Rattle.zst_dnode.specs.declared.dnode.Dnode.{Dnode}
 use Rattle.zst_model.specs.fields.Lists.{has_pair}
 use Rattle.zst_objset.proofs.LeafLaws.{look_back, look_on}
+use Rattle.zst_objset.specs.Damage.{IfDamage, StandsIn}
+use Rattle.zst_tree.specs.Damage.{IsSeen}
+use Rattle.zst_tree.proofs.Damage.{seen_before}
+use Rattle.zst_traverse.specs.Damage.{IsDamagedCell}
 use Rattle.zst_objset.specs.Dnodes.{outside}
 use Rattle.zst_objset.specs.Sets.{SetHoldsBut}
 use Rattle.zst_traverse.specs.Leaves.{HoldsLeaf}
@@ -32,7 +36,7 @@ loop-number-init g c = record {
   some = c.requires.leaf.from.0;
   none = λ snap honest held k over under. absurd (omega arith);
   first = λ snap honest held. c.in_ok-by_date.ensures.found snap (has_pair c.args.withheld.now) honest held;
-  stands = λ honest hangs. c.in_ok-by_date.ensures.stands honest hangs;
+  stands = λ honest hangs. (c.in_ok-by_date.ensures.of_walk honest hangs).stands;
   few = λ snap honest held included. c.in_ok-by_date.ensures.few snap (has_pair c.args.withheld.now) honest held;
   looks = c.in_ok-by_date.ensures.looks;
 }
@@ -131,3 +135,26 @@ returns-in_err-dnode-clause-looks g c =
 
 pub returns-clause-looks : goal.returns-clause-looks
 returns-clause-looks g c = c.loop-number.invariant.looks
+
+pub returns-in_err-by_date-clause-of_walk : goal.returns-in_err-by_date-clause-of_walk
+returns-in_err-by_date-clause-of_walk g c = λ honest hangs.
+    let p = err_from_is_err_and c.from_residual.result c.from_residual.ensures.1 in
+    rw (p.1, p.2) (record { stands = tt; damaged = (c.in_err-by_date.ensures.of_walk honest hangs).damaged })
+
+pub returns-in_err-dnode-clause-of_walk : goal.returns-in_err-dnode-clause-of_walk
+returns-in_err-dnode-clause-of_walk g c = λ honest hangs.
+    let p = err_from_is_err_and c.from_residual-in_err-dnode.result c.from_residual-in_err-dnode.ensures.1 in
+    rw (p.1, p.2) (record {
+      stands = tt;
+      damaged = seen_before c.loop-number.invariant.looks.looks (λ (seen : List ℕ) (size : ℕ). IfDamage c.in_err-dnode.field-0.0 (IsDamagedCell (IsSeen seen) size c.args.set.now)) (c.in_err-dnode.ensures.of_walk honest).damaged;
+    })
+
+pub returns-in-Some-2-clause-of_walk : goal.returns-in-Some-2-clause-of_walk
+returns-in-Some-2-clause-of_walk g c = λ honest hangs. record {
+  stands = seen_before c.loop-number.invariant.looks.looks (λ (seen : List ℕ) (size : ℕ). StandsIn (IsSeen seen) c.args.set.now c.in-Some-2.dnode)
+      (subst (λ (found : Option Dnode). IfSome found (StandsIn (IsSeen (disk_of c.loop-number.io).seen) c.args.set.now)) c.in-Some-2.is (c.in_ok-dnode.ensures.of_walk honest).stands);
+  damaged = tt;
+}
+
+pub returns-clause-of_walk : goal.returns-clause-of_walk
+returns-clause-of_walk g c = λ honest hangs. record { stands = c.loop-number.invariant.stands honest hangs; damaged = tt }

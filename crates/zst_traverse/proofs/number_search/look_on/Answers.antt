@@ -3,7 +3,14 @@ use Rattle.std.specs.Prelude.{IfSome, Option}
 use Rattle.std.proofs.lemmas.Result.{err_from_is_err_and}
 use Rattle.zst_space.specs.FreeSectors.{FreeSectors}
 use Rattle.zst_block.specs.Blocks.{Has}
-use Rattle.zst_block.specs.IoStates.{IsHonest, blocks_of}
+use Rattle.zst_block.specs.IoStates.{IsHonest, blocks_of, disk_of}
+use Rattle.zst_objset.specs.Damage.{IfDamage}
+use Rattle.zst_tree.specs.Damage.{HangsIn, IsSeen, MayHave}
+use Rattle.zst_tree.proofs.Damage.{seen_before}
+use Rattle.zst_traverse.specs.Damage.{IsDamagedCell}
+use Rattle.zst_traverse.specs.StandingEntries.{AheadStands}
+use Rattle.zst_traverse.proofs.Damage.{named_told, node_told}
+use Rattle.zst_traverse.specs.WalkCalls.{IsOfWalk}
 use Rattle.zst_block.specs.declared.ptr.Ptr.{Ptr}
 use Rattle.zst_block.proofs.IoCallLemmas.{Looks-then}
 use Rattle.zst_model.specs.sends.Inclusion.{is_after}
@@ -15,7 +22,7 @@ use Rattle.zst_traverse.specs.Cells.{choice_after, NoNumber}
 use Rattle.zst_traverse.specs.Dates.{FindsLate, IsFirstLate}
 use Rattle.zst_traverse.specs.Leaves.{EndsAll, IsNext, ShowsAhead}
 use Rattle.zst_traverse.proofs.HeldLeaves.{leaf_held, tight_leaf_held}
-use Rattle.zst_traverse.proofs.LeafLooks.{if_ok, next_all}
+use Rattle.zst_traverse.proofs.LeafLooks.{if_ok, next_all, passes_from}
 use Rattle.zst_traverse.proofs.Numbers.{ahead_behind, leaves_early}
 use Rattle.zst_tree.proofs.StepLooks.{InSteps-more, InSteps-then}
 use Rattle.zst_traverse.proofs.number_search.look_on.Given as given
@@ -86,20 +93,16 @@ look-requires g c =
 pub returns-in_ok-leaf-in-Some-clause-looks : goal.returns-in_ok-leaf-in-Some-clause-looks
 returns-in_ok-leaf-in-Some-clause-looks g c = InSteps-then {more = 21} (omega arith) c.in_ok-next_late.ensures.looks (InSteps-then (omega arith) c.in_ok-leaf-in-Some.ensures.looks c.look.ensures.looks)
 
-pub returns-in_err-next_late-clause-ranges : goal.returns-in_err-next_late-clause-ranges
-returns-in_err-next_late-clause-ranges g c =
-    let p = err_from_is_err_and c.from_residual.result c.from_residual.ensures.1 in
-    rw p.1 tt
-
 pub returns-in_err-next_late-clause-goes_on : goal.returns-in_err-next_late-clause-goes_on
 returns-in_err-next_late-clause-goes_on g c =
     let p = err_from_is_err_and c.from_residual.result c.from_residual.ensures.1 in
     rw p.1 tt
 
-pub returns-in_err-next_late-clause-stands : goal.returns-in_err-next_late-clause-stands
-returns-in_err-next_late-clause-stands g c = λ honest.
+pub returns-in_err-next_late-clause-of_walk : goal.returns-in_err-next_late-clause-of_walk
+returns-in_err-next_late-clause-of_walk g c = λ honest.
     let p = err_from_is_err_and c.from_residual.result c.from_residual.ensures.1 in
-    rw p.1 tt
+    let disk = disk_of c.args.io.now in
+    rw (p.1, p.2) (record { stands = tt; damaged = node_told (IsSeen disk.seen) disk.size c.args.set.now c.in_err-next_late.field-0.0 (c.in_err-next_late.ensures.damaged honest) })
 
 pub returns-in_err-next_late-clause-ends : goal.returns-in_err-next_late-clause-ends
 returns-in_err-next_late-clause-ends g c = λ snap pairs honest tight whole.
@@ -111,29 +114,40 @@ returns-in_err-next_late-clause-looks g c =
     let p = err_from_is_err_and c.from_residual.result c.from_residual.ensures.1 in
     rw (p.1, p.2) (InSteps-more (omega arith) c.in_err-next_late.ensures.looks)
 
-pub returns-in-None-clause-stands : goal.returns-in-None-clause-stands
-returns-in-None-clause-stands g c = λ honest. tt
-
-pub returns-in-None-clause-damaged : goal.returns-in-None-clause-damaged
-returns-in-None-clause-damaged g c = λ honest. tt
+pub returns-in-None-clause-of_walk : goal.returns-in-None-clause-of_walk
+returns-in-None-clause-of_walk g c = λ honest. record { stands = tt; damaged = tt }
 
 pub returns-in-None-clause-looks : goal.returns-in-None-clause-looks
 returns-in-None-clause-looks g c = InSteps-more (omega arith) c.in_ok-next_late.ensures.looks
 
-pub returns-in_err-leaf-in-Some-clause-ranges : goal.returns-in_err-leaf-in-Some-clause-ranges
-returns-in_err-leaf-in-Some-clause-ranges g c =
-    let p = err_from_is_err_and c.from_residual-in_err-leaf-in-Some.result c.from_residual-in_err-leaf-in-Some.ensures.1 in
-    rw p.1 tt
+pub returns-in_ok-leaf-in-Some-clause-goes_on : goal.returns-in_ok-leaf-in-Some-clause-goes_on
+returns-in_ok-leaf-in-Some-clause-goes_on g c =
+    let range : (c.args.from / 16 ≤ c.in-Some.index) × (c.in-Some.index < 2 ^ 44) = subst (λ (found : Option ℕ). IfSome found (λ first. (c.args.from / 16 ≤ first) × (first < 2 ^ 44))) c.in-Some.is c.in_ok-next_late.ensures.range in
+    let at : c.in_ok-leaf-in-Some.leaf.index ≡ c.in-Some.index = c.in_ok-leaf-in-Some.ensures.index in
+    passes_from c.args.from c.max.result (omega arith) c.look.result c.look.ensures.ranges (c.look.ensures.goes_on (omega (arith, at, range.0)))
 
 pub returns-in_err-leaf-in-Some-clause-goes_on : goal.returns-in_err-leaf-in-Some-clause-goes_on
 returns-in_err-leaf-in-Some-clause-goes_on g c =
     let p = err_from_is_err_and c.from_residual-in_err-leaf-in-Some.result c.from_residual-in_err-leaf-in-Some.ensures.1 in
     rw p.1 tt
 
-pub returns-in_err-leaf-in-Some-clause-stands : goal.returns-in_err-leaf-in-Some-clause-stands
-returns-in_err-leaf-in-Some-clause-stands g c = λ honest.
+pub returns-in_err-leaf-in-Some-clause-of_walk : goal.returns-in_err-leaf-in-Some-clause-of_walk
+returns-in_err-leaf-in-Some-clause-of_walk g c = λ honest.
     let p = err_from_is_err_and c.from_residual-in_err-leaf-in-Some.result c.from_residual-in_err-leaf-in-Some.ensures.1 in
-    rw p.1 tt
+    let fault = c.in_err-leaf-in-Some.field-0.0 in
+    let disk = disk_of c.next_late.new.io in
+    rw (p.1, p.2) (record {
+      stands = tt;
+      damaged = seen_before c.in_ok-next_late.ensures.looks.by_steps.looks (λ (seen : List ℕ) (size : ℕ). IfDamage fault (IsDamagedCell (IsSeen seen) size c.args.set.now))
+          (named_told (IsSeen disk.seen) disk.size c.args.set.now fault (c.in_err-leaf-in-Some.ensures.damaged honest));
+    })
+
+pub returns-in_ok-leaf-in-Some-clause-of_walk : goal.returns-in_ok-leaf-in-Some-clause-of_walk
+returns-in_ok-leaf-in-Some-clause-of_walk g c = λ honest.
+    let there = c.look.ensures.looks.by_steps.looks.reads.honest honest in
+    let found = c.in_ok-leaf-in-Some.ensures.looks.by_steps.looks in
+    let on = look_on (λ (seen : List ℕ) (space : FreeSectors). HangsIn (MayHave (IsSeen seen)) c.args.set.now.tree c.in_ok-leaf-in-Some.leaf.ptr) found (c.in_ok-leaf-in-Some.ensures.hangs there) in
+    seen_before (Looks-then c.in_ok-next_late.ensures.looks.by_steps.looks found) (λ (seen : List ℕ) (size : ℕ). IsOfWalk seen size c.args.set.now c.look.result (λ images. AheadStands images c.args.set.now)) (c.look.ensures.of_walk c.args.set.now honest on)
 
 pub returns-in_err-leaf-in-Some-clause-ends : goal.returns-in_err-leaf-in-Some-clause-ends
 returns-in_err-leaf-in-Some-clause-ends g c = λ snap pairs honest tight whole.

@@ -9,12 +9,16 @@ use Rattle.zst_tree.specs.Damage.{IsSeen}
 use Rattle.zst_objset.proofs.LeafLaws.{look_back, look_on}
 use Rattle.zst_objset.specs.Sets.{SetHoldsBut}
 use Rattle.zst_traverse.specs.Cells.{choice_after, IsNextNumberIn}
-use Rattle.zst_traverse.specs.Leaves.{AheadFits, EndsAll, EndsLeaf, IfNothing, ShowsAhead}
-use Rattle.zst_traverse.specs.StandingEntries.{AheadStands}
+use Rattle.zst_traverse.specs.Leaves.{Advances, AheadFits, EndsAll, EndsLeaf, IfNothing, ShowsAhead}
+use Rattle.zst_traverse.specs.StandingEntries.{AheadStands, FoundStands}
+use Rattle.zst_traverse.specs.Damage.{IsDamagedCell}
+use Rattle.zst_objset.specs.Damage.{IfDamage}
+use Rattle.zst_tree.proofs.Damage.{seen_before}
 use Rattle.zst_objset.specs.TightSets.{SetIsTightIn}
 use Rattle.zst_traverse.specs.declared.leaves.WalkStep.{WalkStep}
 use Rattle.zst_traverse.specs.declared.leaves.WalkStep.TheVariants as ahead
 use Rattle.zst_traverse.proofs.Numbers.{ahead_behind}
+use Rattle.zst_traverse.proofs.LeafLooks.{number_fits}
 use Rattle.zst_tree.proofs.StepLooks.{BySteps-then}
 use Rattle.zst_traverse.proofs.number_search.next_number.Goals as goal
 use Rattle.zst_objset.specs.Dnodes.{outside}
@@ -61,9 +65,34 @@ loop-at-init g c =
       looks = c.in_ok-found.ensures.looks.by_steps;
     }
 
-pub returns-in-Next-clause-stands : goal.returns-in-Next-clause-stands
-returns-in-Next-clause-stands g c = λ honest hangs.
-    subst (λ (shown : WalkStep). AheadStands (IsSeen (disk_of c.args.io.now).seen) c.args.set.now shown) c.in-Next.is (c.in_ok-found.ensures.stands c.args.set.now honest hangs)
+pub returns-in-Next-clause-of_walk : goal.returns-in-Next-clause-of_walk
+returns-in-Next-clause-of_walk g c = λ honest hangs. record {
+  stands = subst (λ (shown : WalkStep). AheadStands (IsSeen (disk_of c.args.io.now).seen) c.args.set.now shown) c.in-Next.is (c.in_ok-found.ensures.of_walk c.args.set.now honest hangs).stands;
+  damaged = tt;
+}
+
+pub returns-in_err-found-clause-of_walk : goal.returns-in_err-found-clause-of_walk
+returns-in_err-found-clause-of_walk g c = λ honest hangs.
+    let p = err_from_is_err_and c.from_residual.result c.from_residual.ensures.1 in
+    rw (p.1, p.2) (record { stands = tt; damaged = (c.in_err-found.ensures.of_walk c.args.set.now honest hangs).damaged })
+
+pub returns-in_err-found-2-clause-of_walk : goal.returns-in_err-found-2-clause-of_walk
+returns-in_err-found-2-clause-of_walk g c = λ honest hangs.
+    let p = err_from_is_err_and c.from_residual-in_err-found-2.result c.from_residual-in_err-found-2.ensures.1 in
+    rw (p.1, p.2) (record {
+      stands = tt;
+      damaged = seen_before c.loop-at.invariant.looks.looks (λ (seen : List ℕ) (size : ℕ). IfDamage c.in_err-found-2.field-0.0 (IsDamagedCell (IsSeen seen) size c.args.set.now)) (c.in_err-found-2.ensures.of_walk honest).damaged;
+    })
+
+pub returns-in-Next-2-clause-of_walk : goal.returns-in-Next-2-clause-of_walk
+returns-in-Next-2-clause-of_walk g c = λ honest hangs. record {
+  stands = seen_before c.loop-at.invariant.looks.looks (λ (seen : List ℕ) (size : ℕ). FoundStands (IsSeen seen) c.args.set.now c.in-Next-2.found)
+      (subst (λ (shown : WalkStep). AheadStands (IsSeen (disk_of c.loop-at.io).seen) c.args.set.now shown) c.in-Next-2.is (c.in_ok-found-2.ensures.of_walk honest).stands);
+  damaged = tt;
+}
+
+pub returns-clause-of_walk : goal.returns-clause-of_walk
+returns-clause-of_walk g c = λ honest hangs. record { stands = tt; damaged = tt }
 
 pub returns-in_err-found-2-clause-found : goal.returns-in_err-found-2-clause-found
 returns-in_err-found-2-clause-found g c = λ snap pairs honest held.
@@ -93,8 +122,8 @@ returns-in-Next-2-clause-few g c = λ snap pairs honest held.
 
 pub loop-at-preserved : goal.loop-at-preserved
 loop-at-preserved g c = record {
-  from_on = let on = subst (λ (shown : WalkStep). AheadFits c.loop-at.at shown) c.in-Nothing-2.is c.in_ok-found-2.ensures.ranges in omega (arith, on, c.loop-at.invariant.from_on);
-  some = let on = subst (λ (shown : WalkStep). AheadFits c.loop-at.at shown) c.in-Nothing-2.is c.in_ok-found-2.ensures.ranges in omega (arith, on, c.loop-at.invariant.some);
+  from_on = let on = subst (λ (shown : WalkStep). Advances c.loop-at.at shown) c.in-Nothing-2.is c.in_ok-found-2.ensures.goes_on in omega (arith, on, c.loop-at.invariant.from_on);
+  some = let on = subst (λ (shown : WalkStep). Advances c.loop-at.at shown) c.in-Nothing-2.is c.in_ok-found-2.ensures.goes_on in omega (arith, on, c.loop-at.invariant.some);
   none = λ snap pairs honest held k over under.
       let was = c.in_ok-found-2.ensures.looks.by_steps.looks.reads.honest honest in
       let on = look_on (λ (seen : List ℕ) (space : FreeSectors). SetHoldsBut (Has seen space) pairs c.args.set.now snap) c.loop-at.invariant.looks.looks held.holds in
@@ -131,3 +160,13 @@ returns-in-Next-2-clause-looks g c = BySteps-then c.loop-at.invariant.looks c.in
 
 pub returns-clause-looks : goal.returns-clause-looks
 returns-clause-looks g c = c.loop-at.invariant.looks
+
+pub loop-at-smaller : goal.loop-at-smaller
+loop-at-smaller g c =
+    let on = subst (λ (shown : WalkStep). Advances c.loop-at.at shown) c.in-Nothing-2.is c.in_ok-found-2.ensures.goes_on in
+    omega (arith, on)
+
+pub returns-in-Next-2-clause-ranges : goal.returns-in-Next-2-clause-ranges
+returns-in-Next-2-clause-ranges g c =
+    let at = subst (λ (shown : WalkStep). Advances c.loop-at.at shown) c.in-Next-2.is c.in_ok-found-2.ensures.goes_on in
+    number_fits c.args.from c.loop-at.at c.loop-at.invariant.from_on c.in-Next-2.found at

@@ -1,4 +1,6 @@
-use Rattle.zst_block.specs.IoStates.{blocks_of}
+use Rattle.zst_block.specs.IoStates.{blocks_of, disk_of}
+use Rattle.zst_tree.specs.Damage.{IsSeen, SumsUp, TellsNode}
+use Rattle.zst_traverse.proofs.Damage.{tree_told}
 use Rattle.std.proofs.Common.{ℕ, ◌^◌, sym, ◌∙◌, subst, arith}
 use Rattle.std.specs.Prelude.{Option}
 use Rattle.std.proofs.lemmas.Result.{err_from_is_err_and}
@@ -13,10 +15,8 @@ use Rattle.zst_traverse.proofs.objects.judged.Goals as goal
 pub returns-then-is_after : goal.returns-then-is_after
 returns-then-is_after g c = record {
   shows = λ snap pairs honest there. date_shown _ _ snap c.args.source c.args.number c.args.dnode there c.requires.number.0 c.requires.number.1 (sym c.is_after.ensures ∙ c.if-is_after.true);
-  ranges = (omega arith, c.requires.number.1, c.requires.dnode);
-  goes_on = tt;
-  stands = λ set honest stands. stands;
-  damaged = λ set honest stands. tt;
+  goes_on = (omega arith, c.requires.number.1, c.requires.dnode);
+  of_walk = λ set honest stands. record { stands = stands; damaged = tt };
   next = λ snap pairs honest there tight after. tt;
   looks = InSteps-none _ _;
 }
@@ -33,10 +33,8 @@ returns-in-Some g c = record {
       let tree = subst (λ (t : Tree). TreeIs (blocks_of c.args.io.now) t there.map) (sym c.tree_of.ensures) there.is.tree in
       index_shown _ _ snap c.args.source c.args.number c.args.dnode there c.requires.number.0 c.requires.number.1 c.in-Some.field-0
       (subst (λ (found : Option ℕ). FindsLate there.map c.args.source 0 (2 ^ 43) found) c.in-Some.is (c.in_ok-next_late.ensures.late there.map honest tree));
-  ranges = (omega arith, c.requires.number.1, c.requires.dnode);
-  goes_on = tt;
-  stands = λ set honest stands. stands;
-  damaged = λ set honest stands. tt;
+  goes_on = (omega arith, c.requires.number.1, c.requires.dnode);
+  of_walk = λ set honest stands. record { stands = stands; damaged = tt };
   next = λ snap pairs honest there tight after. tt;
   looks = c.in_ok-next_late.ensures.looks;
 }
@@ -47,10 +45,8 @@ returns-in-None g c = record {
       let tree = subst (λ (t : Tree). TreeIs (blocks_of c.args.io.now) t there.map) (sym c.tree_of.ensures) there.is.tree in
       early_passed _ _ snap c.args.source c.args.number c.args.dnode there c.requires.number.0 c.requires.number.1 (sym c.is_after.ensures ∙ c.if-is_after.false)
       (subst (λ (found : Option ℕ). FindsLate there.map c.args.source 0 (2 ^ 43) found) c.in-None.is (c.in_ok-next_late.ensures.late there.map honest tree));
-  ranges = omega arith;
   goes_on = omega arith;
-  stands = λ set honest stands. tt;
-  damaged = λ set honest stands. tt;
+  of_walk = λ set honest stands. record { stands = tt; damaged = tt };
   next = λ snap pairs honest there tight late.
       let tree = subst (λ (t : Tree). TreeIs (blocks_of c.args.io.now) t there.map) (sym c.tree_of.ensures) there.is.tree in
       tight_touched _ _ snap c.args.source c.args.number c.args.dnode there tight late (sym c.is_after.ensures ∙ c.if-is_after.false)
@@ -58,20 +54,21 @@ returns-in-None g c = record {
   looks = c.in_ok-next_late.ensures.looks;
 }
 
-pub returns-in_err-next_late-clause-ranges : goal.returns-in_err-next_late-clause-ranges
-returns-in_err-next_late-clause-ranges g c =
-    let p = err_from_is_err_and c.from_residual.result c.from_residual.ensures.1 in
-    rw p.1 tt
-
 pub returns-in_err-next_late-clause-goes_on : goal.returns-in_err-next_late-clause-goes_on
 returns-in_err-next_late-clause-goes_on g c =
     let p = err_from_is_err_and c.from_residual.result c.from_residual.ensures.1 in
     rw p.1 tt
 
-pub returns-in_err-next_late-clause-stands : goal.returns-in_err-next_late-clause-stands
-returns-in_err-next_late-clause-stands g c = λ set honest stands.
+pub returns-in_err-next_late-clause-of_walk : goal.returns-in_err-next_late-clause-of_walk
+returns-in_err-next_late-clause-of_walk g c = λ set honest stands.
     let p = err_from_is_err_and c.from_residual.result c.from_residual.ensures.1 in
-    rw p.1 tt
+    let fault = c.in_err-next_late.field-0.0 in
+    let seen = IsSeen (disk_of c.args.io.now).seen in
+    let size = (disk_of c.args.io.now).size in
+    rw (p.1, p.2) (record {
+      stands = tt;
+      damaged = tree_told seen size set c.args.dnode stands fault (subst (λ (t : Tree). TellsNode seen size (SumsUp seen) t.levels t.root fault) c.tree_of.ensures (c.in_err-next_late.ensures.damaged honest));
+    })
 
 pub returns-in_err-next_late-clause-next : goal.returns-in_err-next_late-clause-next
 returns-in_err-next_late-clause-next g c = λ snap pairs honest there tight after.

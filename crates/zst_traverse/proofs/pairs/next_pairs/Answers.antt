@@ -2,7 +2,13 @@ use Rattle.std.proofs.Common.{◌≡◌, ℕ, Bool, true, false, List, sym, subs
 use Rattle.std.proofs.lemmas.Result.{err_from_is_err_and}
 use Rattle.zst_space.specs.FreeSectors.{FreeSectors}
 use Rattle.zst_block.specs.Blocks.{Has}
-use Rattle.zst_block.specs.IoStates.{IsHonest, blocks_of}
+use Rattle.zst_block.specs.IoStates.{IsHonest, blocks_of, disk_of}
+use Rattle.zst_objset.specs.Damage.{IfDamage, StandsIn}
+use Rattle.zst_tree.specs.Damage.{IsSeen, SumsUp, TellsNode}
+use Rattle.zst_tree.proofs.Damage.{seen_before}
+use Rattle.zst_traverse.specs.Damage.{IsDamagedCell}
+use Rattle.zst_traverse.specs.StandingEntries.{RunStands}
+use Rattle.zst_traverse.proofs.Damage.{tree_told}
 use Rattle.zst_model.specs.fields.Lists.{has_pair}
 use Rattle.zst_model.specs.sends.Inclusion.{is_after}
 use Rattle.zst_model.specs.states.DatedState.{DatedState}
@@ -49,7 +55,7 @@ returns-in_err-run-in-Some-clause-found g c = λ snap honest lawful there.
     let turn = rw c.in-Some.is at (turn_taken g (goal.at.returns-in_err-run-in-Some-clause-found g c).After-first_turn snap there was) in
     let on = look_on (λ (seen : List ℕ) (space : FreeSectors). ObjectIn (Has seen space) (outside_indices withheld (Has seen space)) c.args.dnode.now there.object (snap.number_date c.args.point.object) (snap.index_date c.args.point.object) there.map) c.in_ok-late.ensures.looks.by_steps.looks there.is in
     rw (p.1, p.2) (either c.in-Some.turn.is_withheld
-    (λ hidden. absurd (c.in_err-run-in-Some.ensures.ok hidden))
+    (λ hidden. absurd (c.in_err-run-in-Some.ensures.withheld hidden).0)
     (λ shown. c.in_err-run-in-Some.ensures.run there.object _ _ there.map withheld honest (subst IsObjectOrNone there.there (lawful.objects c.args.point.object)) shown
     (turn.shown shown c.in-Some.turn.index (omega arith) (let some = turn.some in omega arith)) on))
 
@@ -59,10 +65,8 @@ returns-in-None g c = record {
       no_pairs_left _ snap c.args.source c.args.listed.now c.args.withheld.now c.args.point c.args.dnode.now there c.first_index-from.result c.first_index-from.ensures c.requires.dnode.end
       (rw c.in-None.is at (turn_taken g (goal.at.returns-in-None g c).After-first_turn snap there honest));
   ranges = tt;
-  stands = λ set honest stands. tt;
-  damaged = λ set honest stands. tt;
-  looks = InSteps-more (omega arith) c.in_ok-late.ensures.looks;
-  none = c.in_ok-late.ensures.looks.few;
+  of_walk = λ set honest stands. record { stands = tt; damaged = tt };
+  steps = record { looks = InSteps-more (omega arith) c.in_ok-late.ensures.looks; none = c.in_ok-late.ensures.looks.few };
 }
 
 pub returns-in_ok-run-in-Some-clause-found : goal.returns-in_ok-run-in-Some-clause-found
@@ -88,46 +92,50 @@ returns-in_err-late-clause-ranges g c =
     let p = err_from_is_err_and c.from_residual.result c.from_residual.ensures.1 in
     rw p.1 tt
 
-pub returns-in_err-late-clause-stands : goal.returns-in_err-late-clause-stands
-returns-in_err-late-clause-stands g c = λ set honest stands.
+pub returns-in_err-late-clause-of_walk : goal.returns-in_err-late-clause-of_walk
+returns-in_err-late-clause-of_walk g c = λ set honest stands.
     let p = err_from_is_err_and c.from_residual.result c.from_residual.ensures.1 in
-    rw p.1 tt
+    let fault = c.in_err-late.field-0.0 in
+    let seen = IsSeen (disk_of c.args.io.now).seen in
+    let size = (disk_of c.args.io.now).size in
+    rw (p.1, p.2) (record {
+      stands = tt;
+      damaged = tree_told seen size set c.args.dnode.now stands fault (subst (λ (t : Tree). TellsNode seen size (SumsUp seen) t.levels t.root fault) c.tree_of.ensures (c.in_err-late.ensures.damaged honest));
+    })
 
-pub returns-in_err-late-clause-looks : goal.returns-in_err-late-clause-looks
-returns-in_err-late-clause-looks g c =
+pub returns-in_err-late-clause-steps : goal.returns-in_err-late-clause-steps
+returns-in_err-late-clause-steps g c =
     let p = err_from_is_err_and c.from_residual.result c.from_residual.ensures.1 in
-    rw (p.1, p.2) (InSteps-more (omega arith) c.in_err-late.ensures.looks)
-
-pub returns-in_err-late-clause-none : goal.returns-in_err-late-clause-none
-returns-in_err-late-clause-none g c =
-    let p = err_from_is_err_and c.from_residual.result c.from_residual.ensures.1 in
-    rw p.1 tt
+    rw (p.1, p.2) (record { looks = InSteps-more (omega arith) c.in_err-late.ensures.looks; none = tt })
 
 pub returns-in_err-run-in-Some-clause-ranges : goal.returns-in_err-run-in-Some-clause-ranges
 returns-in_err-run-in-Some-clause-ranges g c =
     let p = err_from_is_err_and c.from_residual-in_err-run-in-Some.result c.from_residual-in_err-run-in-Some.ensures.1 in
     rw p.1 tt
 
-pub returns-in_err-run-in-Some-clause-stands : goal.returns-in_err-run-in-Some-clause-stands
-returns-in_err-run-in-Some-clause-stands g c = λ set honest stands.
+pub returns-in_err-run-in-Some-clause-of_walk : goal.returns-in_err-run-in-Some-clause-of_walk
+returns-in_err-run-in-Some-clause-of_walk g c = λ set honest stands.
     let p = err_from_is_err_and c.from_residual-in_err-run-in-Some.result c.from_residual-in_err-run-in-Some.ensures.1 in
-    rw p.1 tt
+    let looks = c.in_ok-late.ensures.looks.by_steps.looks in
+    let on = look_on (λ (seen : List ℕ) (space : FreeSectors). StandsIn (IsSeen seen) set c.args.dnode.now) looks stands in
+    rw (p.1, p.2) (record {
+      stands = tt;
+      damaged = seen_before looks (λ (seen : List ℕ) (size : ℕ). IfDamage c.in_err-run-in-Some.field-0.0 (IsDamagedCell (IsSeen seen) size set)) (c.in_err-run-in-Some.ensures.of_walk set honest on).damaged;
+    })
 
-pub returns-in_err-run-in-Some-clause-none : goal.returns-in_err-run-in-Some-clause-none
-returns-in_err-run-in-Some-clause-none g c =
+pub returns-in_err-run-in-Some-clause-steps : goal.returns-in_err-run-in-Some-clause-steps
+returns-in_err-run-in-Some-clause-steps g c =
     let p = err_from_is_err_and c.from_residual-in_err-run-in-Some.result c.from_residual-in_err-run-in-Some.ensures.1 in
-    rw p.1 tt
+    rw (p.1, p.2) (record { looks = InSteps-then (omega arith) c.in_ok-late.ensures.looks c.in_err-run-in-Some.ensures.looks; none = tt })
 
-pub returns-in_err-run-in-Some-clause-looks : goal.returns-in_err-run-in-Some-clause-looks
-returns-in_err-run-in-Some-clause-looks g c =
-    let p = err_from_is_err_and c.from_residual-in_err-run-in-Some.result c.from_residual-in_err-run-in-Some.ensures.1 in
-    rw (p.1, p.2) (InSteps-then (omega arith) c.in_ok-late.ensures.looks c.in_err-run-in-Some.ensures.looks)
+pub returns-in_ok-run-in-Some-clause-of_walk : goal.returns-in_ok-run-in-Some-clause-of_walk
+returns-in_ok-run-in-Some-clause-of_walk g c = λ set honest stands.
+    let looks = c.in_ok-late.ensures.looks.by_steps.looks in
+    let on = look_on (λ (seen : List ℕ) (space : FreeSectors). StandsIn (IsSeen seen) set c.args.dnode.now) looks stands in
+    record {
+      stands = seen_before looks (λ (seen : List ℕ) (size : ℕ). RunStands (IsSeen seen) set c.in_ok-run-in-Some.run') (c.in_ok-run-in-Some.ensures.of_walk set honest on).stands;
+      damaged = tt;
+    }
 
-pub returns-in_ok-run-in-Some-clause-damaged : goal.returns-in_ok-run-in-Some-clause-damaged
-returns-in_ok-run-in-Some-clause-damaged g c = λ set honest stands. tt
-
-pub returns-in_ok-run-in-Some-clause-none : goal.returns-in_ok-run-in-Some-clause-none
-returns-in_ok-run-in-Some-clause-none g c = tt
-
-pub returns-in_ok-run-in-Some-clause-looks : goal.returns-in_ok-run-in-Some-clause-looks
-returns-in_ok-run-in-Some-clause-looks g c = InSteps-then (omega arith) c.in_ok-late.ensures.looks c.in_ok-run-in-Some.ensures.looks
+pub returns-in_ok-run-in-Some-clause-steps : goal.returns-in_ok-run-in-Some-clause-steps
+returns-in_ok-run-in-Some-clause-steps g c = record { looks = InSteps-then (omega arith) c.in_ok-late.ensures.looks c.in_ok-run-in-Some.ensures.looks; none = tt }

@@ -13,7 +13,7 @@ returns-in-Bonus-clause-gives g c = λ left honest loaded pending.
     let given : ℕ = c.args.self.now.given in
     let copied = c.copy_from-in-Bonus in
     let payload : pending.payload ≡ take c.in-Bonus.count c.in-Bonus.field = subst (λ (p : Payload). IsPayload has p pending.payload) c.in-Bonus.is pending.payload_is in
-    let all = payload_given c.args.self.now.head pending.payload copied.new.into left given (given - 312) copied.result (length c.args.into.now) (omega (arith, c.requires.pending.head, c.if-self-lt-RECORD_LEN.false)) pending.left_are
+    let all = payload_given c.args.self.now.head pending.payload copied.new.into left given (given - 312) copied.result (length c.args.into.now) (omega (arith, c.requires.can.fits.head, c.if-self-lt-RECORD_LEN.false)) pending.left_are
     (subst (λ (p : List ℕ). copied.result ≡ min (length p - (given - 312)) (length c.args.into.now)) (sym payload) copied.ensures.count)
     (subst (λ (p : List ℕ). take copied.result copied.new.into ≡ take copied.result (drop (given - 312) p)) (sym payload) copied.ensures.copied) in
     (all.same, all.less)
@@ -24,11 +24,11 @@ returns-in_ok-load-in-Block-clause-gives g c = λ left honest loaded pending.
     let given : ℕ = c.args.self.now.given in
     let copied = c.copy_from-in-Block in
     let named = subst (λ (p : Payload). IsPayload has p pending.payload) c.in-Block.is pending.payload_is in
-    let most : c.in-Block.ptr.length ≤ 131072 = subst PayloadFits c.in-Block.is c.requires.pending.payload in
+    let most : c.in-Block.ptr.length ≤ 131072 = subst PayloadFits c.in-Block.is c.requires.can.fits.payload in
     let long : length pending.payload ≡ c.in-Block.ptr.length = named.1 in
     let there = c.in_ok-load-in-Block.ensures.there pending.payload honest loaded named.0 (omega (arith, most, long)) in
     let payload : pending.payload ≡ c.block.result.now = sym (c.block.ensures ∙ there) in
-    let all = payload_given c.args.self.now.head pending.payload copied.new.into left given (given - 312) copied.result (length c.args.into.now) (omega (arith, c.requires.pending.head, c.if-self-lt-RECORD_LEN.false)) pending.left_are
+    let all = payload_given c.args.self.now.head pending.payload copied.new.into left given (given - 312) copied.result (length c.args.into.now) (omega (arith, c.requires.can.fits.head, c.if-self-lt-RECORD_LEN.false)) pending.left_are
     (subst (λ (p : List ℕ). copied.result ≡ min (length p - (given - 312)) (length c.args.into.now)) (sym payload) copied.ensures.count)
     (subst (λ (p : List ℕ). take copied.result copied.new.into ≡ take copied.result (drop (given - 312) p)) (sym payload) copied.ensures.copied) in
     (all.same, all.less)
@@ -36,36 +36,36 @@ returns-in_ok-load-in-Block-clause-gives g c = λ left honest loaded pending.
 pub returns-then-self-lt-RECORD_LEN-clause-gives : goal.returns-then-self-lt-RECORD_LEN-clause-gives
 returns-then-self-lt-RECORD_LEN-clause-gives g c = λ left honest loaded pending.
     let copied = c.copy_from in
-    let all = head_given c.args.self.now.head pending.payload copied.new.into left c.args.self.now.given copied.result (length c.args.into.now) (omega (arith, c.requires.pending.head, c.if-self-lt-RECORD_LEN.true)) pending.left_are copied.ensures.count copied.ensures.copied in
+    let all = head_given c.args.self.now.head pending.payload copied.new.into left c.args.self.now.given copied.result (length c.args.into.now) (omega (arith, c.requires.can.fits.head, c.if-self-lt-RECORD_LEN.true)) pending.left_are copied.ensures.count copied.ensures.copied in
     (all.same, all.less)
 
 pub returns-in_err-load-in-Block-clause-gives : goal.returns-in_err-load-in-Block-clause-gives
 returns-in_err-load-in-Block-clause-gives g c = λ left honest loaded pending.
     let p = err_from_is_err_and c.from_residual.result c.from_residual.ensures.1 in
     let named = subst (λ (p : Payload). IsPayload (blocks_of c.args.io.now) p pending.payload) c.in-Block.is pending.payload_is in
-    let most : c.in-Block.ptr.length ≤ 131072 = subst PayloadFits c.in-Block.is c.requires.pending.payload in
+    let most : c.in-Block.ptr.length ≤ 131072 = subst PayloadFits c.in-Block.is c.requires.can.fits.payload in
     let long : length pending.payload ≡ c.in-Block.ptr.length = named.1 in
     rw (p.1, p.2) (c.in_err-load-in-Block.ensures.there pending.payload honest loaded named.0 (omega (arith, most, long)))
 
 pub returns-then-self-lt-RECORD_LEN-clause-copies : goal.returns-then-self-lt-RECORD_LEN-clause-copies
-returns-then-self-lt-RECORD_LEN-clause-copies g c = copies_none c.args.self.now _ c.args.buffer.now _ _ c.copy_from.result c.requires.buffer c.copy_from.ensures.into (omega (arith, c.copy_from.ensures.count))
+returns-then-self-lt-RECORD_LEN-clause-copies g c = copies_none c.args.self.now _ c.args.buffer.now _ _ c.copy_from.result c.requires.can.buffer_fits c.copy_from.ensures.into (omega (arith, c.copy_from.ensures.count))
 
 pub returns-in-Nothing-clause-copies : goal.returns-in-Nothing-clause-copies
-returns-in-Nothing-clause-copies g c = copies_none c.args.self.now _ c.args.buffer.now _ _ 0 c.requires.buffer refl (omega arith)
+returns-in-Nothing-clause-copies g c = copies_none c.args.self.now _ c.args.buffer.now _ _ 0 c.requires.can.buffer_fits refl (omega arith)
 
 pub returns-in-Bonus-clause-copies : goal.returns-in-Bonus-clause-copies
 returns-in-Bonus-clause-copies g c =
     let copied = c.copy_from-in-Bonus in
-    copies_none c.args.self.now _ c.args.buffer.now _ _ copied.result c.requires.buffer copied.ensures.into (omega (arith, copied.ensures.count))
+    copies_none c.args.self.now _ c.args.buffer.now _ _ copied.result c.requires.can.buffer_fits copied.ensures.into (omega (arith, copied.ensures.count))
 
 pub returns-in_err-load-in-Block-clause-copies : goal.returns-in_err-load-in-Block-clause-copies
 returns-in_err-load-in-Block-clause-copies g c =
     let p = err_from_is_err_and c.from_residual.result c.from_residual.ensures.1 in
     let load = c.in_err-load-in-Block.ensures in
-    rw (p.1, p.2) (block_refused c.args.self.now c.in-Block.ptr c.in-Block.is c.requires.pending _ _ c.args.buffer.now c.load.new.self _ _ load.loaded load.kept refl _ load.reads)
+    rw (p.1, p.2) (block_refused c.args.self.now c.in-Block.ptr c.in-Block.is c.requires.can.fits _ _ c.args.buffer.now c.load.new.self _ _ load.loaded load.kept refl _ load.reads)
 
 pub returns-in_ok-load-in-Block-clause-copies : goal.returns-in_ok-load-in-Block-clause-copies
 returns-in_ok-load-in-Block-clause-copies g c =
     let copied = c.copy_from-in-Block in
     let load = c.in_ok-load-in-Block.ensures in
-    block_copied c.args.self.now c.in-Block.ptr c.in-Block.is c.requires.pending _ _ c.args.buffer.now c.load.new.self _ _ load.loaded load.kept copied.ensures.into _ copied.result load.reads load.holds (omega (arith, copied.ensures.count))
+    block_copied c.args.self.now c.in-Block.ptr c.in-Block.is c.requires.can.fits _ _ c.args.buffer.now c.load.new.self _ _ load.loaded load.kept copied.ensures.into _ copied.result load.reads load.holds.holds (omega (arith, copied.ensures.count))

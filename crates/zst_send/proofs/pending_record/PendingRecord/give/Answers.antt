@@ -16,7 +16,7 @@ returns-in_err-count-clause-copies g c =
 pub returns-in_err-count-clause-more : goal.returns-in_err-count-clause-more
 returns-in_err-count-clause-more g c =
     let p = err_from_is_err_and c.from_residual.result c.from_residual.ensures.1 in
-    rw (p.1, p.2) (gives_none c.args.self.now _ c.requires.pending)
+    rw (p.1, p.2) (gives_none c.args.self.now _ c.requires.can.fits)
 
 pub returns-clause-copies : goal.returns-clause-copies
 returns-clause-copies g c = c.in_ok-count.ensures.copies
@@ -27,5 +27,5 @@ returns-clause-more g c = record {
   moved = refl;
   payload = refl;
   stays = tt;
-  fits = record { head = c.requires.pending.head; payload = c.requires.pending.payload; given = c.in_ok-count.ensures.count.1 };
+  fits = record { head = c.requires.can.fits.head; payload = c.requires.can.fits.payload; given = c.in_ok-count.ensures.count.1 };
 }

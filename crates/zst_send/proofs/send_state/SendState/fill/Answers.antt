@@ -232,3 +232,13 @@ returns-clause-into g c = record {
 
 pub returns-clause-puts : goal.returns-clause-puts
 returns-clause-puts g c = λ header snap point front put place honest holds had. (c.loop-count.invariant.paid header snap point front put place honest holds had).on
+
+pub give-requires : goal.give-requires
+give-requires g c = record {
+  can = record {
+    fits = c.in_ok-has_more.ensures.next.reads.stand.pending;
+    buffer_fits = c.in_ok-has_more.ensures.next.reads.buffer_fits;
+    some = search rules;
+    left = c.in_ok-has_more.ensures.more (ap (λ (b : Bool). Ok b) c.if-not-branch.false);
+  };
+}

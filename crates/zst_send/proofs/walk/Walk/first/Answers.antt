@@ -9,7 +9,8 @@ use Rattle.zst_model.specs.states.DatedState.{DatedState}
 use Rattle.zst_traverse.specs.Cells.{choice_after}
 use Rattle.zst_tree.proofs.Results.{delivers_if}
 use Rattle.zst_tree.specs.Indices.{Blocks}
-use Rattle.zst_send.specs.DueItems.{AreHeld}
+use Rattle.zst_block.proofs.IoCallLemmas.{Looks-none}
+use Rattle.zst_send.specs.DueItems.{AreHeld, DueFits}
 use Rattle.zst_send.specs.WalkPositions.{ComesFirst, GoesTo, left_behind}
 use Rattle.zst_send.specs.declared.due_items.DueItems.{DueItems}
 use Rattle.zst_send.specs.declared.walk_position.WalkPosition.{WalkPosition}
@@ -61,5 +62,12 @@ pub returns-in-None-clause-ahead : goal.returns-in-None-clause-ahead
 returns-in-None-clause-ahead g c = λ snap honest tight of.
     found_ahead snap c.args.self.now c.find.new.self _ _ c.find.result c.in-None.is (c.find.ensures.few snap honest tight) c.find.ensures.ends (c.find.ensures.counted snap honest tight.holds of)
 
-pub returns-in-None-clause-few : goal.returns-in-None-clause-few
-returns-in-None-clause-few g c = λ snap honest tight. omega (arith, c.find.ensures.few snap honest tight)
+pub returns-in-Some-clause-steps : goal.returns-in-Some-clause-steps
+returns-in-Some-clause-steps g c = record {
+  ranges = subst (λ (h : Option DueItems). IfSome h DueFits) c.in-Some.is c.requires.walk.held;
+  damaged = λ honest. tt;
+  looks = Looks-none _;
+}
+
+pub returns-in-None-clause-steps : goal.returns-in-None-clause-steps
+returns-in-None-clause-steps g c = c.find.ensures.steps

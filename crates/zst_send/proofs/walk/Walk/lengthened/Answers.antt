@@ -29,7 +29,7 @@ pub loop-both-init : goal.loop-both-init
 loop-both-init g c = record {
   comes = λ header snap left honest holds first.
       let view : View = view_of header snap (choice_after c.args.source) in
-      let on = look_on (λ (seen : List ℕ) (space : FreeSectors). ComesFirst (Has seen space) snap view left c.args.self.now.position (Some c.args.run)) c.in_ok-next.ensures.looks first in
+      let on = look_on (λ (seen : List ℕ) (space : FreeSectors). ComesFirst (Has seen space) snap view left c.args.self.now.position (Some c.args.run)) c.in_ok-next.ensures.steps.looks first in
       run_begins _ snap view left c.args.self.now.position c.find.new.self c.args.run c.in_ok-next.next c.requires.run.0 on (c.in_ok-next.ensures.found header snap honest holds first.3);
   paid = λ header snap left honest tight first.
       let counted = c.in_ok-next.ensures.counted snap honest tight.holds first.3 in
@@ -39,14 +39,14 @@ loop-both-init g c = record {
   walk = record { position = c.in_ok-next.ensures.position; held = c.requires.walk.held };
   run = c.requires.run.0;
   run_fits = c.requires.run.1;
-  next = c.in_ok-next.ensures.ranges;
-  looks = c.in_ok-next.ensures.looks;
+  next = c.in_ok-next.ensures.steps.ranges;
+  looks = c.in_ok-next.ensures.steps.looks;
 }
 
 pub returns-in_err-next-2-clause-gives : goal.returns-in_err-next-2-clause-gives
 returns-in_err-next-2-clause-gives g c = λ header snap left honest holds first.
     let p = err_from_is_err_and c.from_residual-in_err-next-2.result c.from_residual-in_err-next-2.ensures.1 in
-    let was = c.in_err-next-2.ensures.looks.reads.honest honest in
+    let was = c.in_err-next-2.ensures.steps.looks.reads.honest honest in
     let on = look_on (λ (seen : List ℕ) (space : FreeSectors). SetHolds (Has seen space) c.args.set.now snap) c.loop-both.invariant.looks holds in
     let comes = c.loop-both.invariant.comes header snap left was holds first in
     rw (p.1, p.2) (c.in_err-next-2.ensures.found header snap honest on comes.of)
@@ -55,14 +55,14 @@ pub loop-both-preserved : goal.loop-both-preserved
 loop-both-preserved g c = record {
   comes = λ header snap left honest holds first.
       let view : View = view_of header snap (choice_after c.args.source) in
-      let was = c.in_ok-next-2.ensures.looks.reads.honest honest in
+      let was = c.in_ok-next-2.ensures.steps.looks.reads.honest honest in
       let on = look_on (λ (seen : List ℕ) (space : FreeSectors). SetHolds (Has seen space) c.args.set.now snap) c.loop-both.invariant.looks holds in
       let comes = c.loop-both.invariant.comes header snap left was holds first in
-      let moved = look_on (λ (seen : List ℕ) (space : FreeSectors). RunComes (Has seen space) snap view left c.loop-both.self.position c.loop-both.run c.loop-both.next) c.in_ok-next-2.ensures.looks comes in
+      let moved = look_on (λ (seen : List ℕ) (space : FreeSectors). RunComes (Has seen space) snap view left c.loop-both.self.position c.loop-both.run c.loop-both.next) c.in_ok-next-2.ensures.steps.looks comes in
       run_goes_on _ c.held_goes_on.ensures snap view left c.loop-both.self.position c.find-in-Some.new.self c.loop-both.run c.in-Some.both c.loop-both.next c.in_ok-next-2.next c.loop-both.invariant.run
       (sym c.in-Some.ensures.joined) moved (c.in_ok-next-2.ensures.found header snap honest on comes.of);
   paid = λ header snap left honest tight first.
-      let was = c.in_ok-next-2.ensures.looks.reads.honest honest in
+      let was = c.in_ok-next-2.ensures.steps.looks.reads.honest honest in
       let on = look_on (λ (seen : List ℕ) (space : FreeSectors). SetIsTight (Has seen space) c.args.set.now snap) c.loop-both.invariant.looks tight in
       let comes = c.loop-both.invariant.comes header snap left was tight.holds first in
       let counted = c.in_ok-next-2.ensures.counted snap honest on.holds comes.of in
@@ -74,8 +74,8 @@ loop-both-preserved g c = record {
   walk = record { position = c.in_ok-next-2.ensures.position; held = c.loop-both.invariant.walk.held };
   run = c.in-Some.ensures.run;
   run_fits = c.in-Some.ensures.fits;
-  next = c.in_ok-next-2.ensures.ranges;
-  looks = Looks-then c.loop-both.invariant.looks c.in_ok-next-2.ensures.looks;
+  next = c.in_ok-next-2.ensures.steps.ranges;
+  looks = Looks-then c.loop-both.invariant.looks c.in_ok-next-2.ensures.steps.looks;
 }
 
 pub returns-clause-gives : goal.returns-clause-gives
@@ -111,22 +111,21 @@ returns-in_err-next-2-clause-few g c = λ header snap left honest tight first.
 pub returns-clause-few : goal.returns-clause-few
 returns-clause-few g c = λ header snap left honest tight first. c.loop-both.invariant.paid header snap left honest tight first
 
-pub returns-in_err-next-clause-damaged : goal.returns-in_err-next-clause-damaged
-returns-in_err-next-clause-damaged g c = λ honest.
+pub returns-in_err-next-clause-steps : goal.returns-in_err-next-clause-steps
+returns-in_err-next-clause-steps g c =
     let p = err_from_is_err_and c.from_residual.result c.from_residual.ensures.1 in
-    rw (p.1, p.2) (c.in_err-next.ensures.damaged honest)
+    let steps = c.in_err-next.ensures.steps in
+    rw (p.1, p.2) (record { ranges = tt; damaged = λ honest. steps.damaged honest; looks = steps.looks })
 
-pub returns-in_err-next-clause-looks : goal.returns-in_err-next-clause-looks
-returns-in_err-next-clause-looks g c =
-    let p = err_from_is_err_and c.from_residual.result c.from_residual.ensures.1 in
-    rw (p.1, p.2) c.in_err-next.ensures.looks
-
-pub returns-in_err-next-2-clause-damaged : goal.returns-in_err-next-2-clause-damaged
-returns-in_err-next-2-clause-damaged g c = λ honest.
+pub returns-in_err-next-2-clause-steps : goal.returns-in_err-next-2-clause-steps
+returns-in_err-next-2-clause-steps g c =
     let p = err_from_is_err_and c.from_residual-in_err-next-2.result c.from_residual-in_err-next-2.ensures.1 in
-    rw (p.1, p.2) (seen_before c.loop-both.invariant.looks (λ (seen : List ℕ) (size : ℕ). IfDamage c.in_err-next-2.field-0.0 (IsDamagedCell (IsSeen seen) size c.args.set.now)) (c.in_err-next-2.ensures.damaged honest))
+    let steps = c.in_err-next-2.ensures.steps in
+    rw (p.1, p.2) (record {
+      ranges = tt;
+      damaged = λ honest. seen_before c.loop-both.invariant.looks (λ (seen : List ℕ) (size : ℕ). IfDamage c.in_err-next-2.field-0.0 (IsDamagedCell (IsSeen seen) size c.args.set.now)) (steps.damaged honest);
+      looks = Looks-then c.loop-both.invariant.looks steps.looks;
+    })
 
-pub returns-in_err-next-2-clause-looks : goal.returns-in_err-next-2-clause-looks
-returns-in_err-next-2-clause-looks g c =
-    let p = err_from_is_err_and c.from_residual-in_err-next-2.result c.from_residual-in_err-next-2.ensures.1 in
-    rw (p.1, p.2) (Looks-then c.loop-both.invariant.looks c.in_err-next-2.ensures.looks)
+pub returns-clause-steps : goal.returns-clause-steps
+returns-clause-steps g c = record { ranges = c.loop-both.invariant.run_fits; damaged = λ honest. tt; looks = c.loop-both.invariant.looks }

@@ -16,7 +16,7 @@ use Rattle.zst_traverse.specs.Cells.{choice_after}
 use Rattle.zst_traverse.specs.Damage.{IsDamagedCell}
 use Rattle.zst_tree.specs.Damage.{IsSeen}
 use Rattle.zst_tree.proofs.Damage.{seen_before}
-use Rattle.zst_send.specs.DueItems.{AreHeld}
+use Rattle.zst_send.specs.DueItems.{AreHeld, DueFits}
 use Rattle.zst_send.specs.WalkPositions.{ComesFirst, Gives, items_left}
 use Rattle.zst_send.specs.declared.due_items.DueItems.{DueItems}
 use Rattle.zst_send.proofs.LookCosts.{given_counts}
@@ -44,8 +44,8 @@ returns-in_err-lengthened-clause-gives g c = λ header snap held honest holds wa
     let view : View = view_of header snap (choice_after c.args.source) in
     let left : List Item = items_left view c.args.self.now held in
     let p = err_from_is_err_and c.from_residual-in_err-lengthened.result c.from_residual-in_err-lengthened.ensures.1 in
-    let was = c.in_err-lengthened.ensures.looks.reads.honest honest in
-    let on = look_on (λ (seen : List ℕ) (space : FreeSectors). SetHolds (Has seen space) c.args.set.now snap) c.in_ok-due.ensures.looks holds in
+    let was = c.in_err-lengthened.ensures.steps.looks.reads.honest honest in
+    let on = look_on (λ (seen : List ℕ) (space : FreeSectors). SetHolds (Has seen space) c.args.set.now snap) c.in_ok-due.ensures.steps.looks holds in
     let first = subst (λ (d : Option DueItems). ComesFirst has snap view left c.first.new.self.position d) c.in-Some.is (c.in_ok-due.ensures.goes header snap held was holds walk) in
     rw (p.1, p.2) (c.in_err-lengthened.ensures.gives header snap left honest on first)
 
@@ -54,8 +54,8 @@ returns-then-is_run-clause-gives g c = λ header snap held honest holds walk.
     let has = blocks_of c.first.new.io in
     let view : View = view_of header snap (choice_after c.args.source) in
     let left : List Item = items_left view c.args.self.now held in
-    let was = c.in_ok-lengthened.ensures.looks.reads.honest honest in
-    let on = look_on (λ (seen : List ℕ) (space : FreeSectors). SetHolds (Has seen space) c.args.set.now snap) c.in_ok-due.ensures.looks holds in
+    let was = c.in_ok-lengthened.ensures.steps.looks.reads.honest honest in
+    let on = look_on (λ (seen : List ℕ) (space : FreeSectors). SetHolds (Has seen space) c.args.set.now snap) c.in_ok-due.ensures.steps.looks holds in
     let first = subst (λ (d : Option DueItems). ComesFirst has snap view left c.first.new.self.position d) c.in-Some.is (c.in_ok-due.ensures.goes header snap held was holds walk) in
     c.in_ok-lengthened.ensures.gives header snap left honest on first
 
@@ -84,7 +84,7 @@ returns-in_err-lengthened-clause-stands g c = λ images among honest was.
 
 pub returns-then-is_run-clause-stands : goal.returns-then-is_run-clause-stands
 returns-then-is_run-clause-stands g c = λ images among honest was.
-    c.in_ok-lengthened.ensures.stands images (among_on images _ _ c.in_ok-due.ensures.looks.reads.seen among) honest
+    c.in_ok-lengthened.ensures.stands images (among_on images _ _ c.in_ok-due.ensures.steps.looks.reads.seen among) honest
 
 pub returns-clause-stands : goal.returns-clause-stands
 returns-clause-stands g c = λ images among honest was.
@@ -114,8 +114,8 @@ returns-then-is_run-clause-few g c = λ header snap held honest tight walk.
     let has = blocks_of c.first.new.io in
     let view : View = view_of header snap (choice_after c.args.source) in
     let left : List Item = items_left view c.args.self.now held in
-    let was = c.in_ok-lengthened.ensures.looks.reads.honest honest in
-    let on = look_on (λ (seen : List ℕ) (space : FreeSectors). SetIsTight (Has seen space) c.args.set.now snap) c.in_ok-due.ensures.looks tight in
+    let was = c.in_ok-lengthened.ensures.steps.looks.reads.honest honest in
+    let on = look_on (λ (seen : List ℕ) (space : FreeSectors). SetIsTight (Has seen space) c.args.set.now snap) c.in_ok-due.ensures.steps.looks tight in
     let first = subst (λ (d : Option DueItems). ComesFirst has snap view left c.first.new.self.position d) c.in-Some.is (c.in_ok-due.ensures.goes header snap held was tight.holds walk) in
     let ahead = c.in_ok-due.ensures.ahead snap was tight walk.position_is in
     let found = ap (cells_next snap) c.in-Some.is in
@@ -129,31 +129,42 @@ returns-clause-few g c = λ header snap held honest tight walk.
     let held : cells_next snap c.behind-self.result ≡ 0 = ap (cells_next snap) c.behind-self.ensures.behind ∙ given.1 in
     omega (arith, ahead, found, given.0, held)
 
-pub returns-in_err-due-clause-damaged : goal.returns-in_err-due-clause-damaged
-returns-in_err-due-clause-damaged g c = λ honest.
+pub returns-in_err-due-clause-steps : goal.returns-in_err-due-clause-steps
+returns-in_err-due-clause-steps g c =
     let p = err_from_is_err_and c.from_residual.result c.from_residual.ensures.1 in
-    rw (p.1, p.2) (c.in_err-due.ensures.damaged honest)
+    rw (p.1, p.2) c.in_err-due.ensures.steps
 
-pub returns-in_err-due-clause-looks : goal.returns-in_err-due-clause-looks
-returns-in_err-due-clause-looks g c =
-    let p = err_from_is_err_and c.from_residual.result c.from_residual.ensures.1 in
-    rw (p.1, p.2) c.in_err-due.ensures.looks
-
-pub returns-in_err-lengthened-clause-damaged : goal.returns-in_err-lengthened-clause-damaged
-returns-in_err-lengthened-clause-damaged g c = λ honest.
+pub returns-in_err-lengthened-clause-steps : goal.returns-in_err-lengthened-clause-steps
+returns-in_err-lengthened-clause-steps g c =
     let p = err_from_is_err_and c.from_residual-in_err-lengthened.result c.from_residual-in_err-lengthened.ensures.1 in
-    rw (p.1, p.2) (seen_before c.in_ok-due.ensures.looks (λ (seen : List ℕ) (size : ℕ). IfDamage c.in_err-lengthened.field-0.0 (IsDamagedCell (IsSeen seen) size c.args.set.now)) (c.in_err-lengthened.ensures.damaged honest))
+    let first = c.in_ok-due.ensures.steps in
+    let more = c.in_err-lengthened.ensures.steps in
+    rw (p.1, p.2) (record {
+      ranges = tt;
+      damaged = λ honest. seen_before first.looks (λ (seen : List ℕ) (size : ℕ). IfDamage c.in_err-lengthened.field-0.0 (IsDamagedCell (IsSeen seen) size c.args.set.now)) (more.damaged honest);
+      looks = Looks-then first.looks more.looks;
+    })
 
-pub returns-in_err-lengthened-clause-looks : goal.returns-in_err-lengthened-clause-looks
-returns-in_err-lengthened-clause-looks g c =
-    let p = err_from_is_err_and c.from_residual-in_err-lengthened.result c.from_residual-in_err-lengthened.ensures.1 in
-    rw (p.1, p.2) (Looks-then c.in_ok-due.ensures.looks c.in_err-lengthened.ensures.looks)
+pub returns-then-is_run-clause-steps : goal.returns-then-is_run-clause-steps
+returns-then-is_run-clause-steps g c =
+    let more = c.in_ok-lengthened.ensures.steps in
+    record { ranges = more.ranges; damaged = λ honest. tt; looks = Looks-then c.in_ok-due.ensures.steps.looks more.looks }
 
-pub returns-then-is_run-clause-looks : goal.returns-then-is_run-clause-looks
-returns-then-is_run-clause-looks g c = Looks-then c.in_ok-due.ensures.looks c.in_ok-lengthened.ensures.looks
+pub returns-clause-steps : goal.returns-clause-steps
+returns-clause-steps g c = record {
+  ranges = subst (λ (d : Option DueItems). IfSome d DueFits) c.in-Some.is c.in_ok-due.ensures.steps.ranges;
+  damaged = λ honest. tt;
+  looks = c.in_ok-due.ensures.steps.looks;
+}
 
-pub returns-clause-looks : goal.returns-clause-looks
-returns-clause-looks g c = c.in_ok-due.ensures.looks
+pub returns-in_default-clause-steps : goal.returns-in_default-clause-steps
+returns-in_default-clause-steps g c = record { ranges = tt; damaged = λ honest. tt; looks = c.in_ok-due.ensures.steps.looks }
 
-pub returns-in_default-clause-looks : goal.returns-in_default-clause-looks
-returns-in_default-clause-looks g c = c.in_ok-due.ensures.looks
+pub behind-self-requires : goal.behind-self-requires
+behind-self-requires g c = subst (λ (d : Option DueItems). IfSome d DueFits) c.in-Some.is c.in_ok-due.ensures.steps.ranges
+
+pub lengthened-requires : goal.lengthened-requires
+lengthened-requires g c = record {
+  walk = c.in_ok-due.ensures.walk;
+  run = (sym c.is_run.ensures ∙ c.if-is_run.true, subst (λ (d : Option DueItems). IfSome d DueFits) c.in-Some.is c.in_ok-due.ensures.steps.ranges);
+}
