@@ -5,7 +5,7 @@ ghost use Rattle.zst_bytes.specs.Words.{word, text_bytes, words_bytes};
 ghost use Rattle.zst_model.specs.fields.Guids.{IsGuidSet};
 ghost use Rattle.zst_model.specs.pools.Pool.{IsGuid, IsKind, IsStatedName};
 ghost use Rattle.zst_names.specs.Names.{IsDataset, IsSnapshot, IsBookmark, IsComponent, dataset_of, component_of};
-ghost use Rattle.zst_dir.specs.RowReads.{ReadsBack, IsPlain};
+ghost use Rattle.zst_dir.specs.RowReads.{Reads, IsPlain, IsNameOf};
 ghost use Rattle.zst_dir.specs.Spelling.{flag, name_bytes};
 
 use std::str;
@@ -15,16 +15,14 @@ use zst_names::{BookName, DatasetName, SnapName, check_component};
 
 /// A number of 32 bits.
 pub(crate) fn read_u32(cursor: &mut Cursor<'_>) -> Option<u32>
-    ensures fits { IfSome result (λ n. n < 2 ^ 32) }
-    ensures exact { ReadsBack word (λ n. n < 2 ^ 32) cursor.old cursor.new result }
+    ensures { Reads word (λ n. n < 2 ^ 32) cursor.old cursor.new result }
 {
     u32::try_from(cursor.word()?).ok()
 }
 
 /// The features of a stream, at most 30 bits.
 pub(crate) fn read_features(cursor: &mut Cursor<'_>) -> Option<u32>
-    ensures fits { IfSome result (λ features. features < 2 ^ 30) }
-    ensures exact { ReadsBack word (λ features. features < 2 ^ 30) cursor.old cursor.new result }
+    ensures { Reads word (λ features. features < 2 ^ 30) cursor.old cursor.new result }
 {
     let features = read_u32(cursor)?;
     if features >= 1 << 30 {
@@ -35,8 +33,7 @@ pub(crate) fn read_features(cursor: &mut Cursor<'_>) -> Option<u32>
 
 /// A guid, which isn't 0.
 pub(crate) fn read_guid(cursor: &mut Cursor<'_>) -> Option<u64>
-    ensures guid { IfSome result IsGuid }
-    ensures exact { ReadsBack word IsGuid cursor.old cursor.new result }
+    ensures { Reads word IsGuid cursor.old cursor.new result }
 {
     match cursor.word()? {
         0 => None,
@@ -46,8 +43,7 @@ pub(crate) fn read_guid(cursor: &mut Cursor<'_>) -> Option<u64>
 
 /// The kind of a dataset.
 pub(crate) fn read_kind(cursor: &mut Cursor<'_>) -> Option<u32>
-    ensures kind { IfSome result IsKind }
-    ensures exact { ReadsBack word IsKind cursor.old cursor.new result }
+    ensures { Reads word IsKind cursor.old cursor.new result }
 {
     match cursor.word()? {
         2 => Some(2),
@@ -76,24 +72,21 @@ fn read_str<'a>(cursor: &mut Cursor<'a>) -> Option<&'a str>
 
 /// The name of a dataset.
 pub(crate) fn read_dataset_name(cursor: &mut Cursor<'_>) -> Option<DatasetName>
-    ensures name { IfSome result IsDataset }
-    ensures exact { ReadsBack text_bytes IsDataset cursor.old cursor.new result }
+    ensures { Reads text_bytes IsDataset cursor.old cursor.new result }
 {
     DatasetName::parse(read_str(cursor)?).ok()
 }
 
 /// The name of a bookmark.
 pub(crate) fn read_book_name(cursor: &mut Cursor<'_>) -> Option<BookName>
-    ensures name { IfSome result IsBookmark }
-    ensures exact { ReadsBack text_bytes IsBookmark cursor.old cursor.new result }
+    ensures { Reads text_bytes IsBookmark cursor.old cursor.new result }
 {
     BookName::parse(read_str(cursor)?).ok()
 }
 
 /// The name of a snapshot, or an empty text where there is none.
 pub(crate) fn read_snap_name(cursor: &mut Cursor<'_>) -> Option<Option<SnapName>>
-    ensures name { IfSome result (λ name. IfSome name IsSnapshot) }
-    ensures exact { ReadsBack name_bytes (λ name. IfSome name IsSnapshot) cursor.old cursor.new result }
+    ensures { Reads name_bytes (λ name. IfSome name IsSnapshot) cursor.old cursor.new result }
 {
     let text = read_str(cursor)?;
     if text.is_empty() {
@@ -104,9 +97,7 @@ pub(crate) fn read_snap_name(cursor: &mut Cursor<'_>) -> Option<Option<SnapName>
 
 /// The name of a snapshot of this dataset, of which only the component stands there.
 pub(crate) fn read_component(cursor: &mut Cursor<'_>, dataset: &DatasetName) -> Option<SnapName>
-    ensures name { IfSome result IsSnapshot }
-    ensures dataset { IfSome result (λ name. dataset_of 64 name ≡ dataset.now) }
-    ensures exact { ReadsBack (λ name. text_bytes (component_of 64 name)) (λ name. IsSnapshot name × (dataset_of 64 name ≡ dataset.now)) cursor.old cursor.new result }
+    ensures { Reads (λ name. text_bytes (component_of 64 name)) (IsNameOf dataset.now) cursor.old cursor.new result }
 {
     let component = read_str(cursor)?;
     check_component(component.as_bytes()).ok()?;
@@ -121,8 +112,7 @@ fn has_zero(bytes: &[u8]) -> bool
 
 /// A name of at most 255 bytes, none of them 0.
 pub(crate) fn read_name_text(cursor: &mut Cursor<'_>) -> Option<NameText>
-    ensures name { IfSome result IsStatedName }
-    ensures exact { ReadsBack text_bytes IsStatedName cursor.old cursor.new result }
+    ensures { Reads text_bytes IsStatedName cursor.old cursor.new result }
 {
     let bytes = cursor.text()?;
     if bytes.len() > 255 || has_zero(bytes) {
@@ -133,8 +123,7 @@ pub(crate) fn read_name_text(cursor: &mut Cursor<'_>) -> Option<NameText>
 
 /// The component of a snapshot's name, without its dataset.
 pub(crate) fn read_name_component(cursor: &mut Cursor<'_>) -> Option<NameText>
-    ensures component { IfSome result IsComponent }
-    ensures exact { ReadsBack text_bytes IsComponent cursor.old cursor.new result }
+    ensures { Reads text_bytes IsComponent cursor.old cursor.new result }
 {
     let bytes = cursor.text()?;
     check_component(bytes).ok()?;
@@ -143,8 +132,7 @@ pub(crate) fn read_name_component(cursor: &mut Cursor<'_>) -> Option<NameText>
 
 /// A set of guids.
 pub(crate) fn read_guids(cursor: &mut Cursor<'_>) -> Option<GuidSet>
-    ensures guids { IfSome result IsGuidSet }
-    ensures exact { ReadsBack words_bytes IsGuidSet cursor.old cursor.new result }
+    ensures { Reads words_bytes IsGuidSet cursor.old cursor.new result }
 {
     let count = cursor.word()?;
     let mut guids = GuidSet::empty();
@@ -159,8 +147,7 @@ pub(crate) fn read_guids(cursor: &mut Cursor<'_>) -> Option<GuidSet>
 
 /// The levels of a tree, at most 7.
 pub(crate) fn read_levels(cursor: &mut Cursor<'_>) -> Option<u8>
-    ensures few { IfSome result (λ levels. levels ≤ 7) }
-    ensures exact { ReadsBack word (λ levels. levels ≤ 7) cursor.old cursor.new result }
+    ensures { Reads word (λ levels. levels ≤ 7) cursor.old cursor.new result }
 {
     let levels = cursor.word()?;
     if levels > 7 {

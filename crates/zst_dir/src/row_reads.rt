@@ -1,9 +1,9 @@
 //! The rows of a directory, read from the bytes in front. Whether they make a lawful directory is
 //! not looked at here.
-ghost use Rattle.std.specs.Prelude.{◌≡◌, ◌<◌, ◌==◌, ◌↔◌, IfSome, IsTrue, bit_and, length};
+ghost use Rattle.std.specs.Prelude.{◌≡◌, ◌<◌, ◌==◌, ◌↔◌, IsTrue, bit_and, length};
 ghost use Rattle.zst_model.specs.pools.Pool.{IsStated};
 ghost use Rattle.zst_model.specs.sends.Features.{redacts, resuming};
-ghost use Rattle.zst_dir.specs.RowReads.{ReadsBack, IsSnapshotOf, dataset_front};
+ghost use Rattle.zst_dir.specs.RowReads.{Reads, IsSnapshotOf, dataset_front};
 ghost use Rattle.zst_dir.specs.Rows.{IsDatasetRow, IsBookmarkRow, IsPartialRow};
 ghost use Rattle.zst_dir.specs.Spelling.{snapshot_bytes, bookmark_bytes, header_bytes, partial_bytes};
 
@@ -21,8 +21,7 @@ use zst_tree::{read_ptr, read_set};
 
 /// The next dataset, up to its snapshots.
 pub(crate) fn read_dataset(cursor: &mut Cursor<'_>) -> Option<Dataset>
-    ensures row { IfSome result IsDatasetRow }
-    ensures exact { ReadsBack dataset_front IsDatasetRow cursor.old cursor.new result }
+    ensures { Reads dataset_front IsDatasetRow cursor.old cursor.new result }
 {
     let name = read_dataset_name(cursor)?;
     let kind = read_kind(cursor)?;
@@ -40,8 +39,7 @@ pub(crate) fn read_dataset(cursor: &mut Cursor<'_>) -> Option<Dataset>
 
 /// The next snapshot of this dataset.
 pub(crate) fn read_snapshot(cursor: &mut Cursor<'_>, dataset: &DatasetName) -> Option<Snapshot>
-    ensures row { IfSome result (IsSnapshotOf dataset.now) }
-    ensures exact { ReadsBack snapshot_bytes (IsSnapshotOf dataset.now) cursor.old cursor.new result }
+    ensures { Reads snapshot_bytes (IsSnapshotOf dataset.now) cursor.old cursor.new result }
 {
     let name = read_component(cursor, dataset)?;
     let guid = read_guid(cursor)?;
@@ -61,8 +59,7 @@ pub(crate) fn read_snapshot(cursor: &mut Cursor<'_>, dataset: &DatasetName) -> O
 
 /// The next bookmark.
 pub(crate) fn read_bookmark(cursor: &mut Cursor<'_>) -> Option<Bookmark>
-    ensures row { IfSome result IsBookmarkRow }
-    ensures exact { ReadsBack bookmark_bytes IsBookmarkRow cursor.old cursor.new result }
+    ensures { Reads bookmark_bytes IsBookmarkRow cursor.old cursor.new result }
 {
     let name = read_book_name(cursor)?;
     let guid = read_guid(cursor)?;
@@ -101,8 +98,7 @@ fn go_together(features: u32, from: u64, redact: &GuidSet, from_redact: &GuidSet
 
 /// A header that a stream can state, without a resume point.
 fn read_header(cursor: &mut Cursor<'_>) -> Option<Header>
-    ensures stated { IfSome result IsStated }
-    ensures exact { ReadsBack header_bytes IsStated cursor.old cursor.new result }
+    ensures { Reads header_bytes IsStated cursor.old cursor.new result }
 {
     let kind = read_kind(cursor)?;
     let flags = read_u32(cursor)?;
@@ -132,8 +128,7 @@ fn read_header(cursor: &mut Cursor<'_>) -> Option<Header>
 
 /// The next partial state.
 pub(crate) fn read_partial(cursor: &mut Cursor<'_>) -> Option<Partial>
-    ensures row { IfSome result IsPartialRow }
-    ensures exact { ReadsBack partial_bytes IsPartialRow cursor.old cursor.new result }
+    ensures { Reads partial_bytes IsPartialRow cursor.old cursor.new result }
 {
     let target = read_dataset_name(cursor)?;
     let snapshot = read_name_component(cursor)?;

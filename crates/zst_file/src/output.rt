@@ -42,12 +42,9 @@ fn append(buffer: &mut Vec<u8>, bytes: &[u8])
 }
 
 impl<W: Write> Output<W> {
-    ghost use Rattle.std.specs.Prelude.{[], IfOk, OnOk, take};
-    ghost use Rattle.std.specs.Io.{WritesAtMost};
-    ghost use Rattle.std.specs.Io.KnownBytes.{Appends, Keeps, WriteAppends};
-    ghost use Rattle.zst_outside.specs.Causes.{HasCause};
-    ghost use Rattle.zst_outside.specs.States.{TakesFront, HandedOn};
-    ghost use Rattle.zst_file.specs.Output.{output_state, writer_of, held_by};
+    ghost use Rattle.std.specs.Prelude.{[], IfOk, take};
+    ghost use Rattle.std.specs.Io.KnownBytes.{Appends};
+    ghost use Rattle.zst_file.specs.Output.{Empties, TakesSome, held_by, output_state, writer_of};
 
     /// Nothing was written yet.
     pub fn new(alloc: Global, inner: W) -> Result<Output<W>, AllocError>
@@ -65,11 +62,7 @@ impl<W: Write> Output<W> {
 
     // Hands on all that waits.
     fn empty(&mut self) -> Result<(), Fault>
-        ensures written { (output_state self.new).written ≡ (output_state self.old).written }
-        ensures flushed { OnOk result (HandedOn (output_state self.new)) }
-        ensures writer { Keeps (held_by W.contents self.old) (held_by W.contents self.new) }
-        ensures count_stays { OnOk result ((output_state self.new).faults ≡ (output_state self.old).faults) }
-        ensures cause { HasCause (output_state self.old).faults (output_state self.new).faults result }
+        ensures { Empties W.contents self.old self.new result }
     {
         while !self.buffer.is_empty() {
             match self.pipe.hand_on(&self.buffer) {
@@ -97,12 +90,7 @@ impl<W: Write> Output<W> {
     // A long piece that nothing waits before is handed on without a copy.
     fn take(&mut self, from: &[u8]) -> Result<usize, Fault>
         requires { (output_state self.old).waiting < ROOM }
-        ensures bound { WritesAtMost result from.now }
-        ensures some { IfOk result (λ n. 0 < length from.now → 0 < n) }
-        ensures bytes { TakesFront (output_state self.old) (output_state self.new) result from.now }
-        ensures writer { WriteAppends (held_by W.contents self.old) (held_by W.contents self.new) result from.now }
-        ensures count_stays { OnOk result ((output_state self.new).faults ≡ (output_state self.old).faults) }
-        ensures cause { HasCause (output_state self.old).faults (output_state self.new).faults result }
+        ensures { TakesSome W.contents self.old self.new from.now result }
     {
         if from.len() < ROOM || !self.buffer.is_empty() {
             return Ok(self.gather(from));
@@ -112,24 +100,12 @@ impl<W: Write> Output<W> {
 }
 
 impl<W: Write> Sink for Output<W> {
-    ghost use Rattle.std.specs.Prelude.{IfOk, OnOk};
-    ghost use Rattle.std.specs.Io.{WritesAtMost};
-    ghost use Rattle.std.specs.Io.KnownBytes.{Keeps, WriteAppends};
-    ghost use Rattle.zst_outside.specs.Causes.{HasCause};
-    ghost use Rattle.zst_outside.specs.States.{TakesFront, HandedOn};
-    ghost use Rattle.zst_file.specs.Output.{output_state, held_by};
+    ghost use Rattle.zst_file.specs.Output.{Empties, TakesSome, output_state};
 
     ghost state = { output_state };
 
     fn write(&mut self, from: &[u8]) -> Result<usize, Fault>
-        ensures bound { WritesAtMost result from.now }
-        ensures some { IfOk result (λ n. 0 < length from.now → 0 < n) }
-        ensures bytes { TakesFront (output_state self.old) (output_state self.new) result from.now }
-        ensures count_stays { OnOk result ((output_state self.new).faults ≡ (output_state self.old).faults) }
-        ensures cause { HasCause (output_state self.old).faults (output_state self.new).faults result }
-
-        // A writer that tells what it holds was given the same.
-        ensures writer { WriteAppends (held_by W.contents self.old) (held_by W.contents self.new) result from.now }
+        ensures { TakesSome W.contents self.old self.new from.now result }
     {
         if self.buffer.len() < ROOM {
             return self.take(from);
@@ -139,11 +115,7 @@ impl<W: Write> Sink for Output<W> {
     }
 
     fn flush(&mut self) -> Result<(), Fault>
-        ensures written { (output_state self.new).written ≡ (output_state self.old).written }
-        ensures flushed { OnOk result (HandedOn (output_state self.new)) }
-        ensures count_stays { OnOk result ((output_state self.new).faults ≡ (output_state self.old).faults) }
-        ensures cause { HasCause (output_state self.old).faults (output_state self.new).faults result }
-        ensures writer { Keeps (held_by W.contents self.old) (held_by W.contents self.new) }
+        ensures { Empties W.contents self.old self.new result }
     {
         self.empty()?;
         self.pipe.flush()

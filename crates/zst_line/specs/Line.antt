@@ -1,5 +1,5 @@
 -- What a command line says.
-use Rattle.std.specs.Prelude.{◌≡◌, ◌≢◌, ℕ, ◌-◌, ◌^◌, ◌<◌, ◌≤◌, if◌then◌else◌, bytes_eq, List, [], ◌∷◌, ◌++◌, length, replicate, Option, None, Some, option_map, Result, Ok, Err, codes, decimal}
+use Rattle.std.specs.Prelude.{◌≡◌, ◌≢◌, ℕ, ◌-◌, ◌^◌, ◌<◌, ◌≤◌, if◌then◌else◌, bytes_eq, List, [], ◌∷◌, ◌++◌, length, replicate, Option, None, Some, IfSome, option_map, Result, Ok, Err, codes, decimal}
 use Rattle.hex.specs.Hex.{decode_of}
 use Rattle.zst_model.specs.declared.pools.command.Command.{Command}
 use Rattle.zst_model.specs.declared.pools.command.Command.TheVariants as commands
@@ -9,8 +9,10 @@ use Rattle.zst_model.specs.declared.refusals.plan_fault.PlanFault.TheVariants as
 use Rattle.zst_model.specs.declared.refusals.refusal.Refusal.{Refusal}
 use Rattle.zst_model.specs.declared.refusals.refusal.Refusal.TheVariants as refusals
 use Rattle.zst_model.specs.pools.Step.{IsCommand}
+use Rattle.zst_model.specs.states.State.{IsSpill}
 use Rattle.zst_token.specs.Parser.{token_of}
 use Rattle.zst_token.specs.Spelling.{IsToken}
+use Rattle.zst_token.specs.declared.token.Token as tokens
 use Rattle.zst_line.specs.Grammar.{stands_in, word_at}
 use Rattle.zst_line.specs.WordFaults.{UsageAt, MisreadAs, IsLine}
 use Rattle.zst_line.specs.NameKinds.{kind_of_name}
@@ -46,6 +48,25 @@ pub record IsBlockOf (block word : List ℕ) : Type 0 where
 abbrev pub IsSpillOf : Option (List ℕ) → List ℕ → Type 0
 IsSpillOf None word = word ≡ codes "none"
 IsSpillOf (Some block) word = IsBlockOf block word
+
+-- the name that a word is
+pub record SpellsName (IsName : List ℕ → Type 0) (word result : List ℕ) : Type 0 where
+  pub same : result ≡ word
+  pub name : IsName result
+
+-- the token that a word is
+pub record SpellsToken (word : List ℕ) (result : tokens.Token) : Type 0 where
+  pub read : token_of word ≡ Ok result
+  pub token : IsToken result
+
+-- the spill block that a word is, and the one that it may be, each of a length that a spill block has
+pub record SpellsBlock (word block : List ℕ) : Type 0 where
+  pub same : IsBlockOf block word
+  pub size : IsSpill block
+
+pub record SpellsSpill (word : List ℕ) (spill : Option (List ℕ)) : Type 0 where
+  pub same : IsSpillOf spill word
+  pub size : IfSome spill IsSpill
 
 -- a first word, options, and these words behind them
 abbrev pub EndsIn : List ℕ → List (List ℕ) → List (List ℕ) → Type 0

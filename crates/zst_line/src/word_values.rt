@@ -1,13 +1,11 @@
 //! What single words say that fit their places.
-ghost use Rattle.std.specs.Prelude.{◌≡◌, ◌≢◌, ◌⊎◌, ◌-◌, ◌^◌, ◌≤◌, ◌<◌, ℕ, length, Ok, IfOk, IfSome, codes, decimal};
+ghost use Rattle.std.specs.Prelude.{◌≡◌, ◌≢◌, ◌⊎◌, ◌-◌, ◌^◌, ◌≤◌, ◌<◌, ℕ, length, Ok, IfOk, codes, decimal};
 ghost use Rattle.hex.specs.Hex.{decode_of};
 ghost use Rattle.zst_names.specs.Names.{IsDataset, IsSnapshot, IsBookmark};
-ghost use Rattle.zst_model.specs.states.State.{IsBonus, IsSpill, largest_bonus};
-ghost use Rattle.zst_token.specs.Parser.{token_of};
-ghost use Rattle.zst_token.specs.Spelling.{IsToken};
+ghost use Rattle.zst_model.specs.states.State.{IsBonus, largest_bonus};
 ghost use Rattle.zst_line.specs.Grammar.{dataset, snapshot, bookmark};
 ghost use Rattle.zst_line.specs.WordFaults.{Fits, Takes};
-ghost use Rattle.zst_line.specs.Line.{name_of, IsBonusOf, IsBlockOf, IsSpillOf};
+ghost use Rattle.zst_line.specs.Line.{name_of, IsBonusOf, SpellsBlock, SpellsName, SpellsSpill, SpellsToken};
 ghost use Rattle.zst_line.specs.NameKinds.{IsNamed};
 ghost use Rattle.zst_line.specs.Words as words;
 ghost use Rattle.zst_line.specs.declared.word_slot.WordSlot.TheVariants as slots;
@@ -39,8 +37,7 @@ pub fn number(word: &str) -> u64
 /// The dataset that a word is known to name.
 pub fn dataset(word: &str) -> DatasetName
     requires { Takes (slots.Name dataset) word.now }
-    ensures same { result ≡ word.now }
-    ensures name { IsDataset result }
+    ensures { SpellsName IsDataset word.now result }
 {
     DatasetName::parse(word).unwrap()
 }
@@ -48,8 +45,7 @@ pub fn dataset(word: &str) -> DatasetName
 /// The snapshot that a word is known to name.
 pub fn snapshot(word: &str) -> SnapName
     requires { Takes (slots.Name snapshot) word.now }
-    ensures same { result ≡ word.now }
-    ensures name { IsSnapshot result }
+    ensures { SpellsName IsSnapshot word.now result }
 {
     SnapName::parse(word).unwrap()
 }
@@ -57,8 +53,7 @@ pub fn snapshot(word: &str) -> SnapName
 /// The bookmark that a word is known to name.
 pub fn bookmark(word: &str) -> BookName
     requires { Takes (slots.Name bookmark) word.now }
-    ensures same { result ≡ word.now }
-    ensures name { IsBookmark result }
+    ensures { SpellsName IsBookmark word.now result }
 {
     BookName::parse(word).unwrap()
 }
@@ -66,8 +61,7 @@ pub fn bookmark(word: &str) -> BookName
 /// The token that a word is known to be.
 pub fn token(word: &str) -> Token
     requires { Takes slots.Token word.now }
-    ensures read { token_of word.now ≡ Ok result }
-    ensures token { IsToken result }
+    ensures { SpellsToken word.now result }
 {
     Token::parse(word).unwrap()
 }
@@ -110,8 +104,7 @@ pub fn bonus(alloc: Global, word: &str) -> Result<Bytes, AllocError>
 /// The spill block that a word is known to be, in its whole length.
 fn block(alloc: Global, word: &str) -> Result<Bytes, AllocError>
     requires { words.IsSpill word.now }
-    ensures same { IfOk result (λ block. IsBlockOf block word.now) }
-    ensures size { IfOk result IsSpill }
+    ensures { IfOk result (SpellsBlock word.now) }
 {
     let (size, digits) = word.split_once(':').unwrap();
     let mut block = bytes(alloc, digits)?.into_vec();
@@ -122,8 +115,7 @@ fn block(alloc: Global, word: &str) -> Result<Bytes, AllocError>
 /// The spill block that a word is known to be, or None.
 pub fn spill(alloc: Global, word: &str) -> Result<Option<Bytes>, AllocError>
     requires { Fits slots.Spill word.now }
-    ensures same { IfOk result (λ spill. IsSpillOf spill word.now) }
-    ensures size { IfOk result (λ spill. IfSome spill IsSpill) }
+    ensures { IfOk result (SpellsSpill word.now) }
 {
     if is_none(word) {
         return Ok(None);

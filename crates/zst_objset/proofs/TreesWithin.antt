@@ -78,8 +78,8 @@ module _ (old mid new : DiskState) (space less last : FreeSectors) (first : Fill
       }))
       (λ other. ⊎_elim
       (λ is.
-          let same = block_same new.seen last (length new.seen) refl leaf node has stands.bytes (subst (λ (p : Ptr). MayHave (SparesTaken last new.seen) p stands.bytes) is stands.there) in
-          ⊎_elim (λ stood. inl (stood_before dnode stood)) (λ put. inr put) (slots stands.place dnode stands.under (subst (λ (b : List ℕ). HasSlot b stands.place (There dnode)) same stands.slot)))
+      let same = block_same new.seen last (length new.seen) refl leaf node has stands.bytes (subst (λ (p : Ptr). MayHave (SparesTaken last new.seen) p stands.bytes) is stands.there) in
+      ⊎_elim (λ stood. inl (stood_before dnode stood)) (λ put. inr put) (slots stands.place dnode stands.under (subst (λ (b : List ℕ). HasSlot b stands.place (There dnode)) same stands.slot)))
       (λ hole. absurd (stands.some hole)) other)
       (within.hangs stands.leaf stands.hangs)
 

@@ -169,11 +169,9 @@ again_sent ask pool sent token lawful sound own whole h is =
     let first = sent_is_first token pool lawful sound sent.snapshot there own is.to in
     let from = from_source token pool lawful sound sent.snapshot there sent.source planned.is_of.source planned.before planned.whole_source is.from is.from_redact whole in
     let mark = marked_by token pool sent.snapshot sent.redaction planned.is_of.redaction is.to is.redact in
-    (
-      record { snapshot = sent.snapshot; kind = kind_of pool sent.snapshot; source = from.other; redaction = mark.other },
-      accepted_so token pool sent.snapshot from.other mark.other lawful sound first planned.unredacted from.sent_from mark.redacted_by,
-      record { snapshot = refl; kind = sym found.kind; from = from.guid; from_redact = from.guids; redact = mark.guids },
-    )
+    let made : Sent = record { snapshot = sent.snapshot; kind = kind_of pool sent.snapshot; source = from.other; redaction = mark.other } in
+    let taken = accepted_so token pool sent.snapshot from.other mark.other lawful sound first planned.unredacted from.sent_from mark.redacted_by in
+    (made, taken, record { snapshot = refl; kind = sym found.kind; from = from.guid; from_redact = from.guids; redact = mark.guids })
 
 is_token_of : (sent : Sent) (point : Point) → IsTokenOf (token_for (header_of sent) point) sent
 unfolding token_for

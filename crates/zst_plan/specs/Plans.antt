@@ -1,11 +1,15 @@
 -- Which send a plan is of.
-use Rattle.std.specs.Prelude.{◌≡◌, ◌<◌, length, Option, Some, None, IfSome, option_map}
+use Rattle.std.specs.Prelude.{◌≡◌, ◌<◌, length, Option, Some, None, IfSome, option_map, ℕ, Result}
 use Rattle.zst_dir.specs.Rows.{Rows}
 use Rattle.zst_model.specs.pools.Ancestry.{Source, OfSnapshot, OfBookmark, number_of_source}
 use Rattle.zst_model.specs.pools.Pool.{Pool, Snapshot, Bookmark}
-use Rattle.zst_model.specs.sends.Headers.{Sent, from_guid, flags_of}
+use Rattle.zst_model.specs.sends.Features.{sa_spill}
+use Rattle.zst_model.specs.sends.Headers.{Sent, from_guid, flags_of, clone_flag, free_records, spill_block}
+use Rattle.zst_plan.specs.declared.flags.TheConstants.{CLONE, FREE_RECORDS, SA_SPILL, SPILL_BLOCK}
 use Rattle.zst_model.specs.sends.SendPlan.{kind_of}
-use Rattle.zst_plan.specs.Places.{FindAlike, StandsAt}
+use Rattle.zst_plan.specs.Places.{Answers, FindAlike, StandsAt}
+use Rattle.zst_plan.specs.Sources.{IsInRows}
+use Rattle.zst_plan.specs.declared.source.Source as found
 use Rattle.zst_plan.specs.declared.plan.SendPlan.{SendPlan}
 
 -- the source, where it is a snapshot, and where it is a bookmark
@@ -40,3 +44,26 @@ pub record IsInside (rows : Rows) (plan : SendPlan) : Type 0 where
   pub from_snapshot : IfSome plan.from_snap (λ place. place < length rows.snapshots)
   pub from_bookmark : IfSome plan.book_f (λ place. place < length rows.bookmarks)
   pub redaction : IfSome plan.book_t (λ place. place < length rows.bookmarks)
+
+-- the places of a snapshot, of what it is from and of a redaction bookmark are places of the directory
+pub record AreInside (rows : Rows) (snap : ℕ) (source : Option found.Source) (redaction : Option ℕ) : Type 0 where
+  pub snapshot : snap < length rows.snapshots
+  pub from : IfSome source (IsInRows rows)
+  pub bookmark : IfSome redaction (λ p. p < length rows.bookmarks)
+
+-- an answer that is a plan of this send
+abbrev pub AnswersPlan : {E : Type 0} → Rows → (Pool → Result Sent E) → Result SendPlan E → Type 0
+AnswersPlan rows definition result = Answers rows (IsInside rows) (IsPlanOf rows) definition result
+
+-- two plans are of one snapshot with one redaction bookmark and the same flags
+pub record IsSameSend (plan other : SendPlan) : Type 0 where
+  pub snapshot : other.snap ≡ plan.snap
+  pub redaction : other.book_t ≡ plan.book_t
+  pub flags : other.flags ≡ plan.flags
+
+-- the flags and the feature of each send in code are those of the definitions
+pub record FlagsAreDefined : Type 0 where
+  pub clone : CLONE ≡ clone_flag
+  pub free_records : FREE_RECORDS ≡ free_records
+  pub spill_block : SPILL_BLOCK ≡ spill_block
+  pub sa_spill : SA_SPILL ≡ sa_spill

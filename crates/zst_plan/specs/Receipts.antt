@@ -1,5 +1,5 @@
 -- Which receipt a plan is of.
-use Rattle.std.specs.Prelude.{◌≡◌, ◌<◌, ℕ, true, false, List, length, max, nat_lt, Some, IfSome, is_some, bit_and}
+use Rattle.std.specs.Prelude.{◌≡◌, ◌<◌, ℕ, true, false, List, length, max, nat_lt, Some, IfSome, Result, is_some, bit_and}
 use Rattle.std.specs.List.{position}
 use Rattle.std.specs.Str.{bytes_eq}
 use Rattle.zst_names.specs.Names.{IsSnapshot, dataset_of}
@@ -10,7 +10,7 @@ use Rattle.zst_model.specs.declared.sends.header.Header.{Header}
 use Rattle.zst_model.specs.pools.Pool.{Pool, Dataset, dataset_named}
 use Rattle.zst_model.specs.sends.Features.{resuming}
 use Rattle.zst_tree.specs.declared.tree.ObjSet.{ObjSet}
-use Rattle.zst_plan.specs.Places.{FindAlike, StandsAt}
+use Rattle.zst_plan.specs.Places.{Answers, FindAlike, StandsAt}
 use Rattle.zst_plan.specs.RecvPlan.{Base, RecvPlan, Resumes, Begins, is_dated_after, is_full, snapshot_name}
 use Rattle.zst_plan.specs.declared.receive.RecvAsk.{RecvAsk}
 use Rattle.zst_plan.specs.declared.receive.RecvPlan as coded
@@ -63,3 +63,14 @@ IsNewPlan rows target (plans.Begins name place rolls) = IsSnapshot name × (data
 abbrev pub IsPlainPlan : Header → coded.RecvPlan → Type 0
 IsPlainPlan header (plans.Resumes place) = Unit {0}
 IsPlainPlan header (plans.Begins name place rolls) = bit_and header.features resuming ≡ 0
+
+-- an answer that is a base: its place is one of the directory
+abbrev pub AnswersBase : {E : Type 0} → Rows → (Pool → Result Base E) → Result places.Base E → Type 0
+AnswersBase rows definition result = Answers rows (IsBaseInside rows) (IsBaseOf rows) definition result
+
+-- whatever the pool is, a plan for this target is one of the directory, is new in it, and begins no resumed stream
+pub record IsPlanFor (rows : Rows) (target : List ℕ) (header : Header) (plan : coded.RecvPlan) : Type 0 where
+  pub inside : IsRecvInside rows plan
+  pub new : IsNewPlan rows target plan
+  -- what begins anew is no resumed stream
+  pub plain : IsPlainPlan header plan

@@ -54,7 +54,7 @@ PartialIsElsewhere =
     (ask : RecvAsk) (header : Header) (pool : Pool) (component : List ℕ) (partial : Partial)
     → ComesAs ask header component → partial_of ask.target pool ≡ Some partial → bit_and header.features resuming ≢ 0 → (GoesOn partial header → ⊥)
     → IsRefused ask header pool
-      (plans.WrongResume (record { guid = partial.header.to; point = partial.point }) (record { guid = header.to; point = stated_point header.resume }))
+    (plans.WrongResume (record { guid = partial.header.to; point = partial.point }) (record { guid = header.to; point = stated_point header.resume }))
 
 -- E14: a token asked for the stream, and the target has no partial state, whether it is there or not
 abbrev pub PartialIsAbsent : Type 0

@@ -1,7 +1,7 @@
 -- Which source of a pool a row is.
-use Rattle.std.specs.Prelude.{◌<◌, length}
+use Rattle.std.specs.Prelude.{◌<◌, length, Option, IfSome}
 use Rattle.std.specs.Borrow.{Bor}
-use Rattle.zst_dir.specs.RowNames.{NamesDataset, NamesSnapshot, NamesBookmark}
+use Rattle.zst_dir.specs.RowNames.{AreNamed, NamesDataset, NamesSnapshot, NamesBookmark}
 use Rattle.zst_dir.specs.Rows.{Rows}
 use Rattle.zst_dir.specs.declared.rows.Bookmark as bookmarks
 use Rattle.zst_dir.specs.declared.rows.Dataset as datasets
@@ -10,7 +10,7 @@ use Rattle.zst_model.specs.pools.Ancestry.{OfSnapshot, OfBookmark}
 use Rattle.zst_model.specs.pools.Ancestry as plain
 use Rattle.zst_model.specs.pools.Pool.{Pool}
 use Rattle.zst_model.specs.pools.Pool as pools
-use Rattle.zst_plan.specs.Places.{StandsAt}
+use Rattle.zst_plan.specs.Places.{FindAlike, StandsAt}
 use Rattle.zst_plan.specs.declared.source.Source.{Source}
 use Rattle.zst_plan.specs.declared.source.Source.TheVariants.{Snapshot, Bookmark}
 
@@ -46,3 +46,8 @@ FoundSnapshot row snapshot = NamesSnapshot row.now snapshot
 
 abbrev pub FoundBookmark : Bor bookmarks.Bookmark → pools.Bookmark → Type 0
 FoundBookmark row bookmark = NamesBookmark row.now bookmark
+
+-- the first source over rows before a snapshot, where there is one: it is in them, and over each pool that they name it is the definition's
+pub record FindsFirst (rows : Rows) (to : snapshots.Snapshot) (definition : Pool → pools.Snapshot → Option plain.Source) (result : Option Source) : Type 0 where
+  pub inside : IfSome result (IsInRows rows)
+  pub found : (pool : Pool) (later : pools.Snapshot) → AreNamed rows pool → NamesSnapshot to later → FindAlike (IsSource rows pool) result (definition pool later)

@@ -1,7 +1,5 @@
 //! The flags and the feature that each send has in BEGIN.
-ghost use Rattle.std.specs.Prelude.{◌≡◌};
-ghost use Rattle.zst_model.specs.sends.Features.{sa_spill};
-ghost use Rattle.zst_model.specs.sends.Headers.{clone_flag, free_records, spill_block};
+ghost use Rattle.zst_plan.specs.Plans.{FlagsAreDefined};
 
 /// The source is of another dataset (DRR_FLAG_CLONE of zfs_ioctl.h).
 pub const CLONE: u32 = 1 << 0;
@@ -18,8 +16,5 @@ pub const SA_SPILL: u32 = 1 << 2;
 /// Law: the flags and the feature in code are those of the definitions.
 #[tactic(auto, unfolding(zst_model::specs::sends::Headers::clone_flag, zst_model::specs::sends::Headers::free_records, zst_model::specs::sends::Headers::spill_block, zst_model::specs::sends::Features::sa_spill))]
 pub fn flags_are_defined()
-    ensures clone { CLONE ≡ clone_flag }
-    ensures free_records { FREE_RECORDS ≡ free_records }
-    ensures spill_block { SPILL_BLOCK ≡ spill_block }
-    ensures sa_spill { SA_SPILL ≡ sa_spill }
+    ensures { FlagsAreDefined }
 {}

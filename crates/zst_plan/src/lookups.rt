@@ -6,7 +6,7 @@ ghost use Rattle.zst_dir.specs.RowNames.{AreNamed, NamesSnapshot};
 ghost use Rattle.zst_model.specs.pools.Pool.{Pool, dataset_named, dataset_of_snapshot, snapshot_named};
 ghost use Rattle.zst_model.specs.pools.Pool as plain;
 ghost use Rattle.zst_model.specs.sends.SendPlan.{find_bookmark, find_redaction, find_snapshot, find_source};
-ghost use Rattle.zst_plan.specs.Places.{AnswerAlike, FindAlike, StandsAt};
+ghost use Rattle.zst_plan.specs.Places.{Answers, AnswersRedaction, AnswersSnapshot, FindAlike, StandsAt};
 ghost use Rattle.zst_plan.specs.Sources.{FoundBookmark, FoundDataset, FoundSnapshot, IsInRows, IsSource};
 
 use crate::source::Source;
@@ -16,8 +16,7 @@ use zst_names::{BookName, SnapName};
 
 /// The place of the snapshot of this name: E3 where there is none.
 pub fn find_snapshot(dir: &Dir, name: &SnapName) -> Result<usize, PlanFault>
-    ensures inside { IfOk result (λ place. place < length dir.now.snapshots) }
-    ensures found { (pool : Pool) → AreNamed dir.now pool → AnswerAlike (StandsAt dir.now.snapshots pool.snapshots) result (find_snapshot name.now pool) }
+    ensures finds { AnswersSnapshot dir.now (find_snapshot name.now) result }
     ensures named { IfOk result (λ place. position (λ snapshot. bytes_eq snapshot.name name.now) dir.now.snapshots ≡ Some place) }
 {
     dir.snapshot(name).ok_or_else(|| {
@@ -27,8 +26,7 @@ pub fn find_snapshot(dir: &Dir, name: &SnapName) -> Result<usize, PlanFault>
 
 /// The place of the bookmark of this name: E3 where there is none.
 pub fn find_bookmark(dir: &Dir, name: &BookName) -> Result<usize, PlanFault>
-    ensures inside { IfOk result (λ place. place < length dir.now.bookmarks) }
-    ensures found { (pool : Pool) → AreNamed dir.now pool → AnswerAlike (StandsAt dir.now.bookmarks pool.bookmarks) result (find_bookmark name.now pool) }
+    ensures { Answers dir.now (λ place. place < length dir.now.bookmarks) (λ pool. StandsAt dir.now.bookmarks pool.bookmarks) (find_bookmark name.now) result }
 {
     dir.bookmark(name).ok_or_else(|| {
         PlanFault::NoSuch(AbsentSubject::Named(Name::Bookmark(name.duplicate())))
@@ -37,8 +35,7 @@ pub fn find_bookmark(dir: &Dir, name: &BookName) -> Result<usize, PlanFault>
 
 // The row of this name: E3 where there is none.
 fn find_named<'a>(dir: &'a Dir, from: &FromName) -> Result<Source<'a>, PlanFault>
-    ensures inside { IfOk result (IsInRows dir.now) }
-    ensures found { (pool : Pool) → AreNamed dir.now pool → AnswerAlike (λ source. FindAlike (IsSource dir.now pool) (Some source)) result (find_source (Some from.now) pool) }
+    ensures { Answers dir.now (IsInRows dir.now) (λ pool source. FindAlike (IsSource dir.now pool) (Some source)) (find_source (Some from.now)) result }
 {
     match from {
         FromName::Snap(name) => {
@@ -59,16 +56,14 @@ pub fn find_source<'a>(
     dir: &'a Dir,
     from: &Option<FromName>,
 ) -> Result<Option<Source<'a>>, PlanFault>
-    ensures inside { IfOk result (λ source. IfSome source (IsInRows dir.now)) }
-    ensures found { (pool : Pool) → AreNamed dir.now pool → AnswerAlike (FindAlike (IsSource dir.now pool)) result (find_source from.now pool) }
+    ensures { Answers dir.now (λ source. IfSome source (IsInRows dir.now)) (λ pool. FindAlike (IsSource dir.now pool)) (find_source from.now) result }
 {
     from.as_ref().map(|from| find_named(dir, from)).transpose()
 }
 
 /// The place of the bookmark of `--redact`: E3 where it isn't there.
 pub fn find_redaction(dir: &Dir, redact: &Option<BookName>) -> Result<Option<usize>, PlanFault>
-    ensures inside { IfOk result (λ place. IfSome place (λ p. p < length dir.now.bookmarks)) }
-    ensures found { (pool : Pool) → AreNamed dir.now pool → AnswerAlike (FindAlike (StandsAt dir.now.bookmarks pool.bookmarks)) result (find_redaction redact.now pool) }
+    ensures { AnswersRedaction dir.now (find_redaction redact.now) result }
 {
     redact
         .as_ref()

@@ -5,7 +5,7 @@ ghost use Rattle.zst_dir.specs.RowNames.{AreNamed};
 ghost use Rattle.zst_names.specs.Names.{dataset_of};
 ghost use Rattle.zst_model.specs.pools.Pool.{Pool, Partial as PlainPartial};
 ghost use Rattle.zst_plan.specs.Places.{AnswerAlike, StandsAt};
-ghost use Rattle.zst_plan.specs.Receipts.{IsNewPlan, IsPlainPlan, IsRecvInside, IsRecvPlanOf, TellsNeeded};
+ghost use Rattle.zst_plan.specs.Receipts.{IsPlanFor, IsRecvPlanOf, TellsNeeded};
 ghost use Rattle.zst_plan.specs.RecvPlan.{fresh_plan, recv_plan, resumed_plan, snapshot_name};
 ghost use Rattle.zst_plan.specs.declared.receive.RecvAsk.{RecvAsk as Ask};
 
@@ -59,9 +59,7 @@ pub enum RecvPlan {
 // A target with a partial state: E13, E15.
 fn resumed_plan(dir: &Dir, place: usize, header: &Header) -> Result<RecvPlan, PlanFault>
     requires { place < length dir.now.partials }
-    ensures inside { IfOk result (IsRecvInside dir.now) }
-    ensures plain { IfOk result (IsPlainPlan header.now) }
-    ensures new { (target : List ℕ) → position (λ partial. bytes_eq partial.target target) dir.now.partials ≡ Some place → IfOk result (IsNewPlan dir.now target) }
+    ensures for_target { (target : List ℕ) → position (λ partial. bytes_eq partial.target target) dir.now.partials ≡ Some place → IfOk result (IsPlanFor dir.now target header.now) }
     ensures exact { (pool : Pool) (ask : Ask) (partial : PlainPartial) → AreNamed dir.now pool → StandsAt dir.now.partials pool.partials place partial
         → AnswerAlike (IsRecvPlanOf dir.now pool ask) result (resumed_plan header.now partial) }
 {
@@ -76,9 +74,7 @@ fn fresh_plan(
     header: &Header,
     name: SnapName,
 ) -> Result<RecvPlan, PlanFault>
-    ensures inside { IfOk result (IsRecvInside dir.now) }
-    ensures new { dataset_of 64 name ≡ ask.now.target → IfOk result (IsNewPlan dir.now ask.now.target) }
-    ensures plain { IfOk result (IsPlainPlan header.now) }
+    ensures for_target { dataset_of 64 name ≡ ask.now.target → IfOk result (IsPlanFor dir.now ask.now.target header.now) }
     ensures exact { (pool : Pool) (component : List ℕ) → AreNamed dir.now pool → TellsNeeded dir.now pool ask.now header.now → name ≡ snapshot_name ask.now.target component
         → AnswerAlike (IsRecvPlanOf dir.now pool ask.now) result (fresh_plan ask.now header.now component pool) }
 {
@@ -97,10 +93,7 @@ fn fresh_plan(
 /// Plans a receive of a stream with this header by the checks in their order. Pure, and it takes
 /// no memory.
 pub fn recv_plan(dir: &Dir, ask: &RecvAsk, header: &Header) -> Result<RecvPlan, PlanFault>
-    ensures inside { IfOk result (IsRecvInside dir.now) }
-    ensures new { IfOk result (IsNewPlan dir.now ask.now.target) }
-    // What begins anew is no resumed stream.
-    ensures plain { IfOk result (IsPlainPlan header.now) }
+    ensures for_target { IfOk result (IsPlanFor dir.now ask.now.target header.now) }
     ensures exact { (pool : Pool) → AreNamed dir.now pool → TellsNeeded dir.now pool ask.now header.now → AnswerAlike (IsRecvPlanOf dir.now pool ask.now) result (recv_plan ask.now header.now pool) }
 {
     let name = find_name(ask, header)?;

@@ -1,14 +1,14 @@
 // What a token names, looked up in the directory.
-ghost use Rattle.std.specs.Prelude.{◌≡◌, ◌<◌, ◌==◌, ◌&&◌, length, IfOk, IfSome};
+ghost use Rattle.std.specs.Prelude.{◌≡◌, ◌==◌, ◌&&◌, IfOk, IfSome};
 ghost use Rattle.std.specs.List.{position};
 ghost use Rattle.std.specs.Str.{bytes_eq};
 ghost use Rattle.zst_dir.specs.RowNames.{AreNamed, NamesSnapshot};
 ghost use Rattle.zst_model.specs.pools.Ancestry as plain;
 ghost use Rattle.zst_model.specs.pools.Pool.{Pool, Snapshot as PlainSnapshot};
-ghost use Rattle.zst_plan.specs.Places.{AnswerAlike, FindAlike, StandsAt};
-ghost use Rattle.zst_plan.specs.Plans.{IsInside, IsPlanOf};
+ghost use Rattle.zst_plan.specs.Places.{AnswerAlike, AnswersRedaction, AnswersSnapshot, FindAlike};
+ghost use Rattle.zst_plan.specs.Plans.{AnswersPlan};
 ghost use Rattle.zst_plan.specs.ResumePlan.{find_from, find_marked, find_to, first_bookmark, first_from, first_snapshot, is_from, no_guid, resumed_send};
-ghost use Rattle.zst_plan.specs.Sources.{IsInRows, IsSource, NamesSource};
+ghost use Rattle.zst_plan.specs.Sources.{FindsFirst, IsInRows, IsSource, NamesSource};
 
 use crate::checks::has_guids;
 use crate::origin_walk::comes_before;
@@ -28,8 +28,7 @@ fn no_guid(guid: u64) -> PlanFault
 
 // The place of the snapshot that is sent: the first with the token's to guid.
 fn find_to(dir: &Dir, token: &Token) -> Result<usize, PlanFault>
-    ensures inside { IfOk result (λ place. place < length dir.now.snapshots) }
-    ensures found { (pool : Pool) → AreNamed dir.now pool → AnswerAlike (StandsAt dir.now.snapshots pool.snapshots) result (find_to token.now pool) }
+    ensures finds { AnswersSnapshot dir.now (find_to token.now) result }
     ensures to { IfOk result (λ place. position (λ snapshot. snapshot.guid == token.now.to) dir.now.snapshots ≡ Some place) }
 {
     dir.by_guid(token.to).ok_or(no_guid(token.to))
@@ -47,9 +46,7 @@ fn is_from(dir: &Dir, token: &Token, to: &Snapshot, source: &Source<'_>) -> bool
 
 // The first such snapshot.
 fn first_snapshot<'a>(dir: &'a Dir, token: &Token, to: &Snapshot) -> Option<Source<'a>>
-    ensures inside { IfSome result (IsInRows dir.now) }
-    ensures found { (pool : Pool) (later : PlainSnapshot) → AreNamed dir.now pool → NamesSnapshot to.now later
-        → FindAlike (IsSource dir.now pool) result (first_snapshot token.now pool later) }
+    ensures { FindsFirst dir.now to.now (first_snapshot token.now) result }
 {
     for place in 0..dir.snapshots().len() {
         let row = &dir.snapshots()[place];
@@ -63,9 +60,7 @@ fn first_snapshot<'a>(dir: &'a Dir, token: &Token, to: &Snapshot) -> Option<Sour
 
 // The first such bookmark.
 fn first_bookmark<'a>(dir: &'a Dir, token: &Token, to: &Snapshot) -> Option<Source<'a>>
-    ensures inside { IfSome result (IsInRows dir.now) }
-    ensures found { (pool : Pool) (later : PlainSnapshot) → AreNamed dir.now pool → NamesSnapshot to.now later
-        → FindAlike (IsSource dir.now pool) result (first_bookmark token.now pool later) }
+    ensures { FindsFirst dir.now to.now (first_bookmark token.now) result }
 {
     for place in 0..dir.bookmarks().len() {
         let row = &dir.bookmarks()[place];
@@ -79,9 +74,7 @@ fn first_bookmark<'a>(dir: &'a Dir, token: &Token, to: &Snapshot) -> Option<Sour
 
 // The snapshot, or else the bookmark.
 fn first_from<'a>(dir: &'a Dir, token: &Token, to: &Snapshot) -> Option<Source<'a>>
-    ensures inside { IfSome result (IsInRows dir.now) }
-    ensures found { (pool : Pool) (later : PlainSnapshot) → AreNamed dir.now pool → NamesSnapshot to.now later
-        → FindAlike (IsSource dir.now pool) result (first_from token.now pool later) }
+    ensures { FindsFirst dir.now to.now (first_from token.now) result }
 {
     first_snapshot(dir, token, to).or_else(|| first_bookmark(dir, token, to))
 }
@@ -115,8 +108,7 @@ fn first_marked(dir: &Dir, token: &Token) -> Option<usize>
 
 // Its place, where the token has redaction guids.
 fn find_marked(dir: &Dir, token: &Token) -> Result<Option<usize>, PlanFault>
-    ensures inside { IfOk result (λ place. IfSome place (λ p. p < length dir.now.bookmarks)) }
-    ensures found { (pool : Pool) → AreNamed dir.now pool → AnswerAlike (FindAlike (StandsAt dir.now.bookmarks pool.bookmarks)) result (find_marked token.now pool) }
+    ensures { AnswersRedaction dir.now (find_marked token.now) result }
 {
     if !has_guids(&token.redact) {
         return Ok(None);
@@ -127,8 +119,7 @@ fn find_marked(dir: &Dir, token: &Token) -> Result<Option<usize>, PlanFault>
 /// What a send from a token is to give: the places of what the token names, or the first refusal
 /// of its checks.
 pub fn resume_plan(dir: &Dir, token: &Token) -> Result<SendPlan, PlanFault>
-    ensures inside { IfOk result (IsInside dir.now) }
-    ensures exact { (pool : Pool) → AreNamed dir.now pool → AnswerAlike (IsPlanOf dir.now pool) result (resumed_send token.now pool) }
+    ensures plans { AnswersPlan dir.now (resumed_send token.now) result }
     // Whatever the object sets hold, the snapshot is the first with the token's to guid.
     ensures to { IfOk result (λ plan. position (λ snapshot. snapshot.guid == token.now.to) dir.now.snapshots ≡ Some plan.snap) }
 {

@@ -8,7 +8,7 @@ ghost use Rattle.zst_model.specs.pools.Pool.{Pool, Bookmark as PlainBookmark, Sn
 ghost use Rattle.zst_model.specs.sends.Headers.{Sent};
 ghost use Rattle.zst_model.specs.sends.SendPlan.{kind_of, send_plan, sent_of};
 ghost use Rattle.zst_plan.specs.Places.{AnswerAlike, FindAlike, StandsAt};
-ghost use Rattle.zst_plan.specs.Plans.{IsFrom, IsInside, IsPlanOf};
+ghost use Rattle.zst_plan.specs.Plans.{AnswersPlan, AreInside, IsFrom, IsInside, IsPlanOf, IsSameSend};
 ghost use Rattle.zst_plan.specs.Sources.{IsInRows, IsSource};
 
 use crate::checks::{check_before, check_no_relay, check_redaction};
@@ -21,9 +21,7 @@ use zst_model::{PlanFault, SendAsk};
 // A full send's plan as one from this source.
 fn with_source(full: SendPlan, source: &Source<'_>) -> SendPlan
     requires full { (full.from_snap ≡ None) × (full.book_f ≡ None) }
-    ensures snapshot { result.snap ≡ full.snap }
-    ensures redaction { result.book_t ≡ full.book_t }
-    ensures flags { result.flags ≡ full.flags }
+    ensures same { IsSameSend full result }
     ensures inside { (rows : Rows) → IsInRows rows source.now
         → IfSome result.from_snap (λ place. place < length rows.snapshots) × IfSome result.book_f (λ place. place < length rows.bookmarks) }
     ensures from { (rows : Rows) (pool : Pool) (from : plain.Source) → IsSource rows pool source.now from → IsFrom rows pool result (Some from) }
@@ -52,7 +50,7 @@ fn plan_of(
     source: &Option<Source<'_>>,
     book_t: Option<usize>,
 ) -> SendPlan
-    ensures inside { (rows : Rows) → snap < length rows.snapshots → IfSome source.now (IsInRows rows) → IfSome book_t (λ p. p < length rows.bookmarks) → IsInside rows result }
+    ensures inside { (rows : Rows) → AreInside rows snap source.now book_t → IsInside rows result }
     ensures snapshot { result.snap ≡ snap }
     ensures plan { (rows : Rows) (pool : Pool) (sent : Sent) → StandsAt rows.snapshots pool.snapshots snap sent.snapshot → NamesSnapshot snapshot.now sent.snapshot
         → FindAlike (IsSource rows pool) source.now sent.source → FindAlike (StandsAt rows.bookmarks pool.bookmarks) book_t sent.redaction
@@ -80,9 +78,7 @@ pub fn checked_plan(
     source: &Option<Source<'_>>,
     book_t: Option<usize>,
 ) -> Result<SendPlan, PlanFault>
-    requires snapshot { snap < length dir.now.snapshots }
-    requires source { IfSome source.now (IsInRows dir.now) }
-    requires redaction { IfSome book_t (λ p. p < length dir.now.bookmarks) }
+    requires { AreInside dir.now snap source.now book_t }
     ensures inside { IfOk result (IsInside dir.now) }
     ensures exact { (pool : Pool) (sent : PlainSnapshot) (from : Option plain.Source) (redaction : Option PlainBookmark) → AreNamed dir.now pool
         → StandsAt dir.now.snapshots pool.snapshots snap sent → FindAlike (IsSource dir.now pool) source.now from
@@ -98,8 +94,7 @@ pub fn checked_plan(
 
 /// What a send is to give: the places of what the ask names, or the first refusal of its checks.
 pub fn send_plan(dir: &Dir, ask: &SendAsk) -> Result<SendPlan, PlanFault>
-    ensures inside { IfOk result (IsInside dir.now) }
-    ensures exact { (pool : Pool) → AreNamed dir.now pool → AnswerAlike (IsPlanOf dir.now pool) result (send_plan ask.now pool) }
+    ensures plans { AnswersPlan dir.now (send_plan ask.now) result }
     ensures named { IfOk result (λ plan. position (λ snapshot. bytes_eq snapshot.name ask.now.snap) dir.now.snapshots ≡ Some plan.snap) }
 {
     let snap = find_snapshot(dir, &ask.snap)?;

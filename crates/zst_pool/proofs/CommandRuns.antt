@@ -106,6 +106,8 @@ module _ (definition : Pool → Result Stepped Refusal) (cost : Cost) (kept : Po
       let works = one.2 in
       let answer = of_committed made in
       let disk = committed_cause mid.disk.faults new.disk.faults made cause in
+      -- the blocks that were there before the command are there by this body
+      let Stand = λ (next : PoolState). KeepsBlocks old.disk.seen (free_by kept.body) new.disk.seen (free_by next.body) in
       let runs : Ran definition cost kept old new answer = record {
         did = did;
         open_still = committed_open made;
@@ -131,10 +133,6 @@ module _ (definition : Pool → Result Stepped Refusal) (cost : Cost) (kept : Po
       } in
       subst (Ran definition cost kept old new) (sym is) runs
     where
-      -- the blocks that were there before the command are there by this body
-      abbrev Stand : PoolState → Type 0
-      Stand next = KeepsBlocks old.disk.seen (free_by kept.body) new.disk.seen (free_by next.body)
-
       spends : (r : Result PoolState CommitFault) → IfOk r (CommittedDir kept.body dir mid new) → TakesForDir dir mid.space new.space r → RefusedDir kept.body mid new r
           → (block : ℕ) → Works cost.cells block (rested old.disk old.failed old.checksum_errors old.reference kept) mid None → Spends cost.cells block kept new.space as_kept (of_committed r)
       spends (Ok next) done takes refused block works =

@@ -3,6 +3,7 @@ use Rattle.std.specs.Prelude.{ℕ, ◌≡◌, ◌≤◌, ◌%◌, List, ◌++◌
 use Rattle.zst_bytes.specs.Bytes.{number_at}
 use Rattle.zst_fletcher.specs.WeightSum.{weight_sum, IsWhole}
 use Rattle.zst_record.specs.Decoding.{features_in}
+use Rattle.zst_record.specs.Formats.{record_len}
 use Rattle.zst_reader.specs.declared.place.LeadingSum.{LeadingSum}
 use Rattle.zst_reader.specs.declared.place.Place.{Place}
 
@@ -24,3 +25,8 @@ pub record IsPlaceAfter (before rest : List ℕ) (place : Place) : Type 0 where
 pub record IsWithin (count size : ℕ) : Type 0 where
   pub there : size ≤ count
   pub words : size % 4 ≡ 0
+
+-- so many of the held bytes are a record
+pub record IsRecordIn (count size : ℕ) : Type 0 where
+  pub header : record_len ≤ size
+  pub within : IsWithin count size

@@ -65,6 +65,11 @@ pub record StandsFor (r : Reader) (text : List ℕ) (handed : List Covered) : Ty
   pub front : (further : List ℕ) → (rest : List Covered) × ((reading (text ++ further)).covered ≡ handed ++ rest)
   pub inner : GoesOn r text handed
 
+-- a reader of the empty text, of which it has handed out nothing
+pub record IsUnread (r : Reader) : Type 0 where
+  pub stands : StandsFor r [] []
+  pub mark : mark_of r ≡ Open
+
 -- all that the text covers was handed out, and its reading ends so
 pub record HandsOut (r : Reader) (text : List ℕ) (handed : List Covered) (outcome : Outcome) : Type 0 where
   pub stands : StandsFor r text handed

@@ -1,5 +1,5 @@
 -- What a step does.
-use Rattle.std.specs.Prelude.{ℕ, ◌+◌, ◌<◌, ◌≡◌, List, [], ◌∷◌, ◌++◌, take, drop, Result, Ok, Err}
+use Rattle.std.specs.Prelude.{ℕ, ◌+◌, ◌<◌, ◌≡◌, List, [], ◌∷◌, ◌++◌, length, take, drop, Result, Ok, Err}
 use Rattle.std.specs.Borrow.{MutBor, Fml}
 use Rattle.std.specs.Io.BufRead.{Rests}
 use Rattle.zst_record.specs.Formats.{record_len}
@@ -8,8 +8,10 @@ use Rattle.zst_model.specs.declared.refusals.stream_fault.StreamFault.{StreamFau
 use Rattle.zst_stream.specs.Reading.{waiting, faulty, complete}
 use Rattle.zst_reader.specs.Window.{items}
 use Rattle.zst_reader.specs.Mark.{mark_after}
-use Rattle.zst_reader.specs.StandsFor.{StandsFor, HandsOut, pushed_of, handed_of, mark_of, room_of}
+use Rattle.zst_reader.specs.Place.{IsWithin}
+use Rattle.zst_reader.specs.StandsFor.{StandsFor, HandsOut, held, pushed_of, handed_of, mark_of, room_of}
 use Rattle.zst_reader.specs.declared.mark.Mark.{Mark}
+use Rattle.zst_reader.specs.declared.place.Place.{Place}
 use Rattle.zst_reader.specs.declared.mark.Mark.TheVariants.{Open, Failed, Ended}
 use Rattle.zst_reader.specs.declared.reader.Reader.{Reader}
 use Rattle.zst_reader.specs.declared.reader.Step.{Step}
@@ -30,6 +32,29 @@ pub record Counts (old new : Reader) (count : ℕ) (stand : Mark) : Type 0 where
   pub pushed : pushed_of new ≡ pushed_of old
   pub handed : handed_of new ≡ handed_of old + count
   pub mark : mark_of new ≡ stand
+
+-- what it lent was given back, and the rest of the window stands at its front
+pub record GivesBack (old new : Reader) : Type 0 where
+  pub taken : new.taken ≡ 0
+  pub items : items new.window ≡ held old
+  pub place : new.place ≡ old.place
+  pub handed : new.handed ≡ old.handed
+  pub pushed : new.pushed ≡ old.pushed
+  pub mark : new.mark ≡ old.mark
+
+-- the record at the front is there, and this is the place behind it
+pub record StandsBehind (r : Reader) (place : Place) : Type 0 where
+  pub settled : r.taken ≡ 0
+  pub within : IsWithin (length (items r.window)) (size_of r.head)
+  pub at : place.at ≡ r.place.at + size_of r.head
+
+-- the record at the front was taken as handed out, so that this place is next
+pub record TakesRecord (old new : Reader) (place : Place) (stand : Mark) : Type 0 where
+  pub head : new.head ≡ old.head
+  pub taken : new.taken ≡ size_of old.head
+  pub window : new.window ≡ old.window
+  pub counts : Counts old new 1 stand
+  pub next : new.place ≡ place
 
 -- all but its head is the same
 pub record IsSameBut (old new : Reader) : Type 0 where

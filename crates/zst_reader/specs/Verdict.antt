@@ -1,5 +1,5 @@
 -- What the code's verdict says.
-use Rattle.std.specs.Prelude.{ℕ, ◌+◌, ◌*◌, ◌<◌, ◌≤◌, ◌≡◌, Bool, true, false, Option, Some, None, List, ◌++◌, length, take, drop, Result, Ok, Err}
+use Rattle.std.specs.Prelude.{ℕ, ◌+◌, ◌*◌, ◌%◌, ◌<◌, ◌≤◌, ◌≡◌, Bool, true, false, Option, Some, None, List, ◌++◌, length, take, drop, Result, Ok, Err}
 use Rattle.zst_record.specs.Decoding.{Decoded, decoded}
 use Rattle.zst_record.specs.Formats.{record_len, longest_payload}
 use Rattle.zst_record.specs.Heads.{payload_len, size_of}
@@ -52,6 +52,12 @@ LeadsOn before held head (verdicts.Refuse fault) = Unit {0}
 LeadsOn before held head (verdicts.Last next) = IsPlaceAfter (before ++ take (size_of head) held) (drop (size_of head) held) next
 LeadsOn before held head (verdicts.More next) = IsPlaceAfter (before ++ take (size_of head) held) (drop (size_of head) held) next
 
+-- a record but END, with a payload of whole words that fits the buffer
+pub record IsOpenable (head : Head) : Type 0 where
+  pub words : payload_len head % 4 ≡ 0
+  pub short : payload_len head ≤ longest_payload
+  pub later : closing head ≡ None
+
 -- the record is there, and its mark and the place behind it fit
 pub record Covers (place : Place) (count : ℕ) (head : Head) (next : Place) (stand : Mark) : Type 0 where
   pub within : IsWithin count (size_of head)
@@ -64,3 +70,10 @@ FitsIn place count head verdicts.Wait = count < longest_payload + 2 * record_len
 FitsIn place count head (verdicts.Refuse fault) = Unit {0}
 FitsIn place count head (verdicts.Last next) = Covers place count head next Ended × (payload_len head ≡ 0)
 FitsIn place count head (verdicts.More next) = Covers place count head next Open
+
+-- The verdict on the record of this head at the front of the held bytes: it is the ruling on them behind whatever bytes lead to this place,
+-- and where the record is handed out, it leads to the place behind it.
+pub record Judges (place : Place) (held : List ℕ) (head : Head) (rule : List ℕ → Ruling) (verdict : Verdict) : Type 0 where
+  pub rules : (before : List ℕ) → IsPlaceAfter before held place → ruled head verdict ≡ rule before
+  pub leads : (before : List ℕ) → IsPlaceAfter before held place → LeadsOn before held head verdict
+  pub fits : FitsIn place (length held) head verdict

@@ -28,12 +28,11 @@ pub(crate) struct Place {
 impl Place {
     ghost use Rattle.std.specs.Prelude.{ℕ, List, [], ◌++◌, length, take, drop};
     ghost use Rattle.zst_fletcher.specs.WeightSum.{weight_sum};
-    ghost use Rattle.zst_reader.specs.Place.{IsPlaceAfter, IsAhead, IsWithin};
+    ghost use Rattle.zst_reader.specs.Place.{IsPlaceAfter, IsAhead, IsRecordIn};
 
     /// The place before BEGIN.
     pub(crate) fn first() -> Place
-        ensures at { result.at ≡ 0 }
-        ensures first { IsPlaceAfter [] [] result }
+        ensures { IsPlaceAfter [] [] result }
     {
         Place {
             at: 0,
@@ -49,8 +48,7 @@ impl Place {
 
     /// The sum of the text with the record of this size at the front of the held bytes.
     pub(crate) fn sum_with(&self, held: &[u8], size: usize) -> Sum
-        requires header { record_len ≤ size }
-        requires within { IsWithin (length held.now) size }
+        requires { IsRecordIn (length held.now) size }
         ensures { (before : List ℕ) → IsPlaceAfter before held.now self.now → result ≡ weight_sum (before ++ take size held.now) }
     {
         let mut sum = self.ahead.sum;
@@ -60,8 +58,7 @@ impl Place {
 
     /// The place behind the record of this size at the front of the held bytes, where the sum is that of the text with it.
     pub(crate) fn after(&self, held: &[u8], size: usize, sum: Sum, ahead: LeadingSum) -> Place
-        requires header { record_len ≤ size }
-        requires within { IsWithin (length held.now) size }
+        requires there { IsRecordIn (length held.now) size }
         requires bounded { self.now.at + length held.now ≤ 2 ^ 62 }
         ensures at { result.at ≡ self.now.at + size }
         ensures after { (before : List ℕ) → IsPlaceAfter before held.now self.now → sum ≡ weight_sum (before ++ take size held.now)

@@ -57,21 +57,19 @@ pub struct Reader {
 }
 
 impl Reader {
-    ghost use Rattle.std.specs.Prelude.{List, ℕ, [], ◌++◌, ◌∷◌, ◌%◌, IfOk, take, min, sum_by};
+    ghost use Rattle.std.specs.Prelude.{List, ℕ, IfOk, sum_by};
     ghost use Rattle.std.specs.Borrow.{sem};
     ghost use Rattle.zst_record.specs.Heads.{Covered, covered_of, size_of};
     ghost use Rattle.zst_stream.specs.Reading.{ruling};
     ghost use Rattle.zst_reader.specs.Mark.{finish_of};
-    ghost use Rattle.zst_reader.specs.Place.{IsPlaceAfter, IsWithin};
-    ghost use Rattle.zst_reader.specs.StandsFor.{StandsFor, held, pushed_of, handed_of, room_of, mark_of, place_of};
-    ghost use Rattle.zst_reader.specs.InputReads.{Fills, stream_limit};
-    ghost use Rattle.zst_reader.specs.Verdict.{ruled, LeadsOn, FitsIn};
-    ghost use Rattle.zst_reader.specs.Steps.{StepsOn, Counts, Finds, FindsIn, covered_in, IsSameBut};
+    ghost use Rattle.zst_reader.specs.StandsFor.{IsUnread, StandsFor, mark_of, pushed_of, room_of};
+    ghost use Rattle.zst_reader.specs.InputReads.{Fills, PushesFront, stream_limit};
+    ghost use Rattle.zst_reader.specs.Verdict.{Judges};
+    ghost use Rattle.zst_reader.specs.Steps.{Finds, FindsIn, GivesBack, IsSameBut, StandsBehind, StepsOn, TakesRecord, covered_in};
 
     /// A reader of the empty text.
     pub fn open(alloc: Global) -> Result<Reader, AllocError>
-        ensures stands { IfOk result (λ r. StandsFor r [] []) }
-        ensures mark { IfOk result (λ r. mark_of r ≡ Mark.Open) }
+        ensures { IfOk result IsUnread }
     {
         Ok(Reader {
             window: Window::new(alloc)?,
@@ -91,12 +89,7 @@ impl Reader {
     /// Takes a front of a piece, as long as there is room.
     pub fn push(&mut self, piece: &[u8]) -> usize
         requires { pushed_of self.old + length piece.now ≤ 2 ^ 62 }
-        ensures count { result ≡ min (length piece.now) (room_of self.old) }
-        ensures pushed { pushed_of self.new ≡ pushed_of self.old + result }
-        ensures handed { handed_of self.new ≡ handed_of self.old }
-        ensures mark { mark_of self.new ≡ mark_of self.old }
-        ensures stands { (text : List ℕ) (handed : List Covered) → StandsFor self.old text handed
-            → StandsFor self.new (text ++ take result piece.now) handed }
+        ensures { PushesFront self.old self.new piece.now result }
     {
         self.settle();
         let count = piece.len().min(self.room());
@@ -166,12 +159,7 @@ impl Reader {
 
     // Gives up the record that was handed out last.
     fn settle(&mut self)
-        ensures taken { self.new.taken ≡ 0 }
-        ensures items { items self.new.window ≡ held self.old }
-        ensures place { self.new.place ≡ self.old.place }
-        ensures handed { self.new.handed ≡ self.old.handed }
-        ensures pushed { self.new.pushed ≡ self.old.pushed }
-        ensures mark { self.new.mark ≡ self.old.mark }
+        ensures { GivesBack self.old self.new }
     {
         let count = self.taken;
         self.taken = 0;
@@ -183,9 +171,7 @@ impl Reader {
     fn judge(&mut self) -> Verdict
         requires settled { self.old.taken ≡ 0 }
         ensures same { IsSameBut self.old self.new }
-        ensures rules { (before : List ℕ) → IsPlaceAfter before (items self.new.window) self.new.place → ruled self.new.head result ≡ ruling before (items self.new.window) }
-        ensures leads { (before : List ℕ) → IsPlaceAfter before (items self.new.window) self.new.place → LeadsOn before (items self.new.window) self.new.head result }
-        ensures fits { FitsIn self.new.place (length (items self.new.window)) self.new.head result }
+        ensures judged { Judges self.new.place (items self.new.window) self.new.head (λ before. ruling before (items self.new.window)) result }
     {
         let held = self.window.as_slice();
         if !self.known {
@@ -202,14 +188,8 @@ impl Reader {
 
     // Takes the record at the window's front as handed out, before which this place stands.
     fn advance(&mut self, place: Place, mark: Mark)
-        requires settled { self.old.taken ≡ 0 }
-        requires within { IsWithin (length (items self.old.window)) (size_of self.old.head) }
-        requires at { place.at ≡ self.old.place.at + size_of self.old.head }
-        ensures head { self.new.head ≡ self.old.head }
-        ensures taken { self.new.taken ≡ size_of self.old.head }
-        ensures window { self.new.window ≡ self.old.window }
-        ensures counts { Counts self.old self.new 1 mark }
-        ensures place { self.new.place ≡ place }
+        requires { StandsBehind self.old place }
+        ensures { TakesRecord self.old self.new place mark }
     {
         self.taken = RECORD_LEN + self.head.payload_len() as usize;
         self.known = false;

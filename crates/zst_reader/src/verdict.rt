@@ -1,11 +1,10 @@
-ghost use Rattle.std.specs.Prelude.{◌≡◌, ◌+◌, ◌%◌, ◌^◌, ◌<◌, ◌≤◌, ◌++◌, List, ℕ, Option, Some, None, length, take, drop};
+ghost use Rattle.std.specs.Prelude.{◌≡◌, ◌+◌, ◌^◌, ◌<◌, ◌≤◌, ◌++◌, List, ℕ, Option, Some, None, length, take, drop};
 ghost use Rattle.zst_fletcher.specs.WeightSum.{weight_sum};
-ghost use Rattle.zst_record.specs.Formats.{longest_payload, record_len};
+ghost use Rattle.zst_record.specs.Formats.{record_len};
 ghost use Rattle.zst_record.specs.Heads.{payload_len, size_of};
 ghost use Rattle.zst_record.specs.declared.head.Head.TheVariants.{End};
 ghost use Rattle.zst_stream.specs.Reading.{sum_fault, closing, cover, opened, rule_by, ruling, sealed_next};
-ghost use Rattle.zst_reader.specs.Place.{IsPlaceAfter};
-ghost use Rattle.zst_reader.specs.Verdict.{IsHeadOf, ReadsHead, SaysWith, ruled, LeadsOn, FitsIn};
+ghost use Rattle.zst_reader.specs.Verdict.{IsHeadOf, IsOpenable, Judges, ReadsHead, SaysWith};
 
 use crate::place::{LeadingSum, Place};
 use zst_fletcher::Sum;
@@ -115,13 +114,9 @@ fn open_payload(held: &[u8], head: &Head) -> Result<Option<Head>, StreamFault>
 // Judges a record but END whose payload is there: it is covered once the next record is there with the right checksum.
 #[tactic(auto, unfolding(zst_stream::specs::Reading::sealed_next))]
 fn judge_sealed(held: &[u8], place: &Place, head: &Head) -> Verdict
-    requires words { payload_len head.now % 4 ≡ 0 }
-    requires short { payload_len head.now ≤ longest_payload }
-    requires later { closing head.now ≡ None }
+    requires opens { IsOpenable head.now }
     requires fits { place.now.at + length held.now ≤ 2 ^ 62 }
-    ensures rules { (before : List ℕ) → IsPlaceAfter before held.now place.now → ruled head.now result ≡ sealed_next before held.now head.now }
-    ensures leads { (before : List ℕ) → IsPlaceAfter before held.now place.now → LeadsOn before held.now head.now result }
-    ensures fits { FitsIn place.now (length held.now) head.now result }
+    ensures { Judges place.now held.now head.now (λ before. sealed_next before held.now head.now) result }
 {
     let size = RECORD_LEN + head.payload_len() as usize;
     if held.len() < size + RECORD_LEN {
@@ -145,13 +140,9 @@ fn judge_sealed(held: &[u8], place: &Place, head: &Head) -> Verdict
 // Judges a record but END: once its payload is whole, by what it says with that. Where it is covered, that is its head.
 #[tactic(auto, unfolding(zst_stream::specs::Reading::cover))]
 fn judge_later(held: &[u8], place: &Place, head: &mut Head) -> Verdict
-    requires words { payload_len head.old % 4 ≡ 0 }
-    requires short { payload_len head.old ≤ longest_payload }
-    requires later { closing head.old ≡ None }
+    requires opens { IsOpenable head.old }
     requires fits { place.now.at + length held.now ≤ 2 ^ 62 }
-    ensures rules { (before : List ℕ) → IsPlaceAfter before held.now place.now → ruled head.new result ≡ cover before held.now head.old }
-    ensures leads { (before : List ℕ) → IsPlaceAfter before held.now place.now → LeadsOn before held.now head.new result }
-    ensures fits { FitsIn place.now (length held.now) head.new result }
+    ensures judged { Judges place.now held.now head.new (λ before. cover before held.now head.old) result }
     ensures kept { result ≡ Verdict.Wait → head.new ≡ head.old }
 {
     if held.len() < RECORD_LEN + head.payload_len() as usize {
@@ -174,10 +165,7 @@ fn judge_later(held: &[u8], place: &Place, head: &mut Head) -> Verdict
 fn judge_end(held: &[u8], place: &Place, sums: [u64; 4], to: u64) -> Verdict
     requires there { record_len ≤ length held.now }
     requires fits { place.now.at + length held.now ≤ 2 ^ 62 }
-    ensures rules { (before : List ℕ) → IsPlaceAfter before held.now place.now
-        → ruled (End sums to) result ≡ rule_by before held.now (End sums to) (closing (End sums to)) }
-    ensures leads { (before : List ℕ) → IsPlaceAfter before held.now place.now → LeadsOn before held.now (End sums to) result }
-    ensures fits { FitsIn place.now (length held.now) (End sums to) result }
+    ensures { Judges place.now held.now (End sums to) (λ before. rule_by before held.now (End sums to) (closing (End sums to))) result }
 {
     if let Some(fault) = compare(held, place.at, place.sum, 8) {
         return Verdict::Refuse(fault);
@@ -195,9 +183,7 @@ fn judge_end(held: &[u8], place: &Place, sums: [u64; 4], to: u64) -> Verdict
 pub(crate) fn judge(held: &[u8], place: &Place, head: &mut Head) -> Verdict
     requires is { IsHeadOf place.now held.now head.old }
     requires fits { place.now.at + length held.now ≤ 2 ^ 62 }
-    ensures rules { (before : List ℕ) → IsPlaceAfter before held.now place.now → ruled head.new result ≡ ruling before held.now }
-    ensures leads { (before : List ℕ) → IsPlaceAfter before held.now place.now → LeadsOn before held.now head.new result }
-    ensures fits { FitsIn place.now (length held.now) head.new result }
+    ensures judged { Judges place.now held.now head.new (λ before. ruling before held.now) result }
     ensures kept { result ≡ Verdict.Wait → head.new ≡ head.old }
 {
     // The record that passes is whole words and fits the buffer.

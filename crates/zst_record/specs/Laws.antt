@@ -4,7 +4,10 @@ use Rattle.zst_model.specs.declared.sends.header.Header.{Header}
 use Rattle.zst_model.specs.pools.Pool.{IsStated}
 use Rattle.zst_record.specs.declared.head.Head.{Head}
 use Rattle.zst_record.specs.declared.head.Head.TheVariants as heads
-use Rattle.zst_record.specs.Formats.{longest_payload}
+use Rattle.zst_record.specs.Formats.{begin_type, compound_stream, compressed_bit, dedup_bit, dedup_props_bit, embed_data_bit, end_type, free_objects_type, free_type, large_blocks, longest_payload, lz4_bit, object_range_type, object_type, other_features, raw_bit, record_len, redact_type, reversed_magic, spill_type, stream_magic, substream, summed_len, write_by_reference_type, write_embedded_type, write_type}
+use Rattle.zst_record.specs.declared.TheConstants.{COMPOUND_STREAM, LONGEST_PAYLOAD, MAGIC, RECORD_LEN, REVERSED_MAGIC, SUBSTREAM, SUMMED_LEN}
+use Rattle.zst_record.specs.declared.features.TheConstants.{COMPRESSED_BIT, DEDUP_BIT, DEDUP_PROPS_BIT, EMBED_DATA_BIT, LARGE_BLOCKS, LZ4_BIT, OTHER_FEATURES, RAW_BIT}
+use Rattle.zst_record.specs.declared.types.TheConstants.{BEGIN, END, FREE, FREE_OBJECTS, OBJECT, OBJECT_RANGE, REDACT, SPILL, WRITE, WRITE_BY_REFERENCE, WRITE_EMBEDDED}
 use Rattle.zst_record.specs.Heads.{payload_len}
 use Rattle.zst_record.specs.Table.{head_bytes, sealed_bytes}
 use Rattle.zst_record.specs.Decoding.{decoded, features_in, is_payload_len}
@@ -80,3 +83,37 @@ pub record PayloadFits (header : Header) : Type 0 where
 
 abbrev pub PayloadHasLength : Type 0
 PayloadHasLength = (header : Header) → StatesPayload header → PayloadFits header
+
+-- the lengths and the words of BEGIN in code are those of the definitions
+pub record FormatsAreDefined : Type 0 where
+  pub record_length : RECORD_LEN ≡ record_len
+  pub summed : SUMMED_LEN ≡ summed_len
+  pub payload : LONGEST_PAYLOAD ≡ longest_payload
+  pub magic : MAGIC ≡ stream_magic
+  pub reversed : REVERSED_MAGIC ≡ reversed_magic
+  pub one : SUBSTREAM ≡ substream
+  pub many : COMPOUND_STREAM ≡ compound_stream
+
+-- so are the numbers of the records' types
+pub record TypesAreDefined : Type 0 where
+  pub begin : BEGIN ≡ begin_type
+  pub object : OBJECT ≡ object_type
+  pub free_objects : FREE_OBJECTS ≡ free_objects_type
+  -- a block's write: by its bytes, by a reference to another, or embedded
+  pub writes : (WRITE ≡ write_type) × (WRITE_BY_REFERENCE ≡ write_by_reference_type) × (WRITE_EMBEDDED ≡ write_embedded_type)
+  pub free : FREE ≡ free_type
+  pub end : END ≡ end_type
+  pub spill : SPILL ≡ spill_type
+  pub object_range : OBJECT_RANGE ≡ object_range_type
+  pub redact : REDACT ≡ redact_type
+
+-- so are the features of a stream
+pub record FeaturesAreDefined : Type 0 where
+  pub dedup : DEDUP_BIT ≡ dedup_bit
+  pub dedup_props : DEDUP_PROPS_BIT ≡ dedup_props_bit
+  pub embed_data : EMBED_DATA_BIT ≡ embed_data_bit
+  pub lz4 : LZ4_BIT ≡ lz4_bit
+  pub compressed : COMPRESSED_BIT ≡ compressed_bit
+  pub raw : RAW_BIT ≡ raw_bit
+  pub large_blocks : LARGE_BLOCKS ≡ large_blocks
+  pub others : OTHER_FEATURES ≡ other_features

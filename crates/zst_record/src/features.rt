@@ -1,6 +1,5 @@
 //! The features of a stream, bits of `drr_versioninfo` above those of the header type (zfs_ioctl.h).
-ghost use Rattle.std.specs.Prelude.{◌≡◌};
-ghost use Rattle.zst_record.specs.Formats.{dedup_bit, dedup_props_bit, embed_data_bit, lz4_bit, compressed_bit, raw_bit, other_features, large_blocks};
+ghost use Rattle.zst_record.specs.Laws.{FeaturesAreDefined};
 
 /// `DMU_BACKUP_FEATURE_DEDUP`.
 pub const DEDUP_BIT: u32 = 0;
@@ -29,12 +28,5 @@ pub const OTHER_FEATURES: u32 = 0x3f47_fffb;
 /// Law: the features in code are those of the definitions.
 #[tactic(auto, unfolding(zst_model::specs::sends::Features::sa_spill, zst_model::specs::sends::Features::resuming, zst_model::specs::sends::Features::redacts))]
 pub fn features_are_defined()
-    ensures dedup { DEDUP_BIT ≡ dedup_bit }
-    ensures dedup_props { DEDUP_PROPS_BIT ≡ dedup_props_bit }
-    ensures embed_data { EMBED_DATA_BIT ≡ embed_data_bit }
-    ensures lz4 { LZ4_BIT ≡ lz4_bit }
-    ensures compressed { COMPRESSED_BIT ≡ compressed_bit }
-    ensures raw { RAW_BIT ≡ raw_bit }
-    ensures large_blocks { LARGE_BLOCKS ≡ large_blocks }
-    ensures others { OTHER_FEATURES ≡ other_features }
+    ensures { FeaturesAreDefined }
 {}

@@ -1,23 +1,12 @@
 //! Laws of the records as contracts: each function does nothing, and its clause is the law.
 ghost use Rattle.std.specs.Prelude.{◌≡◌, max};
 ghost use Rattle.zst_model.specs.states.State.{largest_block, largest_spill};
-ghost use Rattle.zst_record.specs.Formats.{record_len, summed_len, longest_payload, stream_magic, reversed_magic, substream, compound_stream};
-ghost use Rattle.zst_record.specs.Laws.{BeginIsDecoded, BeginIsStated, DecodedBegins, DecodedFits, PayloadHasLength, PayloadIsBounded, PayloadIsRead, PayloadIsWritten, RecordIsDecoded};
-
-use crate::{
-    COMPOUND_STREAM, LONGEST_PAYLOAD, MAGIC, RECORD_LEN, REVERSED_MAGIC, SUBSTREAM, SUMMED_LEN,
-    types,
-};
+ghost use Rattle.zst_record.specs.Formats.{longest_payload};
+ghost use Rattle.zst_record.specs.Laws.{BeginIsDecoded, BeginIsStated, DecodedBegins, DecodedFits, FormatsAreDefined, PayloadHasLength, PayloadIsBounded, PayloadIsRead, PayloadIsWritten, RecordIsDecoded};
 
 /// Law: the lengths and the words of BEGIN in code are those of the definitions.
 pub fn formats_are_defined()
-    ensures record { RECORD_LEN ≡ record_len }
-    ensures summed { SUMMED_LEN ≡ summed_len }
-    ensures payload { LONGEST_PAYLOAD ≡ longest_payload }
-    ensures magic { MAGIC ≡ stream_magic }
-    ensures reversed { REVERSED_MAGIC ≡ reversed_magic }
-    ensures one { SUBSTREAM ≡ substream }
-    ensures many { COMPOUND_STREAM ≡ compound_stream }
+    ensures { FormatsAreDefined }
 {}
 
 /// The record of a BEGIN says that BEGIN.

@@ -62,10 +62,6 @@ module _ (old one : DiskState) (kept same : PoolState) (space : FreeSectors) (di
 
 -- ---- what is left
 
--- what is kept of a pool whose rows alone changed
-pub dropped_is : (target : List ℕ) (before after : PoolState) → after.dir ≡ (kept_without true target before).dir → after.body ≡ before.body → after ≡ kept_without true target before
-dropped_is target before after rows body = ap (λ b. record before { body = b; dir = after.dir }) body ∙ ap (λ (d : Rows). record before { dir = d }) rows
-
 -- a receive that is over has no partial state under way
 pub over_leaves : (code : coded.Stage) (target : List ℕ) (kept : PoolState) → is_live code ≡ false → kept ≡ kept_without (has_partial code) target kept
 over_leaves stages.Waits target kept over = refl

@@ -1,5 +1,5 @@
 -- The headers of partial states, and a receive that comes to END, whatever it read.
-use Rattle.std.proofs.Common.{◌≡◌, inl, inr, ℕ, ◌==◌, ◌&&◌, not, Bool, List, [], ◌∷◌, ◌++◌, Option, Some, None, Result, Ok, refl, sym, ap, ◌∙◌, subst}
+use Rattle.std.proofs.Common.{◌≡◌, ℕ, List, [], ◌∷◌, ◌++◌, Option, Some, None, refl, sym, ap, ◌∙◌, subst}
 use Rattle.std.specs.List.{concat}
 use Rattle.std.specs.Prelude.{bytes_eq}
 use Rattle.std.proofs.lemmas.List.Elements.{All-contains}
@@ -7,18 +7,17 @@ use Rattle.zst_laws.specs.ReceivedRecords.{ReceivedIsApplied}
 use Rattle.zst_model.proofs.FoundElements.{found_passes, own_target}
 use Rattle.zst_model.proofs.OrderLaws.{same_bytes}
 use Rattle.zst_model.specs.declared.sends.header.Header.{Header}
-use Rattle.zst_model.specs.declared.sends.header.Point.{Point}
 use Rattle.zst_model.specs.declared.states.item.Item.{Item}
 use Rattle.zst_model.specs.pools.Pool.{HasSnapshot, IsPool, Partial, Pool, Snapshot, partial_of, snapshot_named}
 use Rattle.zst_model.specs.sends.Points.{point_of}
 use Rattle.zst_model.specs.states.AppliedItems.{apply_all}
-use Rattle.zst_plan.specs.RecvPlan.{RecvPlan, Begins, Resumes, snapshot_name}
+use Rattle.zst_plan.specs.RecvPlan.{RecvPlan, snapshot_name}
 use Rattle.zst_plan.specs.declared.receive.RecvAsk.{RecvAsk}
 use Rattle.zst_record.specs.declared.head.Head.{Head}
 use Rattle.zst_record.specs.declared.head.Head.TheVariants as heads
 use Rattle.zst_record.specs.Heads.{Covered}
 use Rattle.zst_recv.proofs.RecordOrder.{EndsBy, ends_last}
-use Rattle.zst_recv.specs.ReceiveSteps.{Stage, Lives, Fed, begun, opened}
+use Rattle.zst_recv.specs.ReceiveSteps.{Lives, Fed, begun, opened}
 use Rattle.zst_stream.specs.Items.{items_by}
 use Rattle.zst_stream.specs.Laws.{FrontsAgree}
 use Rattle.zst_stream.specs.Reading.{reading}
@@ -49,8 +48,7 @@ module _ (ask : RecvAsk) (pool : Pool) (records : List Covered) (flags : ℕ) (p
   begins_fresh none =
       let fresh = begins_anew ask header pool behind.is.plan none behind.is.planned in
       let opens = subst (λ (p : RecvPlan). (opened ask header p).stage ≡ Lives flags behind.is.begun) fresh.plan_is behind.is.begins in
-      let parts = lives_parts header.flags flags (begun ask header fresh.component fresh.base) behind.is.begun opens in
-      (
+      let parts = lives_parts header.flags flags (begun ask header fresh.component fresh.base) behind.is.begun opens in (
         fresh.component,
         record {
           named = ap (λ (p : Partial). p.component) behind.is.stays ∙ sym (ap (λ (p : Partial). p.component) parts.1);
@@ -148,8 +146,7 @@ pub ends_applied : FrontsAgree → ReceivedIsApplied → EndsAreApplied
 ends_applied fronts law ask pool after partial pieces lawful e =
     let way = subst (λ (f : Fed). Way law ask pool (reading (concat pieces)).covered f) e (receives_way law ask pool fronts pieces) in
     let behind = whole_behind law ask pool (concat pieces) partial way.1 in
-    let all = (reading (concat pieces)).covered in
-    (
+    let all = (reading (concat pieces)).covered in (
       way.1.flags,
       behind,
       headed ask pool all way.1.flags partial behind,

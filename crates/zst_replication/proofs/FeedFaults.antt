@@ -9,6 +9,7 @@ use Rattle.zst_model.proofs.Booleans.{right_fails}
 use Rattle.zst_model.proofs.OrderLaws.{bytes_same}
 use Rattle.zst_model.specs.declared.refusals.plan_fault.PlanFault.{PlanFault}
 use Rattle.zst_model.specs.declared.refusals.refusal.Refusal.{Refusal}
+use Rattle.zst_model.specs.declared.refusals.stream_fault.StreamFault.{StreamFault}
 use Rattle.zst_model.specs.declared.sends.header.Header.{Header}
 use Rattle.zst_model.specs.pools.Pool.{Pool, Partial, inserted, partial_of}
 use Rattle.zst_model.specs.refusals.Refusal.{refusal_of}
@@ -22,12 +23,12 @@ use Rattle.zst_record.specs.Heads.{Covered}
 use Rattle.zst_recv.proofs.RecordOrder.{EndsBy, ends_last}
 use Rattle.zst_recv.specs.Answers.{is_done}
 use Rattle.zst_recv.specs.Feeds.{fault_of, new_records}
-use Rattle.zst_recv.specs.ReceiveSteps.{Stage, Waits, Lives, Ends, Fed, Stops, Batch, EndedBatch, at_stage, batch_of, began, fed, first_fault, is_kept, keeps_front, left_by, of_plan, opened, put, settled, taken_at}
+use Rattle.zst_recv.specs.ReceiveSteps.{Stage, Waits, Lives, Ends, Fed, Batch, EndedBatch, at_stage, batch_of, began, fed, first_fault, is_kept, keeps_front, left_by, of_plan, opened, put, taken_at}
 use Rattle.zst_stream.specs.Laws.{FrontsAgree}
 use Rattle.zst_stream.specs.Reading.{Outcome, complete, faulty, reading}
 use Rattle.zst_replication.specs.FeedFaults.{EndsAtFault, FaultsKeepFront, IsOfRecords, IsPlanned, IsRefused, KeepsFront, OthersLeaveAll, UnkeptLeaveNothing, UnplannedLeaveAll}
 use Rattle.zst_replication.specs.KeptReceives.{keep_by}
-use Rattle.zst_replication.specs.Outcomes.{HasNothing, HasPartial}
+use Rattle.zst_replication.specs.Outcomes.{HasNothing}
 use Rattle.zst_replication.specs.Resumption.{AppliedBehind}
 use Rattle.zst_replication.proofs.AppliedRecords.{Applied, BehindEnd}
 use Rattle.zst_replication.proofs.FeedSequences.{Stands, Way, feed_worked, put_stands, receives_way}
@@ -231,6 +232,51 @@ module _ (law : ReceivedIsApplied) (agree : FrontsAgree) (ask : RecvAsk) (start 
 
     stays_then : keep_by ask start ≡ true → is_kept done.batch.stage ≡ true
     stays_then kept = ap is_kept living.stage_is ∙ asked.keep ∙ kept
+
+  -- where a fault is told, whatever is kept
+  pub record ToldAt : Type 0 where
+    pub front : List Covered
+    pub left : List Covered
+    pub split : front ++ left ≡ (reading text).covered
+    pub flags : ℕ
+    pub partial : Partial
+    pub behind : AppliedBehind ask start front flags partial
+    pub fault : EndsAtFault (pool.number + 1) flags partial left (reading text).outcome refusal
+
+  pub told_at : IsPlanned ask start (reading text).covered → first ≡ Some refusal → ToldAt
+  told_at planned told =
+      let under = living planned told in
+      record {
+        front = front.front;
+        left = front.left;
+        split = split;
+        flags = under.flags;
+        partial = under.partial;
+        behind = under.behind;
+        fault = ends_at law ask start pool done.batch under.flags under.partial done.fault front.left (reading text).outcome refusal under.stage_is front.why told;
+      }
+
+  -- where nothing is covered the reading finds it
+  pub told_uncovered : (reading text).covered ≡ [] → first ≡ Some refusal → (fault : StreamFault) × ((reading text).outcome ≡ faulty fault)
+  told_uncovered none told = go done.fault front.left front.why told split
+    where
+      nothing : (xs : List Covered) (c : Covered) (ys : List Covered) → xs ++ c ∷ ys ≡ [] → ⊥
+      nothing [] c ys e = cc
+      nothing (x ∷ xs) c ys e = cc
+
+      go : (o : Option Refusal) (left : List Covered) → WhyLeft law ask start pool done.batch o left → first_fault o (fault_of (reading text).outcome) ≡ Some refusal
+          → front.front ++ left ≡ (reading text).covered → (fault : StreamFault) × ((reading text).outcome ≡ faulty fault)
+      go None left why e parts = let found = stream_fault (reading text).outcome refusal e in (found.0, found.1)
+      go (Some fault) left why e parts =
+          absurd (nothing front.front why.0 why.1 (sym (ap (λ (cs : List Covered). front.front ++ cs) why.2) ∙ parts ∙ none))
+
+  -- why it is refused at all
+  pub refused_by : (put done.batch pool ≡ Err refusal) ⊎ (first ≡ Some refusal)
+  refused_by = go stopped
+    where
+      go : Stopped is.stage pool done.batch first after refusal → (put done.batch pool ≡ Err refusal) ⊎ (first ≡ Some refusal)
+      go (inl refused) = inl refused.0
+      go (inr told) = inr told.0
 
   pub faults_keep : keep_by ask start ≡ true → IsPlanned ask start (reading text).covered → IsOfRecords refusal → KeepsFront ask start pool after (reading text) refusal
   faults_keep kept planned of = go stopped

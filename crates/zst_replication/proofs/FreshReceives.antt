@@ -41,7 +41,7 @@ module _ (laws : Grounds) (sent : Sent) (can : IsSendable sent None) (ask : Recv
     base_made : target (sent_view sent) (base_objects base).state ≡ Ok sent.snapshot.objects.state
     base_made = made laws sent None can (base_objects base).state began.lawful (matches component base begins)
 
-    begins_with : BeginsWith sent None ask start (base_objects base).state (begun ask (header_of sent) component base)
+    pub begins_with : BeginsWith sent None ask start (base_objects base).state (begun ask (header_of sent) component base)
     begins_with = record {
       plan = Begins component base;
       only = λ other e. ok_parts other (Begins component base) (sym e ∙ begins);

@@ -3,7 +3,6 @@ use Rattle.std.proofs.Common.{◌≡◌, ℕ, Bool, true, false, List, [], ◌�
 use Rattle.std.specs.List.{concat}
 use Rattle.std.specs.Option.{option_map_or}
 use Rattle.std.specs.Prelude.{if◌then◌else◌}
-use Rattle.std.proofs.lemmas.Option.{same_Some}
 use Rattle.zst_laws.specs.ReceivedRecords.{ReceivedIsApplied}
 use Rattle.zst_model.specs.declared.refusals.apply_fault.ApplyFault.{ApplyFault}
 use Rattle.zst_model.specs.declared.refusals.plan_fault.PlanFault.{PlanFault}
@@ -45,12 +44,12 @@ kept_as_asked fronts law ask pool now flags partial pieces e =
 
 -- ---- more pieces
 
-concat_both : (xs ys : List (List ℕ)) → concat (xs ++ ys) ≡ concat xs ++ concat ys
+pub concat_both : (xs ys : List (List ℕ)) → concat (xs ++ ys) ≡ concat xs ++ concat ys
 concat_both [] ys = refl
 concat_both (x ∷ xs) ys = ap (λ (t : List ℕ). x ++ t) (concat_both xs ys) ∙ sym (append_assoc x (concat xs) (concat ys))
 
 -- items behind others
-applied_rest : (done more : List Item) (s t : State) → apply_all done s ≡ Ok t → apply_all (done ++ more) s ≡ apply_all more t
+pub applied_rest : (done more : List Item) (s t : State) → apply_all done s ≡ Ok t → apply_all (done ++ more) s ≡ apply_all more t
 applied_rest [] more s t e = ap (apply_all more) (ok_parts s t e)
 applied_rest (x ∷ xs) more s t e =
     let found = bind_ok (apply x s) (apply_all xs) t e in
@@ -101,8 +100,7 @@ pieces_go_further fronts law ask pool now later flags other partial next pieces 
     let front = fronts (concat pieces) (concat more) in
     let longer = ap (λ (t : List ℕ). (reading t).covered) (concat_both pieces more) ∙ front.covered in
     let records = (reading (concat pieces)).covered in
-    let all = (reading (concat (pieces ++ more))).covered in
-    (
+    let all = (reading (concat (pieces ++ more))).covered in (
       front.others,
       longer,
       sym (begun_is ask pool records front.others all flags other partial next longer one.1 two.1).0,

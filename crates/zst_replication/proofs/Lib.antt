@@ -15,11 +15,13 @@ mod ReplicaLemmas
 mod FreshReceives
 mod ResumedReceives
 mod Chains
+mod TakenSends
 mod RefusedFeeds
 mod EndedReceives
 mod Pieces
 mod FeedFaults
 mod KeptReceives
+mod TakenItems
 mod SendableStreams
 mod MatchingBases
 mod EarlierDates

@@ -11,7 +11,7 @@ use Rattle.zst_model.specs.declared.refusals.refusal.Refusal.TheVariants as refu
 use Rattle.zst_model.specs.declared.refusals.stream_fault.StreamFault.{StreamFault}
 use Rattle.zst_model.specs.pools.Limits.{most_partials}
 use Rattle.zst_model.specs.pools.Pool.{Pool, Partial}
-use Rattle.zst_model.specs.pools.Step.{count_datasets, last_number, limited, most_datasets, most_snapshots}
+use Rattle.zst_model.specs.pools.Step.{count_datasets, last_number, most_datasets, most_snapshots}
 use Rattle.zst_model.specs.sends.Points.{point_of}
 use Rattle.zst_model.specs.states.AppliedItems.{◌>>=◌, unless}
 use Rattle.zst_model.specs.states.DatedState.{DatedState}

@@ -79,13 +79,13 @@ module _ (laws : Grounds) (sent : Sent) (at : Option Point) (can : IsSendable se
 
   -- ---- its stream
 
-  abbrev text : List ℕ
+  abbrev pub text : List ℕ
   text = begun_text sent at
 
-  abbrev rest : List Item
+  abbrev pub rest : List Item
   rest = items (sent_view sent) (stated_point at)
 
-  streamed : Stream (begun sent at) rest (reading text).covered
+  pub streamed : Stream (begun sent at) rest (reading text).covered
   streamed =
       subst (λ (is : List Item). Stream (begun sent at) is (reading text).covered) (same_items sent at (stated_point at))
       (stream_of laws.streams laws.reads laws.images laws.covered (begun sent at) sent.snapshot.objects (choice_of sent) (stated_point at) can.stated)
@@ -104,7 +104,7 @@ module _ (laws : Grounds) (sent : Sent) (at : Option Point) (can : IsSendable se
       go (inr whole) = whole.1
 
   -- what pieces of it cover is a front of what it covers
-  covered_of : (pieces : List (List ℕ)) → AreOfStream pieces sent at → (left : List Covered) × ((reading (concat pieces)).covered ++ left ≡ (reading text).covered)
+  pub covered_of : (pieces : List (List ℕ)) → AreOfStream pieces sent at → (left : List Covered) × ((reading (concat pieces)).covered ++ left ≡ (reading text).covered)
   covered_of pieces of =
       let front = laws.fronts (concat pieces) of.0 in
       (front.others, sym front.covered ∙ ap (λ (t : List ℕ). (reading t).covered) of.2 ∙ behind_none of.1)
@@ -132,21 +132,30 @@ module _ (laws : Grounds) (sent : Sent) (at : Option Point) (can : IsSendable se
 
     module _ (state : State) (first : Partial) (begins : BeginsWith sent at ask start state first) where
       -- it is the first partial state, further on by what these records say
-      record ContinuesFirst (front : List Covered) (partial : Partial) : Type 0 where
-        objects : apply_all (items_of (begun sent at).flags front) first.objects.state ≡ Ok partial.objects.state
-        reached : partial.point ≡ point_of (stated_point at) (items_of (begun sent at).flags front)
-        stays : partial ≡ record first { objects = partial.objects; point = partial.point }
+      pub record ContinuesFirst (front : List Covered) (partial : Partial) : Type 0 where
+        pub objects : apply_all (items_of (begun sent at).flags front) first.objects.state ≡ Ok partial.objects.state
+        pub reached : partial.point ≡ point_of (stated_point at) (items_of (begun sent at).flags front)
+        pub stays : partial ≡ record first { objects = partial.objects; point = partial.point }
 
       lives_parts : (flags other : ℕ) (a b : Partial) → Lives flags a ≡ Lives other b → (flags ≡ other) × (a ≡ b)
       lives_parts flags other a b e = (cc, cc)
 
-      further : (front left : List Covered) (flags : ℕ) (partial : Partial) → AppliedBehind ask start front flags partial → front ++ left ≡ (reading text).covered → ContinuesFirst front partial
-      further front left flags partial behind split =
+      same_start : (front left : List Covered) (flags : ℕ) (partial : Partial) (behind : AppliedBehind ask start front flags partial) → front ++ left ≡ (reading text).covered
+          → (flags ≡ (begun sent at).flags) × (behind.is.begun ≡ first)
+      same_start front left flags partial behind split =
           let is = behind.is in
           let header = begun_by front left flags partial behind split in
           let plan : is.plan ≡ begins.plan = begins.only is.plan (subst (λ (h : Header). recv_plan ask h start ≡ Ok is.plan) header is.planned) in
           let opens = subst (λ (p : RecvPlan). (opened ask (begun sent at) p).stage ≡ Lives flags is.begun) plan (subst (λ (h : Header). (opened ask h is.plan).stage ≡ Lives flags is.begun) header is.begins) in
-          let parts = lives_parts flags (begun sent at).flags is.begun first (sym opens ∙ begins.opens) in
+          lives_parts flags (begun sent at).flags is.begun first (sym opens ∙ begins.opens)
+
+      pub flags_of : (front left : List Covered) (flags : ℕ) (partial : Partial) → AppliedBehind ask start front flags partial → front ++ left ≡ (reading text).covered → flags ≡ (begun sent at).flags
+      flags_of front left flags partial behind split = (same_start front left flags partial behind split).0
+
+      pub further : (front left : List Covered) (flags : ℕ) (partial : Partial) → AppliedBehind ask start front flags partial → front ++ left ≡ (reading text).covered → ContinuesFirst front partial
+      further front left flags partial behind split =
+          let is = behind.is in
+          let parts = same_start front left flags partial behind split in
           let said : items_of (begun sent at).flags front ≡ items_of flags front = sym (ap (λ (f : ℕ). items_of f front) parts.0) in
           record {
             objects =

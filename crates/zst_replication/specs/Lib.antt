@@ -8,3 +8,4 @@ pub mod Resumption
 pub mod Soundness
 pub mod KeptReceives
 pub mod FeedFaults
+pub mod TakenSends

@@ -5,6 +5,7 @@ ghost use Rattle.zst_replication.specs.MatchingBases.{BasesMatch, FullMatches, O
 ghost use Rattle.zst_replication.specs.Replicas.{CutLeavesNothing, LeftIsKept, SentIsReceived, StopsAreProgress};
 ghost use Rattle.zst_replication.specs.Resumption.{ChainsAreUnderway, ChainsComplete, EndsAreApplied, FitRestIsReceived, PiecesAreApplied, RestIsReceived, ResumedStopsAreProgress, TokensGoOn};
 ghost use Rattle.zst_replication.specs.Soundness.{ReceivesKeepSound};
+ghost use Rattle.zst_replication.specs.TakenSends.{SentIsTaken};
 
 /// What a feed applies is counted by the records that its text covers.
 pub fn records_are_counted()
@@ -37,6 +38,15 @@ pub fn sent_is_received()
     ensures { SentIsReceived }
 {
     grounds_stand();
+}
+
+/// However it is cut into pieces, what was sent is refused by nothing once its plan passes, but by a limit of the pool.
+pub fn sent_is_taken()
+    ensures { SentIsTaken }
+{
+    grounds_stand();
+    zst_stream::plain_is_allowed();
+    zst_stream::items_are_near();
 }
 
 /// Of a receive without `-s` that hasn't come to END the image keeps nothing, whatever was read.

@@ -6,9 +6,9 @@ mod laws;
 
 pub use feed_laws::{pieces_are_kept, refusals_leave_front, tokens_are_of_kept};
 pub use laws::{
-    bases_match, chains_complete, cut_leaves_nothing, ends_are_applied, events_are_history, full_matches,
-    left_is_kept, one_more_is_kept, pieces_are_applied, plain_can_be_sent, receives_keep_sound,
-    receives_remember, records_are_counted, rest_can_be_sent, rest_is_received,
-    resumed_stops_are_progress, sent_is_received, source_is_known, stops_are_progress,
-    tokens_go_on,
+    bases_match, chains_complete, cut_leaves_nothing, ends_are_applied, events_are_history,
+    full_matches, left_is_kept, one_more_is_kept, pieces_are_applied, plain_can_be_sent,
+    receives_keep_sound, receives_remember, records_are_counted, rest_can_be_sent,
+    rest_is_received, resumed_stops_are_progress, sent_is_received, sent_is_taken, source_is_known,
+    stops_are_progress, tokens_go_on,
 };

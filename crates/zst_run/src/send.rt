@@ -12,8 +12,7 @@ ghost use Rattle.zst_model.specs.pools.Pool.{Pool as Plain};
 ghost use Rattle.zst_model.specs.declared.refusals.plan_fault.PlanFault.{PlanFault};
 ghost use Rattle.zst_model.specs.declared.sends.header.Point.{Point};
 ghost use Rattle.zst_model.specs.sends.Headers.{Sent};
-ghost use Rattle.zst_plan.specs.Places.{AnswerAlike};
-ghost use Rattle.zst_plan.specs.Plans.{IsInside, IsPlanOf};
+ghost use Rattle.zst_plan.specs.Plans.{AnswersPlan};
 ghost use Rattle.zst_reader.specs.InputReads.{stream_limit};
 ghost use Rattle.zst_send.specs.Openings.{opening, rest_of};
 ghost use Rattle.zst_script.specs.Asks.{ask_of, source_of};
@@ -193,8 +192,7 @@ fn open_named<D: Disk>(
 
 // What a token asks for, by the rows. Large blocks aren't supported, so that nothing is looked up then.
 fn rest_plan(dir: &Dir, token: &Token) -> Result<SendPlan, PlanFault>
-    ensures inside { IfOk result (IsInside dir.now) }
-    ensures exact { (pool : Plain) → AreNamed dir.now pool → AnswerAlike (IsPlanOf dir.now pool) result (rest_of token.now pool) }
+    ensures plans { AnswersPlan dir.now (rest_of token.now) result }
     ensures to { IfOk result (λ plan. position (λ snapshot. snapshot.guid == token.now.to) dir.now.snapshots ≡ Some plan.snap) }
 {
     if token.large {

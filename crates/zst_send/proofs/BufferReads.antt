@@ -1,6 +1,6 @@
 -- What a call reads through the buffer, and what is copied of a pending record.
-use Rattle.std.proofs.Common.{◌≡◌, inl, inr, ℕ, ◌+◌, ◌<◌, ◌≤◌, ◌||◌, Bool, true, false, List, length, refl, sym, ap, subst, arith}
-use Rattle.std.specs.Prelude.{Some, Result, Ok, Err}
+use Rattle.std.proofs.Common.{◌≡◌, inl, inr, ℕ, ◌<◌, ◌≤◌, ◌||◌, Bool, true, false, List, length, refl, sym, ap, subst, arith}
+use Rattle.std.specs.Prelude.{Some, Ok, Err}
 use Rattle.zst_outside.specs.Images.{OnlyReads-none}
 use Rattle.zst_fletcher.specs.WeightSum.{parts_of}
 use Rattle.zst_block.specs.Blocks.{Has}

@@ -148,10 +148,10 @@ block_carried attr i (Some (Data bytes)) is fits =
     (omega (arith, place), is.head.type_fits, subst (λ n. is_block_size n ≡ true) (sym fits.1) is.head.size) (All-nil IsCarriedChange)
 
 -- what a view shows of an object is in its ranges
-record IsShownObject (object : ObjectView) : Type 0 where
-  attr : IsAttr object.attr
-  end : object.end ≤ index_bound
-  blocks : (i : ℕ) → IfSome (object.blocks i) (λ b. (i < index_bound) × BlockFits object.attr.block_size b)
+pub record IsShownObject (object : ObjectView) : Type 0 where
+  pub attr : IsAttr object.attr
+  pub end : object.end ≤ index_bound
+  pub blocks : (i : ℕ) → IfSome (object.blocks i) (λ b. (i < index_bound) × BlockFits object.attr.block_size b)
 
 changes_carried : (object : ObjectView) (offset : ℕ) → IsShownObject object → All IsCarriedChange (block_changes object offset)
 changes_carried object offset is = flat_map_all IsCarriedChange (change_at object offset) (rising 0 object.end) (λ i. go i (nat_le offset (i * object.attr.block_size)))
@@ -174,7 +174,7 @@ opening_carried object is =
     (All-cons IsCarriedChange _ [] (omega (arith, place)) (All-nil IsCarriedChange)))
 
 -- what a view shows of a number is in its ranges
-abbrev IsShownNumber : ℕ → Shown → Type 0
+abbrev pub IsShownNumber : ℕ → Shown → Type 0
 IsShownNumber k Left = Unit {0}
 IsShownNumber k Gone = is_number k ≡ true
 IsShownNumber k (There object) = (is_number k ≡ true) × IsShownObject object
@@ -215,7 +215,7 @@ object_in_ranges snap choice k object there is = record {
     go i true e = (below i e, redacted i (choice.redact k i))
     go i false e = tt
 
-shown_in_ranges : (header : Header) (snap : DatedState) (choice : Choice) → IsState snap.state → (k : ℕ) → IsShownNumber k ((view_of header snap choice).shown k)
+pub shown_in_ranges : (header : Header) (snap : DatedState) (choice : Choice) → IsState snap.state → (k : ℕ) → IsShownNumber k ((view_of header snap choice).shown k)
 unfolding includes_number
 shown_in_ranges header snap choice s k = go (includes_number snap choice k) refl (snap.state k) refl
   where

@@ -5,4 +5,5 @@ pub mod Growth
 pub mod ImageReadings
 pub mod ItemStreams
 mod PlainStreams
+mod NearItems
 pub mod PassedRecords

@@ -7,3 +7,4 @@ pub mod Items
 pub mod FoundItems
 pub mod Example
 pub mod PassedRecords
+pub mod NearItems

@@ -4,6 +4,7 @@
 ghost use Rattle.zst_stream.specs.Example.{ExampleCanBeSent, ExampleIsStream};
 ghost use Rattle.zst_stream.specs.Records.{ItemsFit};
 ghost use Rattle.zst_stream.specs.Items.{ItemsAreRead, PayloadsFit, PlainIsAllowed, ViewIsStream, ViewIsRead, FirstItems};
+ghost use Rattle.zst_stream.specs.NearItems.{ItemsAreNear};
 ghost use Rattle.zst_stream.specs.Laws.{FrontsAgree, FaultsAreFound, ImageIsRead, FrontIsRead, CoversArePieces, FirstPieces, PieceGoesOn};
 ghost use Rattle.zst_stream.specs.PassedRecords.{CoveredFit, CoveredInOrder};
 
@@ -101,4 +102,9 @@ pub fn payloads_fit()
 /// What no redaction touches needs no feature.
 pub fn plain_is_allowed()
     ensures { PlainIsAllowed }
+{}
+
+/// No WRITE of the view of a lawful snapshot ends past index 2^43.
+pub fn items_are_near()
+    ensures { ItemsAreNear }
 {}

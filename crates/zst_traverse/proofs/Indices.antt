@@ -196,9 +196,9 @@ pub record IsCounted (what : Cell) (alike_are left_are count : ℕ) : Type 0 whe
 
 pub counted : (what : Cell) (alike left count : ℕ) → count ≡ count_of what alike left → 0 < alike → 0 < left → IsCounted what alike left count
 unfolding count_of
-counted cells.Hole alike left count is some more = record { some = omega (arith, is, some, more); alike = omega (arith, is); left = omega (arith, is); one = λ data. absurd (cc) }
-counted cells.Redacted alike left count is some more = record { some = omega (arith, is, some, more); alike = omega (arith, is); left = omega (arith, is); one = λ data. absurd (cc) }
-counted cells.Data alike left count is some more = record { some = omega (arith, is); alike = omega (arith, is, some); left = omega (arith, is, more); one = λ data. is }
+counted cells.Hole alike left count is some more = record { some = omega (arith, is, some, more); alike = omega (arith, is); left = omega (arith, is); one = λ is_data. absurd (cc) }
+counted cells.Redacted alike left count is some more = record { some = omega (arith, is, some, more); alike = omega (arith, is); left = omega (arith, is); one = λ is_data. absurd (cc) }
+counted cells.Data alike left count is some more = record { some = omega (arith, is); alike = omega (arith, is, some); left = omega (arith, is, more); one = λ is_data. is }
 
 -- what a look-up in an object's tree shows is a run
 pub is_run : (has : Blocks) (withheld : ℕ → Bool) (dnode : Dnode) (object : Object) (date : ℕ) (dates : ℕ → ℕ) (map : Map) → ObjectIn has (outside_indices withheld has) dnode object date dates map → (index : ℕ) → index < dnode.end → dnode.end ≤ index_bound → (run : Run) (alike : ℕ)

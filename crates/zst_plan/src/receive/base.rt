@@ -4,7 +4,7 @@ ghost use Rattle.zst_dir.specs.RowNames.{AreNamed, NamesDataset, NamesSnapshot};
 ghost use Rattle.zst_model.specs.declared.refusals.plan_fault.PlanFault.{PlanFault as Fault};
 ghost use Rattle.zst_model.specs.pools.Pool.{Pool, Dataset as PlainDataset, Snapshot as PlainSnapshot};
 ghost use Rattle.zst_names.specs.Names.{dataset_of};
-ghost use Rattle.zst_plan.specs.Places.{AnswerAlike, FindAlike, Judges, StandsAt};
+ghost use Rattle.zst_plan.specs.Places.{AnswerAlike, AnswersSnapshot, FindAlike, Judges, StandsAt};
 ghost use Rattle.zst_plan.specs.Receipts.{IsBaseInside, IsBaseOf, TellsHead, TellsNeeded, latest_date};
 ghost use Rattle.zst_plan.specs.RecvPlan.{base_by_head, base_for, base_onto, if_increment, if_kind, if_source, is_full, latest_of};
 ghost use Rattle.zst_plan.specs.RecvPlan as plain;
@@ -81,8 +81,7 @@ fn latest_of(dir: &Dir, name: &DatasetName) -> Option<usize>
 
 // The latest snapshot of a dataset: E10 where it has none.
 fn find_latest(dir: &Dir, name: &DatasetName, header: &Header) -> Result<usize, PlanFault>
-    ensures inside { IfOk result (λ place. place < length dir.now.snapshots) }
-    ensures found { (pool : Pool) → AreNamed dir.now pool → AnswerAlike (StandsAt dir.now.snapshots pool.snapshots) result (plain.find_latest name.now header.now pool) }
+    ensures { AnswersSnapshot dir.now (plain.find_latest name.now header.now) result }
 {
     latest_of(dir, name).ok_or(PlanFault::NotLatest {
         have: 0,

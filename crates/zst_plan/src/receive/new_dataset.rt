@@ -4,7 +4,7 @@ ghost use Rattle.zst_dir.specs.RowNames.{AreNamed, NamesSnapshot};
 ghost use Rattle.zst_model.specs.declared.refusals.plan_fault.PlanFault.{PlanFault as Fault};
 ghost use Rattle.zst_model.specs.pools.Pool.{Pool, Snapshot as PlainSnapshot};
 ghost use Rattle.zst_plan.specs.Places.{AnswerAlike, Judges, StandsAt};
-ghost use Rattle.zst_plan.specs.Receipts.{IsBaseInside, IsBaseOf};
+ghost use Rattle.zst_plan.specs.Receipts.{AnswersBase, IsBaseInside, IsBaseOf};
 ghost use Rattle.zst_plan.specs.RecvPlan.{base_anew, base_by_guid, base_by_origin, cloned_base, if_frees, if_from_origin};
 ghost use Rattle.zst_plan.specs.RecvPlan as plain;
 
@@ -33,8 +33,7 @@ fn cloned_base(dir: &Dir, header: &Header, place: usize) -> Result<Base, PlanFau
 
 // A full stream has no base, and an increment the first snapshot with its source's guid: E11.
 fn base_by_guid(dir: &Dir, header: &Header) -> Result<Base, PlanFault>
-    ensures inside { IfOk result (IsBaseInside dir.now) }
-    ensures exact { (pool : Pool) → AreNamed dir.now pool → AnswerAlike (IsBaseOf dir.now pool) result (base_by_guid header.now pool) }
+    ensures { AnswersBase dir.now (base_by_guid header.now) result }
 {
     if is_full(header) {
         return Ok(Base {
@@ -71,8 +70,7 @@ fn check_frees(header: &Header) -> Result<(), PlanFault>
 
 // The asked origin: E3, E10, E19.
 fn base_by_origin(dir: &Dir, header: &Header, name: &SnapName) -> Result<Base, PlanFault>
-    ensures inside { IfOk result (IsBaseInside dir.now) }
-    ensures exact { (pool : Pool) → AreNamed dir.now pool → AnswerAlike (IsBaseOf dir.now pool) result (base_by_origin header.now pool name.now) }
+    ensures { AnswersBase dir.now (λ pool. base_by_origin header.now pool name.now) result }
 {
     let place = find_snapshot(dir, name)?;
     check_from_origin(&dir.snapshots()[place], header)?;
@@ -82,8 +80,7 @@ fn base_by_origin(dir: &Dir, header: &Header, name: &SnapName) -> Result<Base, P
 
 /// What a receive of a dataset that isn't there yet starts from.
 pub fn base_anew(dir: &Dir, ask: &RecvAsk, header: &Header) -> Result<Base, PlanFault>
-    ensures inside { IfOk result (IsBaseInside dir.now) }
-    ensures exact { (pool : Pool) → AreNamed dir.now pool → AnswerAlike (IsBaseOf dir.now pool) result (base_anew ask.now header.now pool) }
+    ensures { AnswersBase dir.now (base_anew ask.now header.now) result }
 {
     match &ask.origin {
         Some(name) => base_by_origin(dir, header, name),

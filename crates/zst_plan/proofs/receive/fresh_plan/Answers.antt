@@ -1,4 +1,4 @@
-use Rattle.std.proofs.Common.{◌≡◌, ◌==◌, ◌∙◌, ℕ, List, Result, Ok, Err, inl, inr, sym, ap}
+use Rattle.std.proofs.Common.{rules, ◌≡◌, ◌==◌, ◌∙◌, ℕ, List, Result, Ok, Err, inl, inr, sym, ap}
 use Rattle.std.specs.Prelude.{bit_and}
 use Rattle.std.proofs.lemmas.Bool.{cases_Bool, eqb-true}
 use Rattle.zst_model.specs.declared.refusals.faults.Lack.TheVariants as lacks
@@ -99,5 +99,9 @@ passes_plain target header is = elim (cases_Bool (bit_and header.features resumi
       absurd (cc refused)
 ]
 
-pub returns-clause-plain : goal.returns-clause-plain
-returns-clause-plain c = passes_plain c.args.ask.now.target c.args.header.now (c.in_ok-check_plain.ensures other)
+pub returns-clause-for_target : goal.returns-clause-for_target
+returns-clause-for_target c = λ of_target. record {
+  inside = c.in_ok-base.ensures.inside;
+  new = search rules;
+  plain = passes_plain c.args.ask.now.target c.args.header.now (c.in_ok-check_plain.ensures other);
+}

@@ -15,14 +15,17 @@ looks_up : (b : Bool) (found : Option Bookmark) (fault : PlanFault) → b ≡ tr
 looks_up true found fault is = refl
 looks_up false found fault is = absurd (cc)
 
-pub returns-clause-found : goal.returns-clause-found
-returns-clause-found c = λ pool are.
-    let rows = c.args.dir.now in
-    let token = c.args.token.now in
-    let found = find (is_marked token) pool.bookmarks in
-    let alike = both_find NamesBookmark (λ bookmark. bookmark.guid == token.to && bytes_eq bookmark.redact token.redact) (is_marked token)
-    (λ x y names. rw (names.guid, names.redact) refl) rows.bookmarks pool.bookmarks are.bookmarks c.first_marked.result c.first_marked.ensures in
-    subst (λ (r : Result (Option Bookmark) PlanFault). AnswerAlike (FindAlike (StandsAt rows.bookmarks pool.bookmarks)) c.ok_or.result r)
-    (sym (looks_up (has_guids token.redact) found (no_guid token.to) (sym c.has_guids.ensures ∙ c.if-not-has_guids.false)))
-    (answers_by (FindAlike (StandsAt rows.bookmarks pool.bookmarks)) c.map.result (option_map Some found) c.no_guid.result (no_guid token.to) c.ok_or.result c.ok_or.ensures.value c.no_guid.ensures
-    (wrapped (StandsAt rows.bookmarks pool.bookmarks) c.first_marked.result c.map.result found (λ x w made. search rules) c.map.ensures.cases alike))
+pub returns : goal.returns
+returns c = record {
+  inside = search rules;
+  found = λ pool are.
+      let rows = c.args.dir.now in
+      let token = c.args.token.now in
+      let found = find (is_marked token) pool.bookmarks in
+      let alike = both_find NamesBookmark (λ bookmark. bookmark.guid == token.to && bytes_eq bookmark.redact token.redact) (is_marked token)
+      (λ x y names. rw (names.guid, names.redact) refl) rows.bookmarks pool.bookmarks are.bookmarks c.first_marked.result c.first_marked.ensures in
+      subst (λ (r : Result (Option Bookmark) PlanFault). AnswerAlike (FindAlike (StandsAt rows.bookmarks pool.bookmarks)) c.ok_or.result r)
+      (sym (looks_up (has_guids token.redact) found (no_guid token.to) (sym c.has_guids.ensures ∙ c.if-not-has_guids.false)))
+      (answers_by (FindAlike (StandsAt rows.bookmarks pool.bookmarks)) c.map.result (option_map Some found) c.no_guid.result (no_guid token.to) c.ok_or.result c.ok_or.ensures.value c.no_guid.ensures
+      (wrapped (StandsAt rows.bookmarks pool.bookmarks) c.first_marked.result c.map.result found (λ x w made. search rules) c.map.ensures.cases alike));
+}

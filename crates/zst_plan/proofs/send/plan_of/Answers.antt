@@ -23,9 +23,9 @@ pub returns-in-Some-clause-plan : goal.returns-in-Some-clause-plan
 returns-in-Some-clause-plan c = λ rows pool sent at names from list kind.
     let found = some_alike (IsSource rows pool) c.in-Some.source sent.source (subst (λ (o : Option Source). FindAlike (IsSource rows pool) o sent.source) c.in-Some.is from) in
     record {
-      snapshot = subst (λ place. StandsAt rows.snapshots pool.snapshots place sent.snapshot) (sym c.with_source.ensures.snapshot) at;
+      snapshot = subst (λ place. StandsAt rows.snapshots pool.snapshots place sent.snapshot) (sym c.with_source.ensures.same.snapshot) at;
       source = subst (IsFrom rows pool c.with_source.result) (sym found.1) (c.with_source.ensures.from rows pool found.0 found.2);
-      redaction = subst (λ place. FindAlike (StandsAt rows.bookmarks pool.bookmarks) place sent.redaction) (sym c.with_source.ensures.redaction) list;
-      flags = c.with_source.ensures.flags ∙ c.flags_of.ensures sent.snapshot sent.source names (names_alike rows pool c.args.source.now sent.source from) ∙ flags_are sent;
+      redaction = subst (λ place. FindAlike (StandsAt rows.bookmarks pool.bookmarks) place sent.redaction) (sym c.with_source.ensures.same.redaction) list;
+      flags = c.with_source.ensures.same.flags ∙ c.flags_of.ensures sent.snapshot sent.source names (names_alike rows pool c.args.source.now sent.source from) ∙ flags_are sent;
       kind = kind;
     }

@@ -8,8 +8,10 @@ use Rattle.zst_block.specs.IoCalls.{Looks}
 use Rattle.zst_block.proofs.IoCallLemmas.{Looks-then}
 use Rattle.zst_dnode.specs.declared.dnode.Dnode.{Dnode}
 use Rattle.zst_objset.specs.Changes.{block_told, found_at}
+use Rattle.zst_objset.specs.Damage.{IsDamagedBlock}
 use Rattle.zst_objset.specs.Sets.{SetHolds}
 use Rattle.zst_objset.proofs.LeafLaws.{look_on}
+use Rattle.zst_tree.specs.Damage.{IsSeen}
 use Rattle.zst_pool.specs.Damage.{IsOf, look_damage, read_damage}
 use Rattle.zst_pool.specs.Queries.{TellsAnswer, stop_of}
 use Rattle.zst_pool.proofs.CheckLemmas.{err_has}
@@ -41,6 +43,15 @@ returns-in_err-cell-clause-told g c = λ pool state honest holds.
     rw (p.1, p.2) (block_refused pool (found_at c.args.object c.args.index state) c.in_err-cell.field-0.0
     (c.in_err-cell.ensures.read state honest (look_on (λ (seen : List ℕ) (space : FreeSectors). SetHolds (Has seen space) c.args.set.now state) c.in_ok-dnode.ensures.looks.looks holds)
     (long_enough _ state c.args.object c.in-Some.dnode c.in_ok-dnode.field-0 c.in-Some.is (c.in_ok-dnode.ensures.found state (c.in_err-cell.ensures.looks.looks.reads.honest honest) holds) (length c.as_mut_slice.result.now) (search rules))))
+
+pub returns-in_err-cell-clause-damaged : goal.returns-in_err-cell-clause-damaged
+returns-in_err-cell-clause-damaged g c = λ honest.
+    let p = err_from_is_err_and c.from_residual-in_err-cell.result c.from_residual-in_err-cell.ensures.1 in
+    let disk = g.D.Disk.state c.args.io.now.disk.now in
+    let reads = c.in_ok-dnode.ensures.looks.looks.reads in
+    let count = length c.as_mut_slice.result.now in
+    rw (p.1, p.2) (set_told (IsDamagedBlock (IsSeen disk.seen) disk.size count c.args.set.now) (read_damage disk c.args.set.now) (λ sector stated found damaged. (count, damaged)) Cell c.in_err-cell.field-0.0
+    (rw (reads.seen, reads.size) at (c.in_err-cell.ensures.damaged honest)))
 
 pub returns-in_err-cell-clause-looks : goal.returns-in_err-cell-clause-looks
 returns-in_err-cell-clause-looks g c =

@@ -33,7 +33,7 @@ returns-in-Resumes-clause-fits c =
     let row = c.index-partials-place.result in
     subst (StageFits rows ask.target) (sym c.opened.ensures.stage)
     (subst (CanPutFor rows ask.target) (sym c.duplicate.ensures)
-    (resumes_fits rows ask.target place row c.datasets-lawful.ensures.lawful (subst (IsNewPlan rows ask.target) c.in-Resumes.is c.in_ok-place.ensures.new)
+    (resumes_fits rows ask.target place row c.datasets-lawful.ensures.lawful (subst (IsNewPlan rows ask.target) c.in-Resumes.is c.in_ok-place.ensures.for_target.new)
     (c.index-partials-place.is ∙ ap (λ (xs : List Partial). get_or xs place row) c.partials.ensures)))
 
 pub returns-in-Resumes-clause-exact : goal.returns-in-Resumes-clause-exact
@@ -104,4 +104,4 @@ returns-in_err-place-clause-begins c =
     rw p.1 tt
 
 pub begun-requires-clause-header : goal.begun-requires-clause-header
-begun-requires-clause-header c = c.requires.header.kept (subst (IsPlainPlan c.args.header.now) c.in-Begins.is c.in_ok-place.ensures.plain)
+begun-requires-clause-header c = c.requires.header.kept (subst (IsPlainPlan c.args.header.now) c.in-Begins.is c.in_ok-place.ensures.for_target.plain)

@@ -12,7 +12,7 @@ returns-in_err-plan-clause-opens g c = λ image space running runs.
     let rows = c.args.pool.now.kept.dir in
     let named = rows_named (Has image space) rows running runs in
     let fault = c.in_err-plan.field-0.0 in
-    let is = refusal_is (IsPlanOf rows running) fault (rest_of c.args.token.now running) (c.in_err-plan.ensures.exact running named) in
+    let is = refusal_is (IsPlanOf rows running) fault (rest_of c.args.token.now running) (c.in_err-plan.ensures.plans.found running named) in
     let p = err_from_is_err_and c.from_residual.result c.from_residual.ensures.1 in
     rw (then_refused fault (rest_of c.args.token.now running) is, p.1, p.2) (inl refl)
 
@@ -20,7 +20,7 @@ pub returns-in-Ok-clause-opens : goal.returns-in-Ok-clause-opens
 returns-in-Ok-clause-opens g c = λ image space running runs.
     let rows = c.args.pool.now.kept.dir in
     let named = rows_named (Has image space) rows running runs in
-    let s = plan_is (IsPlanOf rows running) c.in_ok-plan.plan (rest_of c.args.token.now running) (c.in_ok-plan.ensures.exact running named) in
+    let s = plan_is (IsPlanOf rows running) c.in_ok-plan.plan (rest_of c.args.token.now running) (c.in_ok-plan.ensures.plans.found running named) in
     let o = c.in-Ok.ensures.resumes image space running s.0 c.requires runs s.2 in
     rw (then_built s.0 (rest_of c.args.token.now running) s.1 ∙ o.0) (o.1)
 
@@ -28,7 +28,7 @@ pub returns-in-Err-Plan-clause-opens : goal.returns-in-Err-Plan-clause-opens
 returns-in-Err-Plan-clause-opens g c = λ image space running runs.
     let rows = c.args.pool.now.kept.dir in
     let named = rows_named (Has image space) rows running runs in
-    let s = plan_is (IsPlanOf rows running) c.in_ok-plan.plan (rest_of c.args.token.now running) (c.in_ok-plan.ensures.exact running named) in
+    let s = plan_is (IsPlanOf rows running) c.in_ok-plan.plan (rest_of c.args.token.now running) (c.in_ok-plan.ensures.plans.found running named) in
     let e = rw c.in-Err-Plan.field-0-is at c.in-Err-Plan.ensures.resumes in
     let o = e image space running s.0 c.requires runs s.2 in
     rw (then_built s.0 (rest_of c.args.token.now running) s.1 ∙ o, c.from.ensures) (inl refl)

@@ -31,4 +31,4 @@ returns-in-None-clause-exact c = λ pool are tells.
     let none = none_alike (StandsAt rows.datasets pool.datasets) (dataset_named ask.target pool) (datasets_find rows pool are ask.target None (sym c.in-None.is ∙ c.dataset.ensures)) in
     hands_on (IsBaseOf rows pool) c.base_anew.result (base_for ask header pool) (base_anew ask header pool)
     (ap (λ o. option_map_or (base_onto ask header pool) o (base_anew ask header pool)) none)
-    (c.base_anew.ensures.exact pool are)
+    (c.base_anew.ensures.found pool are)

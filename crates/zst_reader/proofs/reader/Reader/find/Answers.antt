@@ -21,7 +21,7 @@ returns-in-Wait-clause-finds c = λ text handed stands.
     let t = f.stands in
     let before = t.inner.before in
     let live = s.mark ∙ e.mark ∙ c.in-Open.is in
-    let is : ruling before (items mid.window) ≡ wait = sym (c.in-Wait.ensures.rules before f.place) in
+    let is : ruling before (items mid.window) ≡ wait = sym (c.in-Wait.ensures.judged.rules before f.place) in
     waits mid text handed t live (ap (ruling before) f.kept ∙ is)
 
 pub returns-in-Refuse-clause-finds : goal.returns-in-Refuse-clause-finds
@@ -35,7 +35,7 @@ returns-in-Refuse-clause-finds c = λ text handed stands.
     let t = f.stands in
     let before = t.inner.before in
     let live = s.mark ∙ e.mark ∙ c.in-Open.is in
-    let is : ruling before (items mid.window) ≡ refuse c.in-Refuse.fault = sym (c.in-Refuse.ensures.rules before f.place) in
+    let is : ruling before (items mid.window) ≡ refuse c.in-Refuse.fault = sym (c.in-Refuse.ensures.judged.rules before f.place) in
     refused mid _ text handed c.in-Refuse.fault t live (ap (ruling before) f.kept ∙ is) refl refl refl refl
 
 pub returns-in-More-clause-finds : goal.returns-in-More-clause-finds
@@ -51,8 +51,8 @@ returns-in-More-clause-finds c = λ text handed stands.
     let live = s.mark ∙ e.mark ∙ c.in-Open.is in
     let new = c.advance-in-More.new.self in
     let a = c.advance-in-More.ensures in
-    let covers = c.in-More.ensures.fits in
-    let is : ruling before (items mid.window) ≡ more mid.head = sym (c.in-More.ensures.rules before f.place) in
+    let covers = c.in-More.ensures.judged.fits in
+    let is : ruling before (items mid.window) ≡ more mid.head = sym (c.in-More.ensures.judged.rules before f.place) in
     rw (s.place, s.handed) at (finds_more mid new text handed mid.head t live is a.head
     (record {
       settled = f.kept;
@@ -60,8 +60,8 @@ returns-in-More-clause-finds c = λ text handed stands.
       taken = a.taken;
       window = a.window;
       counts = record { pushed = a.counts.pushed; handed = a.counts.handed; mark = a.counts.mark };
-      at = ap (λ p. p.at) a.place ∙ covers.at;
-      place = rw a.place (c.in-More.ensures.leads before f.place);
+      at = ap (λ p. p.at) a.next ∙ covers.at;
+      place = rw a.next (c.in-More.ensures.judged.leads before f.place);
     }))
 
 pub returns-in-Last-clause-finds : goal.returns-in-Last-clause-finds
@@ -77,15 +77,15 @@ returns-in-Last-clause-finds c = λ text handed stands.
     let live = s.mark ∙ e.mark ∙ c.in-Open.is in
     let new = c.advance.new.self in
     let a = c.advance.ensures in
-    let covers = c.in-Last.ensures.fits.0 in
-    let is : ruling before (items mid.window) ≡ last mid.head = sym (c.in-Last.ensures.rules before f.place) in
-    rw (s.place, s.handed) at (finds_last mid new text handed mid.head t live is a.head c.in-Last.ensures.fits.1
+    let covers = c.in-Last.ensures.judged.fits.0 in
+    let is : ruling before (items mid.window) ≡ last mid.head = sym (c.in-Last.ensures.judged.rules before f.place) in
+    rw (s.place, s.handed) at (finds_last mid new text handed mid.head t live is a.head c.in-Last.ensures.judged.fits.1
     (record {
       settled = f.kept;
       within = covers.within;
       taken = a.taken;
       window = a.window;
       counts = record { pushed = a.counts.pushed; handed = a.counts.handed; mark = a.counts.mark };
-      at = ap (λ p. p.at) a.place ∙ covers.at;
-      place = rw a.place (c.in-Last.ensures.leads before f.place);
+      at = ap (λ p. p.at) a.next ∙ covers.at;
+      place = rw a.next (c.in-Last.ensures.judged.leads before f.place);
     }))

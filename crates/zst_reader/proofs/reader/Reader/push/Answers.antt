@@ -20,9 +20,15 @@ invariant_of-self c =
       read = λ known. still-known mid.place mid.head (items mid.window) (items c.append.new.self) _ mid.taken c.settle.ensures.taken c.append.ensures (mid.read known);
     }
 
-pub returns-clause-stands : goal.returns-clause-stands
-returns-clause-stands c = λ text handed stands.
-    let e = c.settle.ensures in
-    pushed c.args.self.now _ (take c.min-count.result c.args.piece.now) text handed
-    (record { place = e.place; handed = e.handed; mark = e.mark })
-    (simp (e.taken, c.append.ensures, e.items) refl) stands
+pub returns : goal.returns
+returns c = record {
+  count = search rules;
+  pushed = search rules;
+  handed = search rules;
+  mark = search rules;
+  stands = λ text handed stands.
+      let e = c.settle.ensures in
+      pushed c.args.self.now _ (take c.min-count.result c.args.piece.now) text handed
+      (record { place = e.place; handed = e.handed; mark = e.mark })
+      (simp (e.taken, c.append.ensures, e.items) refl) stands;
+}

@@ -125,7 +125,7 @@ began_at g c = c.new-batch.ensures.stage ∙ c.replace.ensures.value
 -- and its set comes from the one that the receive had
 read_comes : (g : Over) (c : After-read g) → (g.D.Disk.state c.read.new.io.disk.now).honest
     → ComesFrom c.args.pool.now.kept.dir c.args.self.now.ask.target (SparesTaken (free_by c.args.pool.now.kept.body) (g.D.Disk.state c.args.pool.now.io.disk.now).seen) (g.D.Disk.state c.args.pool.now.io.disk.now).size c.args.self.now.stage
-        (SparesTaken c.read.new.io.space (g.D.Disk.state c.read.new.io.disk.now).seen) c.read.new.batch.stage
+    (SparesTaken c.read.new.io.space (g.D.Disk.state c.read.new.io.disk.now).seen) c.read.new.batch.stage
 read_comes g c honest =
     let two = g.D.Disk.state c.read.new.io.disk.now in
     comes_renewed (g.D.Disk.state c.args.pool.now.io.disk.now) (g.D.Disk.state c.renew.new.self.io.disk.now) c.renew.new.self.io.space c.args.pool.now.kept c.renew.new.self.kept c.args.self.now.ask.target c.new-batch.result.stage c.args.self.now.stage

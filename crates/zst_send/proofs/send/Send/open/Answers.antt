@@ -20,7 +20,7 @@ returns-in_err-plan-clause-opens g c = λ image space running live runs.
     let ask = c.args.ask.now in
     let fault = c.in_err-plan.field-0.0 in
     refuses has ask running c.from_residual.result fault (err_is c.from_residual.result (Plan fault) c.from_residual.ensures.1)
-    (unplanned ask running fault (err_alike (IsPlanOf rows running) fault (send_plan ask running) (c.in_err-plan.ensures.exact running (rows_named has rows running runs))))
+    (unplanned ask running fault (err_alike (IsPlanOf rows running) fault (send_plan ask running) (c.in_err-plan.ensures.plans.found running (rows_named has rows running runs))))
 
 pub returns-in_err-check_built-clause-opens : goal.returns-in_err-check_built-clause-opens
 returns-in_err-check_built-clause-opens g c = λ image space running live runs.
@@ -28,7 +28,7 @@ returns-in_err-check_built-clause-opens g c = λ image space running live runs.
     let rows = c.args.pool.now.kept.dir in
     let ask = c.args.ask.now in
     let named = rows_named has rows running runs in
-    let s = ok_alike (IsPlanOf rows running) c.in_ok-plan.plan (send_plan ask running) (c.in_ok-plan.ensures.exact running named) in
+    let s = ok_alike (IsPlanOf rows running) c.in_ok-plan.plan (send_plan ask running) (c.in_ok-plan.ensures.plans.found running named) in
     let fault = c.in_err-check_built.field-0.0 in
     refuses has ask running c.from_residual-in_err-check_built.result fault (err_is c.from_residual-in_err-check_built.result (Plan fault) c.from_residual-in_err-check_built.ensures.1)
     (planned_is ask running s.0 s.1 ∙ c.in_err-check_built.ensures.judges running s.0 named s.2)
@@ -39,7 +39,7 @@ returns-clause-opens g c = λ image space running live runs.
     let rows = c.args.pool.now.kept.dir in
     let ask = c.args.ask.now in
     let named = rows_named has rows running runs in
-    let s = ok_alike (IsPlanOf rows running) c.in_ok-plan.plan (send_plan ask running) (c.in_ok-plan.ensures.exact running named) in
+    let s = ok_alike (IsPlanOf rows running) c.in_ok-plan.plan (send_plan ask running) (c.in_ok-plan.ensures.plans.found running named) in
     let judged = c.in_ok-check_built.ensures.judges running s.0 named s.2 in
     (s.0, planned_is ask running s.0 s.1 ∙ judged, c.planned.ensures.sends image space running s.0 runs s.2 (passed s.0 judged))
 
@@ -49,13 +49,13 @@ returns-in_err-plan-clause-planned g c = λ running live named.
     let ask = c.args.ask.now in
     let fault = c.in_err-plan.field-0.0 in
     plan_refuses (opening ask running) c.from_residual.result fault (err_is c.from_residual.result (Plan fault) c.from_residual.ensures.1)
-    (unplanned ask running fault (err_alike (IsPlanOf rows running) fault (send_plan ask running) (c.in_err-plan.ensures.exact running named)))
+    (unplanned ask running fault (err_alike (IsPlanOf rows running) fault (send_plan ask running) (c.in_err-plan.ensures.plans.found running named)))
 
 pub returns-in_err-check_built-clause-planned : goal.returns-in_err-check_built-clause-planned
 returns-in_err-check_built-clause-planned g c = λ running live named.
     let rows = c.args.pool.now.kept.dir in
     let ask = c.args.ask.now in
-    let s = ok_alike (IsPlanOf rows running) c.in_ok-plan.plan (send_plan ask running) (c.in_ok-plan.ensures.exact running named) in
+    let s = ok_alike (IsPlanOf rows running) c.in_ok-plan.plan (send_plan ask running) (c.in_ok-plan.ensures.plans.found running named) in
     let fault = c.in_err-check_built.field-0.0 in
     plan_refuses (opening ask running) c.from_residual-in_err-check_built.result fault (err_is c.from_residual-in_err-check_built.result (Plan fault) c.from_residual-in_err-check_built.ensures.1)
     (planned_is ask running s.0 s.1 ∙ c.in_err-check_built.ensures.judges running s.0 named s.2)
@@ -64,7 +64,7 @@ pub returns-in_err-buffer-clause-planned : goal.returns-in_err-buffer-clause-pla
 returns-in_err-buffer-clause-planned g c = λ running live named.
     let rows = c.args.pool.now.kept.dir in
     let ask = c.args.ask.now in
-    let s = ok_alike (IsPlanOf rows running) c.in_ok-plan.plan (send_plan ask running) (c.in_ok-plan.ensures.exact running named) in
+    let s = ok_alike (IsPlanOf rows running) c.in_ok-plan.plan (send_plan ask running) (c.in_ok-plan.ensures.plans.found running named) in
     plan_lacks (opening ask running) c.from_residual-in_err-buffer.result s.0 (err_is c.from_residual-in_err-buffer.result OutOfMemory c.from_residual-in_err-buffer.ensures.1)
     (planned_is ask running s.0 s.1 ∙ c.in_ok-check_built.ensures.judges running s.0 named s.2)
 
@@ -72,7 +72,7 @@ pub returns-clause-planned : goal.returns-clause-planned
 returns-clause-planned g c = λ running live named.
     let rows = c.args.pool.now.kept.dir in
     let ask = c.args.ask.now in
-    let s = ok_alike (IsPlanOf rows running) c.in_ok-plan.plan (send_plan ask running) (c.in_ok-plan.ensures.exact running named) in
+    let s = ok_alike (IsPlanOf rows running) c.in_ok-plan.plan (send_plan ask running) (c.in_ok-plan.ensures.plans.found running named) in
     (s.0, planned_is ask running s.0 s.1 ∙ c.in_ok-check_built.ensures.judges running s.0 named s.2)
 
 pub returns-clause-set : goal.returns-clause-set
@@ -83,7 +83,7 @@ returns-clause-tight g c = λ image space running number live runs sent is.
     let rows = c.args.pool.now.kept.dir in
     let ask = c.args.ask.now in
     let named = rows_named (Has image space) rows running runs in
-    let s = ok_alike (IsPlanOf rows running) c.in_ok-plan.plan (send_plan ask running) (c.in_ok-plan.ensures.exact running named) in
+    let s = ok_alike (IsPlanOf rows running) c.in_ok-plan.plan (send_plan ask running) (c.in_ok-plan.ensures.plans.found running named) in
     let planned = planned_is ask running s.0 s.1 ∙ c.in_ok-check_built.ensures.judges running s.0 named s.2 in
     let same : s.0 ≡ sent = cc (planned, is) in
     subst (λ (o : Sent). SetIsTight (Has image space) c.planned.result.subject.set o.snapshot.objects) same (c.planned.ensures.tight image space running s.0 number runs s.2)
