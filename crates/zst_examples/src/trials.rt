@@ -20,7 +20,10 @@ pub(crate) enum Trial {
     /// The disk stops before a call, and each range that wasn't synced is left in each way.
     DiskStopsEachWay,
     /// A call of an end fails, and then the disk stops as well, and what wasn't synced is filled with each of these bytes.
-    Fails { end: End, fills: Vec<u8> },
+    Fails {
+        end: End,
+        fills: Vec<u8>,
+    },
     /// A write of a byte to standard error fails.
     NoteFails,
     /// The input ends before a byte.

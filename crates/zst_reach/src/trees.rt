@@ -17,7 +17,7 @@ use zst_outside::Disk;
 use zst_tree::{child_at, load_node};
 
 // Reads the node of a tree that was walked before, where it stands at this level. What can't be read
-// there is passed over: it is told where it is walked.
+// there is passed over, and not counted: it is told and counted where it is walked.
 fn load_beside<D: Disk>(
     io: &mut Io<'_, D>,
     level: u8,
@@ -31,10 +31,14 @@ fn load_beside<D: Disk>(
     if known_level != level || ptr.is_flat() {
         return Ok(None);
     }
+    let counted = io.checksum_errors;
     match load_node(io, level, ptr) {
         Ok(()) => Ok(Some(mem::replace(&mut io.node, Node::new()))),
         Err(BlockFault::DiskFault) => Err(BlockFault::DiskFault),
-        Err(_) => Ok(None),
+        Err(BlockFault::Damaged { .. } | BlockFault::Full { .. }) => {
+            io.checksum_errors = counted;
+            Ok(None)
+        }
     }
 }
 

@@ -11,6 +11,7 @@ mod BatchStages
 mod BatchMoves
 mod ByteLimits
 mod FeedAnswers
+mod AnsweredFaults
 pub mod CommitLemmas
 pub mod PieceStages
 pub mod FeedEnds

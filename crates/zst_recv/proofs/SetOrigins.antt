@@ -14,7 +14,6 @@ use Rattle.zst_image.specs.declared.pool_state.PoolState.{PoolState}
 use Rattle.zst_apply.specs.Damage.{apply_damage}
 use Rattle.zst_recv.specs.Damage.{BeginsWith, ComesFrom, IsDamagedFeed, MakesStage, StaysWith}
 use Rattle.zst_recv.specs.Stages.{has_partial, stage_behind, waits_at}
-use Rattle.zst_recv.specs.declared.batch.Batch as batches
 use Rattle.zst_recv.specs.declared.stage.Stage as coded
 use Rattle.zst_recv.specs.declared.stage.Stage.TheVariants as stages
 
@@ -53,8 +52,8 @@ module _ (rows : Rows) (target : List ℕ) where
     comes_with before (stages.Done received) stays = tt
     comes_with before stages.Over stays = tt
 
-    pub comes_kept : (old new : batches.Batch) → old ≡ new → ComesFrom rows target images size old.stage images new.stage
-    comes_kept old new same = subst (λ (b : batches.Batch). ComesFrom rows target images size old.stage images b.stage) same (comes_with old.stage old.stage (stays_same old.stage))
+    pub comes_kept : (old new : coded.Stage) → old ≡ new → ComesFrom rows target images size old images new
+    comes_kept old new same = subst (λ (stage : coded.Stage). ComesFrom rows target images size old images stage) same (comes_with old old (stays_same old))
 
     -- none is under way
     pub comes_none : (before : coded.Stage) (fewer : List ℕ → Type 0) (stage : coded.Stage) → has_partial stage ≡ false → ComesFrom rows target images size before fewer stage

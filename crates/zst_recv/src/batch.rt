@@ -61,8 +61,7 @@ fn move_by<D: Disk>(
     flags: u32,
     number: u64,
 ) -> Result<(), RecvFault>
-    requires covered { IsRead (covered_of covered.now) }
-    requires later { IsLater covered.now.head.now }
+    requires covered { IsRead (covered_of covered.now) × IsLater covered.now.head.now }
     ensures moved { (tight : Bool) (state : PlainPartial) → IsHonest io.new → PartialIs (bound_of tight number) (blocks_of io.old) partial.old state
         → Makes (PartialIs (bound_of tight number) (blocks_of io.new) partial.new) (moved_by number (covered_of covered.now) flags state) result }
     ensures stays { OnErr result (partial.new ≡ partial.old) }
@@ -179,8 +178,7 @@ impl Batch {
         number: u64,
         covered: &Record<'_>,
     ) -> Result<(), RecvFault>
-        requires covered { IsRead (covered_of covered.now) }
-        requires later { IsLater covered.now.head.now }
+        requires covered { IsRead (covered_of covered.now) × IsLater covered.now.head.now }
         requires not_last { closing covered.now.head.now ≡ None }
         ensures took { (tight : Bool) (running : Plain) (ask : Ask) (plain : PlainBatch) → IsHonest io.new → number ≡ running.number + 1
             → IsBatch (bound_of tight (running.number + 1)) (blocks_of io.old) self.old plain

@@ -48,12 +48,11 @@ impl Recv {
     ghost use Rattle.zst_reader.specs.StandsFor.{StandsFor};
     ghost use Rattle.zst_record.specs.Heads.{Covered, size_of};
     ghost use Rattle.zst_space.specs.FreeSectors.{FreeSectors};
-    ghost use Rattle.zst_recv.specs.Answers.{Feeds, goes_on};
+    ghost use Rattle.zst_recv.specs.Answers.{Feeds};
     ghost use Rattle.zst_recv.specs.Costs.{CostsPiece, records_behind};
-    ghost use Rattle.zst_recv.specs.Damage.{IsDamagedFeed, MakesStage};
-    ghost use Rattle.zst_recv.specs.Faults.{cut_of, keeps_before};
+    ghost use Rattle.zst_recv.specs.Faults.{cut_of};
     ghost use Rattle.zst_recv.specs.FedPools.{LeavesPool};
-    ghost use Rattle.zst_recv.specs.FedReceives.{IsFresh, LeavesReceive};
+    ghost use Rattle.zst_recv.specs.FedReceives.{IsFresh, LeavesKept, LeavesReceive, TracesSet};
     ghost use Rattle.zst_recv.specs.ReadTexts.{ReadsText};
     ghost use Rattle.zst_recv.specs.ReceiveSteps.{Stage as PlainStage, left_by};
     ghost use Rattle.zst_recv.specs.Stages.{Receives, RecvFits, TellsBefore, ask_of, fed_of, has_partial, is_live, is_waiting, kept_without, point_in, reader_of, received_by, stage_behind, stage_of};
@@ -129,15 +128,10 @@ impl Recv {
             → CostsPiece (records_behind handed (text ++ piece.now)) pool.old.kept pool.new.kept pool.new.io.space result }
         // Whatever the image, E25 tells a damage of the set that the piece began with, as the disk read then; and the set of a partial
         // state that goes on was made of that one.
-        ensures damaged { (sector : ℕ) (stated found : List ℕ) → IsHonest pool.new.io → pool.old.io.failed ≡ false → result ≡ Err (RecvFault.Pool (PoolFault.Damaged sector stated found))
-            → IsDamagedFeed (disk_of pool.old.io) (free_by pool.old.kept.body) pool.old.kept.dir (ask_of self.old).target (stage_of self.old) sector stated found }
-        ensures makes { IsHonest pool.new.io → goes_on result ≡ true
-            → MakesStage pool.old.kept.dir (ask_of self.old).target (disk_of pool.old.io).seen (free_by pool.old.kept.body) (disk_of pool.old.io).size (stage_of self.old) (disk_of pool.new.io).seen (free_by pool.new.kept.body) (stage_of self.new) }
-        // As long as BEGIN isn't covered nothing is committed.
-        ensures waits { is_waiting self.new ≡ true → pool.new.kept ≡ pool.old.kept }
-        // After a refusal that keeps no records before it, what is kept of the pool stays, but for a partial state under way that isn't kept.
-        ensures refused { pool.old.io.failed ≡ false
-            → IfErr result (λ fault. keeps_before fault ≡ false → pool.new.kept ≡ kept_without (has_partial (stage_of self.old)) (ask_of self.old).target pool.old.kept) }
+        ensures traces { IsHonest pool.new.io
+            → TracesSet (disk_of pool.old.io) (free_by pool.old.kept.body) pool.old.kept.dir (ask_of self.old).target (stage_of self.old) pool.old.io.failed (disk_of pool.new.io).seen (free_by pool.new.kept.body) (stage_of self.new) result }
+        // As long as BEGIN isn't covered nothing is committed; and what a refusal leaves of what is kept.
+        ensures kept { LeavesKept (is_waiting self.new) pool.old.io.failed (has_partial (stage_of self.old)) (ask_of self.old).target pool.old.kept pool.new.kept result }
         ensures pool { LeavesPool pool.old pool.new result }
         ensures receive { LeavesReceive pool.new.kept.dir piece.now self.old self.new result }
     {

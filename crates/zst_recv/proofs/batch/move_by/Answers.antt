@@ -36,7 +36,7 @@ later_fits features (heads.Redact object offset size to) later fits = fits
 
 pub apply-requires-clause-record : goal.apply-requires-clause-record
 apply-requires-clause-record g c =
-    (c.requires.covered.features, later_fits c.requires.covered.features c.args.covered.now.head.now c.requires.later c.requires.covered.fits)
+    (c.requires.covered.0.features, later_fits c.requires.covered.0.features c.args.covered.now.head.now c.requires.covered.1 c.requires.covered.0.fits)
 
 pub returns-in-Ok-clause-moved : goal.returns-in-Ok-clause-moved
 returns-in-Ok-clause-moved g c = λ tight state honest stands.
@@ -48,10 +48,10 @@ returns-in-Ok-clause-moved g c = λ tight state honest stands.
     let made =
     applies_so tight c.args.number covered.index (items_by c.args.flags covered.payload covered.head) before after c.args.partial.now.objects c.apply.new.set state.objects (Ok tt) (c.in-Ok.ensures.changed.changed covered.index state.objects honest)
     (c.in-Ok.ensures.changed.tight covered.index state.objects honest) stands.objects in
-    let fits = ends_fit c.requires.covered.features c.args.number covered.index c.args.flags covered.head covered.payload state.objects made.0
-    (later_fits c.requires.covered.features covered.head c.requires.later c.requires.covered.fits) c.requires.covered.payload made.1 in
+    let fits = ends_fit c.requires.covered.0.features c.args.number covered.index c.args.flags covered.head covered.payload state.objects made.0
+    (later_fits c.requires.covered.0.features covered.head c.requires.covered.1 c.requires.covered.0.fits) c.requires.covered.0.payload made.1 in
     moved_is (bound_of tight c.args.number) before after c.args.number c.args.flags covered c.args.partial.now c.apply.new.set c.point_behind-partial.result
-    state made.0 stands made.1 made.2 (c.point_behind-partial.ensures c.args.flags covered.payload fits c.requires.covered.payload)
+    state made.0 stands made.1 made.2 (c.point_behind-partial.ensures c.args.flags covered.payload fits c.requires.covered.0.payload)
 
 pub returns-in-Err-clause-moved : goal.returns-in-Err-clause-moved
 returns-in-Err-clause-moved g c = λ tight state honest stands.

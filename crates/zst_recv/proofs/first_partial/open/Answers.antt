@@ -93,7 +93,7 @@ returns-in-Resumes-clause-begins c =
     let row = c.index-partials-place.result in
     subst (StaysWith rows target stages.Waits) (sym c.opened.ensures.stage)
     (subst (λ (r : Partial). IsBegun rows target r.objects) (sym c.duplicate.ensures)
-    (resumed_set rows target place row (subst (IsNewPlan rows target) c.in-Resumes.is c.in_ok-place.ensures.new) (c.index-partials-place.is ∙ ap (λ (xs : List Partial). get_or xs place row) c.partials.ensures)))
+    (resumed_set rows target place row (subst (IsNewPlan rows target) c.in-Resumes.is c.in_ok-place.ensures.for_target.new) (c.index-partials-place.is ∙ ap (λ (xs : List Partial). get_or xs place row) c.partials.ensures)))
 
 pub returns-in-Begins-clause-begins : goal.returns-in-Begins-clause-begins
 returns-in-Begins-clause-begins c = subst (StaysWith c.args.dir.now c.args.ask.now.target stages.Waits) (sym c.opened-in-Begins.ensures.stage) (inr c.begun.ensures.base)

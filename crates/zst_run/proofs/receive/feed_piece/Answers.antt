@@ -101,7 +101,7 @@ returns-else-fed-clause-plans g c = λ rows text piece gave on.
     (subst (λ (q : List ℕ). TurnPlans rows recv.ask c.feed.new.pool.kept c.feed.new.self (text ++ q) (turn_behind p.result.end)) (sym one)
     (turn_plans rows recv.ask c.feed.new.pool.kept c.feed.new.self (text ++ given) p.result.end
     (goes_plans c.fronts_agree.ensures rows kept c.feed.new.pool.kept recv c.feed.new.self text given (Ok c.in-Ok.fed) on e.receive.ask t.planned c.in-Ok.fed refl
-    (t.stands (e.receive.live ∙ ap not c.if-fed.false)) e.waits e.receive.waited t.uncovered t.still)))
+    (t.stands (e.receive.live ∙ ap not c.if-fed.false)) e.kept.waits e.receive.waited t.uncovered t.still)))
 
 pub returns-in-Err-clause-plans : goal.returns-in-Err-clause-plans
 returns-in-Err-clause-plans g c = λ rows text piece gave on.
@@ -207,7 +207,7 @@ returns-then-fed-clause-blocks g c =
       blocks = λ more. absurd (cc more);
       stood = λ apart. e.pool.stood (λ is. absurd (cc is));
       size = e.pool.size;
-      waits = λ waits. (e.waits waits, e.receive.waited waits);
+      waits = λ waits. (e.kept.waits waits, e.receive.waited waits);
       makes = λ honest more. absurd (cc more);
       damaged = λ sector stated found honest is. absurd (cc is);
     }
@@ -219,8 +219,8 @@ returns-else-fed-clause-blocks g c =
       blocks = λ more. e.pool.blocks (ap not c.if-fed.false);
       stood = λ apart. e.pool.stood (λ is. absurd (cc is));
       size = e.pool.size;
-      waits = λ waits. (e.waits waits, e.receive.waited waits);
-      makes = λ honest more. e.makes honest (ap not c.if-fed.false);
+      waits = λ waits. (e.kept.waits waits, e.receive.waited waits);
+      makes = λ honest more. (e.traces honest).makes (ap not c.if-fed.false);
       damaged = λ sector stated found honest is. absurd (never_refused c.read_piece-piece.result.end (refusals.Damaged sector stated found) (sym c.turn_behind-in-Ok.ensures ∙ is));
     }
 
@@ -231,9 +231,9 @@ returns-in-Err-clause-blocks g c =
       blocks = λ more. absurd (cc more);
       stood = λ apart. e.pool.stood (λ is. apart (ap (λ (r : Refusal). turns.Refused r) (c.from.ensures ∙ disk_refused c.in-Err.fault is)));
       size = e.pool.size;
-      waits = λ waits. (e.waits waits, e.receive.waited waits);
+      waits = λ waits. (e.kept.waits waits, e.receive.waited waits);
       makes = λ honest more. absurd (cc more);
       damaged = λ sector stated found honest is.
-          e.damaged sector stated found honest c.requires.can_feed.works
+          (e.traces honest).damaged c.requires.can_feed.works sector stated found
           (ap (λ (f : RecvFault). Err f) (damaged_only c.in-Err.fault sector stated found (sym c.from.ensures ∙ turn_refused c.from.result (refusals.Damaged sector stated found) is)));
     }

@@ -38,7 +38,7 @@ returns-in_err-move_by-in-Lives-clause-took g c = λ tight running ask plain hon
     let batch : batches.Batch = record { stage = stages.Lives flags row; rolls = c.args.self.now.rolls; taken = c.args.self.now.taken; applied = c.args.self.now.applied } in
     subst (Takes (IsBatch bound (Has (g.D.Disk.state new.disk.now).seen new.space) batch) plain (taken ask running covered plain)) (sym (err_is c.from_residual.result fault c.from_residual.ensures.1)) (
       refuses_on (moved_by c.args.number covered flags under.0) (λ next. Ok (with_applied flags next plain)) (taken ask running covered plain) fault
-          (taken_is ask running covered plain c.args.number flags under.0 under.1 number c.requires.later c.requires.not_last) (c.in_err-move_by-in-Lives.ensures.moved tight under.0 honest (subst (λ (b : Option ℕ). PartialIs b (Has (g.D.Disk.state old.disk.now).seen old.space) c.in-Lives.partial under.0) (sym same) under.2)),
+          (taken_is ask running covered plain c.args.number flags under.0 under.1 number c.requires.covered.1 c.requires.not_last) (c.in_err-move_by-in-Lives.ensures.moved tight under.0 honest (subst (λ (b : Option ℕ). PartialIs b (Has (g.D.Disk.state old.disk.now).seen old.space) c.in-Lives.partial under.0) (sym same) under.2)),
       batch_stays bound (g.D.Disk.state old.disk.now) (g.D.Disk.state new.disk.now) old.space new.space c.args.self.now plain flags c.in-Lives.partial row under.0 c.in_err-move_by-in-Lives.ensures.fills.fills under.2 under.1
           c.in_err-move_by-in-Lives.ensures.stays is,
     )
@@ -55,7 +55,7 @@ returns-clause-took g c = λ tight running ask plain honest number is.
     let moved =
     c.in_ok-move_by-in-Lives.ensures.moved tight under.0 honest (subst (λ (b : Option ℕ). PartialIs b (Has (g.D.Disk.state old.disk.now).seen old.space) c.in-Lives.partial under.0) (sym same) under.2) in (
       with_applied flags moved.0 plain,
-      taken_is ask running covered plain c.args.number flags under.0 under.1 number c.requires.later c.requires.not_last
+      taken_is ask running covered plain c.args.number flags under.0 under.1 number c.requires.covered.1 c.requires.not_last
           ∙ ap (λ (r : Result models.Partial Refusal). r >>= λ next. Ok (with_applied flags next plain)) moved.1,
       one_more bound (Has (g.D.Disk.state new.disk.now).seen new.space) c.args.self.now plain flags c.saturating_add-self.result c.move_by.new.partial moved.0 (subst (λ (b : Option ℕ). PartialIs b (Has (g.D.Disk.state new.disk.now).seen new.space) c.move_by.new.partial moved.0) same moved.2) is.rolls is.applied c.saturating_add-self.ensures,
     )
@@ -93,7 +93,7 @@ pub returns-in-Waits-clause-comes : goal.returns-in-Waits-clause-comes
 returns-in-Waits-clause-comes g c = λ rows target honest.
     let io = c.args.io.now in
     let now = g.D.Disk.state io.disk.now in
-    comes_kept rows target (SparesTaken io.space now.seen) now.size c.args.self.now _ (first_of (cc, search rules))
+    comes_kept rows target (SparesTaken io.space now.seen) now.size c.args.self.now.stage _ (first_of (cc, search rules))
 
 pub returns-in_err-move_by-in-Lives-clause-spends : goal.returns-in_err-move_by-in-Lives-clause-spends
 returns-in_err-move_by-in-Lives-clause-spends g c =
@@ -107,7 +107,7 @@ returns-in_err-move_by-in-Lives-clause-unplanned g c = λ fault is.
 pub returns-in-Waits-clause-moves : goal.returns-in-Waits-clause-moves
 returns-in-Waits-clause-moves g c = λ rows target.
     let head = c.args.covered.now.head.now in
-    let kind = neither_is head c.requires.later c.requires.not_last in
+    let kind = neither_is head c.requires.covered.1 c.requires.not_last in
     moves_kept rows target head c.args.self.now _ tt (first_of (cc, search rules)) (λ begin. absurd (let both : true ≡ false = sym begin ∙ kind.0 in cc both)) (λ end. absurd (let both : true ≡ false = sym end ∙ kind.1 in cc both))
 
 pub returns-in_err-move_by-in-Lives-clause-moves : goal.returns-in_err-move_by-in-Lives-clause-moves
@@ -116,7 +116,7 @@ returns-in_err-move_by-in-Lives-clause-moves g c = λ rows target.
     let old = c.args.self.now in
     let fault = c.in_err-move_by-in-Lives.field-0.0 in
     let batch : batches.Batch = record old { stage = stages.Lives c.in-Lives.flags c.move_by.new.partial } in
-    let kind = neither_is head c.requires.later c.requires.not_last in
+    let kind = neither_is head c.requires.covered.1 c.requires.not_last in
     let same : old ≡ batch = ap (λ (s : coded.Stage). record old { stage = s }) (c.in-Lives.is ∙ ap (λ (r : Row). stages.Lives c.in-Lives.flags r) (sym c.in_err-move_by-in-Lives.ensures.stays)) in
     subst (λ (r : Result (Unit {0}) RecvFault). Moves rows target head old batch r) (sym (err_is c.from_residual.result fault c.from_residual.ensures.1))
     (subst (λ (b : batches.Batch). Moves {A = Unit {0}} rows target head old b (Err fault)) same (moves_refused rows target head old fault kind.1))
@@ -124,5 +124,5 @@ returns-in_err-move_by-in-Lives-clause-moves g c = λ rows target.
 pub returns-clause-moves : goal.returns-clause-moves
 returns-clause-moves g c = λ rows target.
     let head = c.args.covered.now.head.now in
-    let kind = neither_is head c.requires.later c.requires.not_last in
+    let kind = neither_is head c.requires.covered.1 c.requires.not_last in
     moves_gone rows target head c.args.self.now _ tt c.in-Lives.flags c.in-Lives.partial c.move_by.new.partial c.in-Lives.is refl refl kind.1 (λ can. c.in_ok-move_by-in-Lives.ensures.puts rows target can)

@@ -55,21 +55,9 @@ use Rattle.zst_recv.proofs.KeptBlocks.{keeps_behind, live_partial}
 use Rattle.zst_recv.proofs.SetOrigins.{comes_renewed, keeps_spared, keeps_written, makes_behind, piece_made}
 use Rattle.zst_recv.proofs.PlanRefusals.{both_planned, call_unplanned, over_waits, waits_ahead, waits_kept}
 use Rattle.zst_recv.proofs.recv.Recv.feed.Given.{Over}
+use Rattle.zst_recv.proofs.AnsweredFaults.{feed_answer, put_answer, put_told, read_answer, still_idle}
 use Rattle.zst_recv.proofs.recv.Recv.feed.Goals as goal
 use Rattle.zst_recv.proofs.recv.Recv.feed.Goals.{After-has_partial-held, After-read, Then-is_kept, then-keeps_before+else-is_kept, else-keeps_before}
-
--- answers of a feed, of reading and of a commit
-abbrev feed_answer : RecvFault → Result coded_recv.FeedReport RecvFault
-feed_answer fault = Err fault
-
-abbrev read_answer : RecvFault → Result (Unit {0}) RecvFault
-read_answer fault = Err fault
-
-abbrev put_answer : PoolFault → Result (Unit {0}) PoolFault
-put_answer fault = Err fault
-
-put_told : (one other : PoolFault) → put_answer one ≡ put_answer other → one ≡ other
-put_told one other is = cc
 
 -- what was read can be committed
 can_commit : (g : Over) (c : After-read g) → CanCommit (g.D.Disk.state c.read.new.io.disk.now) c.read.new.io.space c.renew.new.self.kept.body
@@ -331,35 +319,6 @@ read-requires-clause-stage g c =
     subst (λ (k : PoolState). StageFits k.dir recv.ask.target c.new-batch.result.stage) (sym c.renew.ensures.kept)
     (subst (StageFits c.args.pool.now.kept.dir recv.ask.target) (sym (c.new-batch.ensures.stage ∙ c.replace.ensures.value)) fits)
 
-pub returns-then-pool-clause-damaged : goal.returns-then-pool-clause-damaged
-returns-then-pool-clause-damaged g c = λ sector stated found honest alive is. absurd (let failed = c.if-pool.true in cc)
-
-pub returns-then-piece-started-clause-damaged : goal.returns-then-piece-started-clause-damaged
-returns-then-piece-started-clause-damaged g c = λ sector stated found honest alive is.
-    absurd (cc (c.give_up.ensures.fault, c.too_long.ensures, is))
-
-pub returns-in-Err-2-clause-damaged : goal.returns-in-Err-2-clause-damaged
-returns-in-Err-2-clause-damaged g c = λ sector stated found honest alive is.
-    let gave = c.give_up-in-Err-2 in
-    let last = ap (λ (io : _). g.D.Disk.state io.disk.now) gave.ensures.io in
-    let now = subst (λ (d : DiskState). d.honest) last honest in
-    let told = c.in-Err.ensures.writes.damaged sector stated found now (ap (λ (f : RecvFault). Err f) (sym gave.ensures.fault ∙ err_told coded_recv.FeedReport _ _ is)) in
-    damaged_renewed (g.D.Disk.state c.args.pool.now.io.disk.now) (g.D.Disk.state c.renew.new.self.io.disk.now) c.renew.new.self.io.space c.args.pool.now.kept c.renew.new.self.kept c.args.self.now.ask.target c.new-batch.result.stage c.args.self.now.stage sector stated found
-    (ap (λ (d : g.row.D.Denot). g.D.Disk.state d) c.renew.ensures.disk.now) c.renew.ensures.space c.renew.ensures.kept (began_at g (goal.at.returns-in-Err-2-clause-damaged g c).After-read) told
-
-pub returns-in-Err-put-clause-damaged : goal.returns-in-Err-put-clause-damaged
-returns-in-Err-put-clause-damaged g c = λ sector stated found honest alive is.
-    absurd (told_call c.in-Err-put.fault sector stated found c.in-Err-put.ensures.commits.known (sym c.give_up-in-Err-put.ensures.fault ∙ err_told coded_recv.FeedReport _ _ is))
-
-pub returns-in-Err-put-2-clause-damaged : goal.returns-in-Err-put-2-clause-damaged
-returns-in-Err-put-2-clause-damaged g c = λ sector stated found honest alive is.
-    absurd (told_call c.in-Err-put-2.other sector stated found c.in-Err-put-2.ensures.commits.known (sym c.give_up-in-Err-put-2.ensures.fault ∙ err_told coded_recv.FeedReport _ _ is))
-
-pub returns-in-Ok-put-2-clause-damaged : goal.returns-in-Ok-put-2-clause-damaged
-returns-in-Ok-put-2-clause-damaged g c = λ sector stated found honest alive is.
-    absurd (let keeps : keeps_before c.in-Err.fault ≡ true = sym c.keeps_before.ensures ∙ c.if-keeps_before.true in
-    let none : keeps_before c.in-Err.fault ≡ false = ap keeps_before (err_told coded_recv.FeedReport c.in-Err.fault _ is) in cc)
-
 -- a piece whose commit found no room is short of it
 short_by : (g : Over) (c : After-read g) (text : List ℕ) (handed : List Covered) (need largest : ℕ) (after last : FreeSectors) → StandsFor c.args.self.now.reader text handed → IsCallFull c.read.new.io.space after c.renew.new.self.kept.dir need largest → last ≡ after
     → PieceIsShort (records_behind handed (text ++ c.args.piece.now)) c.args.pool.now.kept last need largest
@@ -386,9 +345,6 @@ returns-then-pool-clause-texts g c = λ alive. absurd (let both : true ≡ false
 
 pub returns-then-pool-clause-costs : goal.returns-then-pool-clause-costs
 returns-then-pool-clause-costs g c = λ text handed stands. record { short = λ need largest is. absurd (cc is); grows = tt }
-
-pub returns-then-pool-clause-waits : goal.returns-then-pool-clause-waits
-returns-then-pool-clause-waits g c = λ waits. refl
 
 pub returns-then-pool-clause-pool : goal.returns-then-pool-clause-pool
 returns-then-pool-clause-pool g c = leaves_failed c.args.pool.now c.if-pool.true
@@ -419,9 +375,6 @@ pub returns-then-piece-started-clause-costs : goal.returns-then-piece-started-cl
 returns-then-piece-started-clause-costs g c = λ text handed stands.
     let told = c.give_up.ensures.fault ∙ c.too_long.ensures in
     record { short = λ need largest is. absurd (cc (told, is)); grows = tt }
-
-pub returns-then-piece-started-clause-waits : goal.returns-then-piece-started-clause-waits
-returns-then-piece-started-clause-waits g c = λ waits. absurd (over_waits c.give_up.new.self.stage c.give_up.ensures.over waits)
 
 pub returns-then-piece-started-clause-pool : goal.returns-then-piece-started-clause-pool
 returns-then-piece-started-clause-pool g c =
@@ -476,9 +429,6 @@ returns-in-Err-2-clause-costs g c = λ text handed stands.
       grows = tt;
     }
 
-pub returns-in-Err-2-clause-waits : goal.returns-in-Err-2-clause-waits
-returns-in-Err-2-clause-waits g c = λ waits. absurd (over_waits c.give_up-in-Err-2.new.self.stage c.give_up-in-Err-2.ensures.over waits)
-
 pub returns-in-Err-2-clause-pool : goal.returns-in-Err-2-clause-pool
 returns-in-Err-2-clause-pool g c =
     let at = (goal.at.returns-in-Err-2-clause-pool g c).After-read in
@@ -525,9 +475,6 @@ returns-in-Err-put-clause-costs g c = λ text handed stands.
           short_by g (goal.at.returns-in-Err-put-clause-costs g c).After-read text handed need largest c.put.new.pool.io.space gave.new.pool.io.space stands (c.in-Err-put.ensures.commits.short need largest full) (ap (λ (io : _). io.space) gave.ensures.io);
       grows = tt;
     }
-
-pub returns-in-Err-put-clause-waits : goal.returns-in-Err-put-clause-waits
-returns-in-Err-put-clause-waits g c = λ waits. absurd (over_waits c.give_up-in-Err-put.new.self.stage c.give_up-in-Err-put.ensures.over waits)
 
 pub returns-in-Err-put-clause-pool : goal.returns-in-Err-put-clause-pool
 returns-in-Err-put-clause-pool g c =
@@ -577,9 +524,6 @@ returns-in-Err-put-2-clause-costs g c = λ text handed stands.
       grows = tt;
     }
 
-pub returns-in-Err-put-2-clause-waits : goal.returns-in-Err-put-2-clause-waits
-returns-in-Err-put-2-clause-waits g c = λ waits. absurd (over_waits c.give_up-in-Err-put-2.new.self.stage c.give_up-in-Err-put-2.ensures.over waits)
-
 pub returns-in-Err-put-2-clause-pool : goal.returns-in-Err-put-2-clause-pool
 returns-in-Err-put-2-clause-pool g c =
     let at = (goal.at.returns-in-Err-put-2-clause-pool g c).After-read in
@@ -628,9 +572,6 @@ returns-in-Ok-put-2-clause-costs g c = λ text handed stands.
       short = λ need largest is. absurd (full_keeps_none c.in-Err.fault need largest (sym c.keeps_before.ensures ∙ c.if-keeps_before.true) (err_told coded_recv.FeedReport c.in-Err.fault _ is));
       grows = tt;
     }
-
-pub returns-in-Ok-put-2-clause-waits : goal.returns-in-Ok-put-2-clause-waits
-returns-in-Ok-put-2-clause-waits g c = λ waits. absurd (over_waits _ c.replace.ensures.after waits)
 
 pub returns-in-Ok-put-2-clause-pool : goal.returns-in-Ok-put-2-clause-pool
 returns-in-Ok-put-2-clause-pool g c =
@@ -687,16 +628,6 @@ returns-in-Ok-put-clause-costs g c = λ text handed stands.
           (subst (λ (k : PoolState). (c.put.new.pool.kept ≡ k) ⊎ CallGrows c.read.new.io.space k c.put.new.pool.kept) c.renew.ensures.kept c.in-Ok-put.ensures.commits.grows);
     }
 
--- nothing was taken where it still waits
-still_idle : (batch before : batches.Batch) → (waits_at batch.stage ≡ true → batch ≡ before) → before.taken ≡ false → waits_at batch.stage ≡ true → batch.taken ≡ false
-still_idle batch before same none waits = ap (λ (b : batches.Batch). b.taken) (same waits) ∙ none
-
-pub returns-in-Ok-put-clause-waits : goal.returns-in-Ok-put-clause-waits
-returns-in-Ok-put-clause-waits g c = λ waits.
-    let still = waits_behind c.read.new.batch.stage (ap waits_at (sym c.go_on.ensures.stage) ∙ waits) in
-    let none = still_idle c.read.new.batch c.new-batch.result c.read.ensures.gathers.waits c.new-batch.ensures.taken still in
-    (c.put.ensures.idle none).1 ∙ c.renew.ensures.kept
-
 pub returns-in-Ok-put-clause-pool : goal.returns-in-Ok-put-clause-pool
 returns-in-Ok-put-clause-pool g c =
     let at = (goal.at.returns-in-Ok-put-clause-pool g c).After-read in
@@ -720,49 +651,70 @@ returns-in-Ok-put-clause-pool g c =
     e.ready (e.told refl ∙ read_told g at (ap (λ (r : Result (Unit {0}) RecvFault). is_damage (stop_of r)) c.in-Ok.is)) e.failed (cause_none old.faults two.faults three.faults _ read.later e.cause) (λ told. read_honest g at (e.honest told)) (e.same ∙ read_same g at)
     (read_stood g at three (e.stood (λ told. absurd (cc told)))) (e.size ∙ fills.size)
 
-pub returns-in-Ok-put-clause-makes : goal.returns-in-Ok-put-clause-makes
-returns-in-Ok-put-clause-makes g c = λ honest goes.
-    let at = (goal.at.returns-in-Ok-put-clause-makes g c).After-read in
-    let pool = c.args.pool.now in
-    let put = c.put.new.pool in
-    let recv = c.args.self.now in
-    let old = g.D.Disk.state pool.io.disk.now in
-    let two = g.D.Disk.state c.read.new.io.disk.now in
-    let three = g.D.Disk.state put.io.disk.now in
-    let free = free_by pool.kept.body in
-    let left = free_by put.kept.body in
-    let batch = c.read.new.batch in
-    let fills = read_fills g at in
-    let live : is_live batch.stage ≡ true = not-false (is_live batch.stage) (sym c.go_on.ensures.done ∙ not-true c.go_on.result.done goes) in
-    let none = λ (waits : waits_at batch.stage ≡ true). still_idle batch c.new-batch.result c.read.ensures.gathers.waits c.new-batch.ensures.taken waits in
-    let kept =
-    keeps_behind old two three free c.read.new.io.space left batch.taken fills
-    (λ idle. let same = c.put.ensures.idle idle in (ap (λ (d : g.row.D.Denot). g.D.Disk.state d) same.0, ap (λ (k : PoolState). free_by k.body) (same.1 ∙ c.renew.ensures.kept)))
-    (λ taken. (c.in-Ok-put.ensures.free taken (live_partial batch.stage live (λ waits. let both = sym taken ∙ none waits in cc (both)))).1) in
-    let made =
-    piece_made pool.kept.dir recv.ask.target old two free c.read.new.io.space fills three.seen left recv.stage batch.stage batch.taken (read_comes g at (c.in-Ok-put.ensures.commits.honest honest))
-    (λ untaken_so. ap (λ (b : batches.Batch). b.stage) (c.read.ensures.gathers.idle untaken_so) ∙ began_at g at) kept
-    (λ taken lives. (c.in-Ok-put.ensures.free taken lives).1) in
-    subst (λ (s : coded.Stage). MakesStage pool.kept.dir recv.ask.target old.seen free old.size recv.stage three.seen left s) (sym c.go_on.ensures.stage)
-    (makes_behind pool.kept.dir recv.ask.target old.seen free old.size recv.stage three.seen left batch.stage made)
+pub returns-in-Ok-put-clause-traces : goal.returns-in-Ok-put-clause-traces
+returns-in-Ok-put-clause-traces g c = λ honest. record {
+  damaged = λ alive sector stated found is. absurd (cc is);
+  makes = λ goes.
+      let at = (goal.at.returns-in-Ok-put-clause-traces g c).After-read in
+      let pool = c.args.pool.now in
+      let put = c.put.new.pool in
+      let recv = c.args.self.now in
+      let old = g.D.Disk.state pool.io.disk.now in
+      let two = g.D.Disk.state c.read.new.io.disk.now in
+      let three = g.D.Disk.state put.io.disk.now in
+      let free = free_by pool.kept.body in
+      let left = free_by put.kept.body in
+      let batch = c.read.new.batch in
+      let fills = read_fills g at in
+      let live : is_live batch.stage ≡ true = not-false (is_live batch.stage) (sym c.go_on.ensures.done ∙ not-true c.go_on.result.done goes) in
+      let none = λ (waits : waits_at batch.stage ≡ true). still_idle batch c.new-batch.result c.read.ensures.gathers.waits c.new-batch.ensures.taken waits in
+      let kept =
+      keeps_behind old two three free c.read.new.io.space left batch.taken fills
+      (λ idle. let same = c.put.ensures.idle idle in (ap (λ (d : g.row.D.Denot). g.D.Disk.state d) same.0, ap (λ (k : PoolState). free_by k.body) (same.1 ∙ c.renew.ensures.kept)))
+      (λ taken. (c.in-Ok-put.ensures.free taken (live_partial batch.stage live (λ waits. let both = sym taken ∙ none waits in cc (both)))).1) in
+      let made =
+      piece_made pool.kept.dir recv.ask.target old two free c.read.new.io.space fills three.seen left recv.stage batch.stage batch.taken (read_comes g at (c.in-Ok-put.ensures.commits.honest honest))
+      (λ untaken_so. ap (λ (b : batches.Batch). b.stage) (c.read.ensures.gathers.idle untaken_so) ∙ began_at g at) kept
+      (λ taken lives. (c.in-Ok-put.ensures.free taken lives).1) in
+      subst (λ (s : coded.Stage). MakesStage pool.kept.dir recv.ask.target old.seen free old.size recv.stage three.seen left s) (sym c.go_on.ensures.stage)
+      (makes_behind pool.kept.dir recv.ask.target old.seen free old.size recv.stage three.seen left batch.stage made);
+}
 
-pub returns-then-pool-clause-makes : goal.returns-then-pool-clause-makes
-returns-then-pool-clause-makes g c = λ honest goes. absurd (cc goes)
+pub returns-then-pool-clause-traces : goal.returns-then-pool-clause-traces
+returns-then-pool-clause-traces g c = λ honest.
+    record { damaged = λ alive sector stated found is. absurd (let failed = c.if-pool.true in cc); makes = λ goes. absurd (cc goes) }
 
-pub returns-then-piece-started-clause-makes : goal.returns-then-piece-started-clause-makes
-returns-then-piece-started-clause-makes g c = λ honest goes. absurd (cc goes)
+pub returns-then-piece-started-clause-traces : goal.returns-then-piece-started-clause-traces
+returns-then-piece-started-clause-traces g c = λ honest.
+    record { damaged = λ alive sector stated found is. absurd (cc (c.give_up.ensures.fault, c.too_long.ensures, is)); makes = λ goes. absurd (cc goes) }
 
-pub returns-in-Err-2-clause-makes : goal.returns-in-Err-2-clause-makes
-returns-in-Err-2-clause-makes g c = λ honest goes. absurd (cc goes)
+pub returns-in-Err-2-clause-traces : goal.returns-in-Err-2-clause-traces
+returns-in-Err-2-clause-traces g c = λ honest. record {
+  damaged = λ alive sector stated found is.
+      let gave = c.give_up-in-Err-2 in
+      let last = ap (λ (io : _). g.D.Disk.state io.disk.now) gave.ensures.io in
+      let now = subst (λ (d : DiskState). d.honest) last honest in
+      let told = c.in-Err.ensures.writes.damaged sector stated found now (ap (λ (f : RecvFault). Err f) (sym gave.ensures.fault ∙ err_told coded_recv.FeedReport _ _ is)) in
+      damaged_renewed (g.D.Disk.state c.args.pool.now.io.disk.now) (g.D.Disk.state c.renew.new.self.io.disk.now) c.renew.new.self.io.space c.args.pool.now.kept c.renew.new.self.kept c.args.self.now.ask.target c.new-batch.result.stage c.args.self.now.stage sector stated found
+      (ap (λ (d : g.row.D.Denot). g.D.Disk.state d) c.renew.ensures.disk.now) c.renew.ensures.space c.renew.ensures.kept (began_at g (goal.at.returns-in-Err-2-clause-traces g c).After-read) told;
+  makes = λ goes. absurd (cc goes);
+}
 
-pub returns-in-Err-put-clause-makes : goal.returns-in-Err-put-clause-makes
-returns-in-Err-put-clause-makes g c = λ honest goes. absurd (cc goes)
+pub returns-in-Err-put-clause-traces : goal.returns-in-Err-put-clause-traces
+returns-in-Err-put-clause-traces g c = λ honest.
+    record { damaged = λ alive sector stated found is. absurd (told_call c.in-Err-put.fault sector stated found c.in-Err-put.ensures.commits.known (sym c.give_up-in-Err-put.ensures.fault ∙ err_told coded_recv.FeedReport _ _ is)); makes = λ goes. absurd (cc goes) }
 
-pub returns-in-Err-put-2-clause-makes : goal.returns-in-Err-put-2-clause-makes
-returns-in-Err-put-2-clause-makes g c = λ honest goes. absurd (cc goes)
+pub returns-in-Err-put-2-clause-traces : goal.returns-in-Err-put-2-clause-traces
+returns-in-Err-put-2-clause-traces g c = λ honest.
+    record { damaged = λ alive sector stated found is. absurd (told_call c.in-Err-put-2.other sector stated found c.in-Err-put-2.ensures.commits.known (sym c.give_up-in-Err-put-2.ensures.fault ∙ err_told coded_recv.FeedReport _ _ is)); makes = λ goes. absurd (cc goes) }
 
-pub returns-in-Ok-put-2-clause-makes : goal.returns-in-Ok-put-2-clause-makes
-returns-in-Ok-put-2-clause-makes g c = λ honest goes. absurd (cc goes)
+pub returns-in-Ok-put-2-clause-traces : goal.returns-in-Ok-put-2-clause-traces
+returns-in-Ok-put-2-clause-traces g c = λ honest. record {
+  damaged = λ alive sector stated found is.
+      absurd (let keeps : keeps_before c.in-Err.fault ≡ true = sym c.keeps_before.ensures ∙ c.if-keeps_before.true in
+      let none : keeps_before c.in-Err.fault ≡ false = ap keeps_before (err_told coded_recv.FeedReport c.in-Err.fault _ is) in cc);
+  makes = λ goes. absurd (cc goes);
+}
 
 pub returns-in-Ok-put-clause-receive : goal.returns-in-Ok-put-clause-receive
 returns-in-Ok-put-clause-receive g c =
@@ -793,32 +745,54 @@ returns-in-Ok-put-clause-receive g c =
 
 -- ---- what a refusal leaves
 
-pub returns-then-pool-clause-refused : goal.returns-then-pool-clause-refused
-returns-then-pool-clause-refused g c = λ alive keeps. absurd (let both : true ≡ false = sym c.if-pool.true ∙ alive in cc both)
+pub returns-then-pool-clause-kept : goal.returns-then-pool-clause-kept
+returns-then-pool-clause-kept g c =
+    record { waits = λ waits. refl; refused = λ alive keeps. absurd (let both : true ≡ false = sym c.if-pool.true ∙ alive in cc both) }
 
-pub returns-then-piece-started-clause-refused : goal.returns-then-piece-started-clause-refused
-returns-then-piece-started-clause-refused g c = λ alive keeps.
-    left_kept g (goal.at.returns-then-piece-started-clause-refused g c).After-has_partial-held c.args.pool.now.kept c.give_up.new.pool.kept c.give_up.ensures.kept refl
+pub returns-then-piece-started-clause-kept : goal.returns-then-piece-started-clause-kept
+returns-then-piece-started-clause-kept g c = record {
+  waits = λ waits. absurd (over_waits c.give_up.new.self.stage c.give_up.ensures.over waits);
+  refused = λ alive keeps.
+      left_kept g (goal.at.returns-then-piece-started-clause-kept g c).After-has_partial-held c.args.pool.now.kept c.give_up.new.pool.kept c.give_up.ensures.kept refl;
+}
 
-pub returns-in-Err-2-clause-refused : goal.returns-in-Err-2-clause-refused
-returns-in-Err-2-clause-refused g c = λ alive keeps.
-    let gave = c.give_up-in-Err-2 in
-    left_kept g (goal.at.returns-in-Err-2-clause-refused g c).After-has_partial-held c.renew.new.self.kept gave.new.pool.kept gave.ensures.kept c.renew.ensures.kept
+pub returns-in-Err-2-clause-kept : goal.returns-in-Err-2-clause-kept
+returns-in-Err-2-clause-kept g c = record {
+  waits = λ waits. absurd (over_waits c.give_up-in-Err-2.new.self.stage c.give_up-in-Err-2.ensures.over waits);
+  refused = λ alive keeps.
+      let gave = c.give_up-in-Err-2 in
+      left_kept g (goal.at.returns-in-Err-2-clause-kept g c).After-has_partial-held c.renew.new.self.kept gave.new.pool.kept gave.ensures.kept c.renew.ensures.kept;
+}
 
-pub returns-in-Err-put-clause-refused : goal.returns-in-Err-put-clause-refused
-returns-in-Err-put-clause-refused g c = λ alive keeps.
-    let gave = c.give_up-in-Err-put in
-    left_kept g (goal.at.returns-in-Err-put-clause-refused g c).After-has_partial-held c.put.new.pool.kept gave.new.pool.kept gave.ensures.kept (c.in-Err-put.ensures.commits.stays ∙ c.renew.ensures.kept)
+pub returns-in-Err-put-clause-kept : goal.returns-in-Err-put-clause-kept
+returns-in-Err-put-clause-kept g c = record {
+  waits = λ waits. absurd (over_waits c.give_up-in-Err-put.new.self.stage c.give_up-in-Err-put.ensures.over waits);
+  refused = λ alive keeps.
+      let gave = c.give_up-in-Err-put in
+      left_kept g (goal.at.returns-in-Err-put-clause-kept g c).After-has_partial-held c.put.new.pool.kept gave.new.pool.kept gave.ensures.kept (c.in-Err-put.ensures.commits.stays ∙ c.renew.ensures.kept);
+}
 
-pub returns-in-Err-put-2-clause-refused : goal.returns-in-Err-put-2-clause-refused
-returns-in-Err-put-2-clause-refused g c = λ alive keeps.
-    let gave = c.give_up-in-Err-put-2 in
-    left_kept g (goal.at.returns-in-Err-put-2-clause-refused g c).After-has_partial-held c.put-in-Err.new.pool.kept gave.new.pool.kept gave.ensures.kept (c.in-Err-put-2.ensures.commits.stays ∙ c.renew.ensures.kept)
+pub returns-in-Err-put-2-clause-kept : goal.returns-in-Err-put-2-clause-kept
+returns-in-Err-put-2-clause-kept g c = record {
+  waits = λ waits. absurd (over_waits c.give_up-in-Err-put-2.new.self.stage c.give_up-in-Err-put-2.ensures.over waits);
+  refused = λ alive keeps.
+      let gave = c.give_up-in-Err-put-2 in
+      left_kept g (goal.at.returns-in-Err-put-2-clause-kept g c).After-has_partial-held c.put-in-Err.new.pool.kept gave.new.pool.kept gave.ensures.kept (c.in-Err-put-2.ensures.commits.stays ∙ c.renew.ensures.kept);
+}
 
-pub returns-in-Ok-put-2-clause-refused : goal.returns-in-Ok-put-2-clause-refused
-returns-in-Ok-put-2-clause-refused g c = λ alive none.
-    absurd (let kept : keeps_before c.in-Err.fault ≡ true = sym c.keeps_before.ensures ∙ c.if-keeps_before.true in
-    let both : true ≡ false = sym kept ∙ none in cc both)
+pub returns-in-Ok-put-2-clause-kept : goal.returns-in-Ok-put-2-clause-kept
+returns-in-Ok-put-2-clause-kept g c = record {
+  waits = λ waits. absurd (over_waits _ c.replace.ensures.after waits);
+  refused = λ alive none.
+      absurd (let kept : keeps_before c.in-Err.fault ≡ true = sym c.keeps_before.ensures ∙ c.if-keeps_before.true in
+      let both : true ≡ false = sym kept ∙ none in cc both);
+}
 
-pub returns-in-Ok-put-clause-refused : goal.returns-in-Ok-put-clause-refused
-returns-in-Ok-put-clause-refused g c = λ alive. tt
+pub returns-in-Ok-put-clause-kept : goal.returns-in-Ok-put-clause-kept
+returns-in-Ok-put-clause-kept g c = record {
+  waits = λ waits.
+      let still = waits_behind c.read.new.batch.stage (ap waits_at (sym c.go_on.ensures.stage) ∙ waits) in
+      let none = still_idle c.read.new.batch c.new-batch.result c.read.ensures.gathers.waits c.new-batch.ensures.taken still in
+      (c.put.ensures.idle none).1 ∙ c.renew.ensures.kept;
+  refused = λ alive. tt;
+}
