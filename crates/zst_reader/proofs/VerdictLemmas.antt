@@ -1,5 +1,5 @@
 -- How the code's sums and tests meet the rulings.
-use Rattle.std.proofs.Common.{◌≡◌, ℕ, ◌+◌, ◌-◌, ◌%◌, ◌≤◌, false, Some, None, Ok, Err, append_assoc, length-append, List, ◌++◌, length, take, drop, sym, ap, subst, ◌∙◌, arith, refl}
+use Rattle.std.proofs.Common.{◌≡◌, ℕ, ◌+◌, ◌-◌, ◌%◌, ◌≤◌, Some, None, Ok, Err, append_assoc, length-append, List, ◌++◌, length, take, drop, sym, ap, subst, ◌∙◌, arith, refl}
 use Rattle.std.proofs.lemmas.List.{length-take-le, take-append-le}
 use Rattle.std.proofs.lemmas.Bool.{le-ltb}
 use Rattle.std.proofs.Math.Seq.{take-add}
@@ -8,14 +8,12 @@ use Rattle.zst_record.specs.Decoding.{Decoded, decoded, features_in}
 use Rattle.zst_record.specs.Heads.{size_of}
 use Rattle.zst_record.specs.declared.head.Head.{Head}
 use Rattle.zst_model.specs.declared.refusals.stream_fault.StreamFault.{StreamFault}
-use Rattle.zst_model.specs.declared.refusals.stream_fault.StreamFault.TheVariants.{Unsupported}
-use Rattle.zst_model.specs.declared.refusals.faults.Lack.TheVariants as lacks
 use Rattle.zst_model.specs.declared.sends.header.Header.{Header}
 use Rattle.zst_record.specs.declared.head.Head.TheVariants as heads
 use Rattle.zst_record.specs.Heads.{payload_len}
 use Rattle.zst_record.specs.Payload as payloads
 use Rattle.zst_record.specs.Payload.{Opened}
-use Rattle.zst_stream.specs.Reading.{begun, refuse, more, sum_fault, sealed_next, opened, ruling, rule_by, closing, is_built}
+use Rattle.zst_stream.specs.Reading.{begun, refuse, more, sum_fault, sealed_next, opened, ruling, rule_by, closing}
 use Rattle.zst_reader.specs.declared.place.Place.{Place}
 use Rattle.zst_reader.specs.Place.{IsPlaceAfter}
 use Rattle.zst_reader.specs.Verdict.{IsHeadOf, ruled}
@@ -76,28 +74,20 @@ pub ruled-by : (before held : List ℕ) (place : Place) (head : Head) → IsPlac
     → ruling before held ≡ rule_by before held head (closing head)
 unfolding ruling
 ruled-by before held place head is known =
-    rw (le-ltb (length held) 312 known.there, at-place before held place (Ok head) is known.decoded, known.built) refl
+    rw (le-ltb (length held) 312 known.there, at-place before held place (Ok head) is known.decoded) refl
 
 -- a record that fails the checks of its 312 bytes
 pub undecoded : (before held : List ℕ) (place : Place) (fault : StreamFault) → IsPlaceAfter before held place → 312 ≤ length held
-    → decoded place.at place.features (take 312 held) ≡ Err fault → ruling before held ≡ refuse (Unsupported place.at lacks.NotBuilt)
+    → decoded place.at place.features (take 312 held) ≡ Err fault → ruling before held ≡ refuse fault
 unfolding ruling
 undecoded before held place fault is there e =
-    rw (le-ltb (length held) 312 there, at-place before held place (Err fault) is e, is.at) refl
-
--- a record of a form that isn't built
-pub unbuilt : (before held : List ℕ) (place : Place) (head : Head) → IsPlaceAfter before held place → 312 ≤ length held
-    → decoded place.at place.features (take 312 held) ≡ Ok head → is_built head ≡ false → ruling before held ≡ refuse (Unsupported place.at lacks.NotBuilt)
-unfolding ruling
-unbuilt before held place head is there e not =
-    rw (le-ltb (length held) 312 there, at-place before held place (Ok head) is e, not, is.at) refl
+    rw (le-ltb (length held) 312 there, at-place before held place (Err fault) is e) refl
 
 -- the head stays known where more follows
 pub head-grown : (held further : List ℕ) (place : Place) (head : Head) → IsHeadOf place held head → IsHeadOf place (held ++ further) head
 head-grown held further place head known = record {
   there = let there = known.there in omega (arith, length-append held further);
   decoded = ap (decoded place.at place.features) (take-append-le 312 held further known.there) ∙ known.decoded;
-  built = known.built;
 }
 
 -- the same where a reader gave up what it had lent, and took in more

@@ -5,7 +5,7 @@ use Rattle.zst_record.specs.Formats.{record_len, longest_payload}
 use Rattle.zst_record.specs.Heads.{payload_len, size_of}
 use Rattle.zst_record.specs.declared.head.Head.{Head}
 use Rattle.zst_model.specs.declared.refusals.stream_fault.StreamFault.{StreamFault}
-use Rattle.zst_stream.specs.Reading.{Ruling, wait, refuse, last, more, ruling, closing, is_built}
+use Rattle.zst_stream.specs.Reading.{Ruling, wait, refuse, last, more, ruling, closing}
 use Rattle.zst_reader.specs.Place.{IsPlaceAfter, IsWithin}
 use Rattle.zst_reader.specs.Mark.{mark_after}
 use Rattle.zst_reader.specs.declared.mark.Mark.{Mark}
@@ -18,7 +18,6 @@ use Rattle.zst_reader.specs.declared.verdict.Verdict.TheVariants as verdicts
 pub record IsHeadOf (place : Place) (held : List ℕ) (head : Head) : Type 0 where
   pub there : record_len ≤ length held
   pub decoded : decoded place.at place.features (take record_len held) ≡ Ok head
-  pub built : is_built head ≡ true
 
 -- The head was read, or its 312 bytes aren't all there, or the record is refused.
 abbrev pub ReadsHead : Place → List ℕ → Head → Result Bool StreamFault → Type 0

@@ -8,11 +8,10 @@ ghost use Rattle.zst_reader.specs.Verdict.{IsHeadOf, IsOpenable, Judges, ReadsHe
 
 use crate::place::{LeadingSum, Place};
 use zst_fletcher::Sum;
-use zst_model::{Lack, StreamFault};
+use zst_model::{Flaw, StreamFault};
 use zst_record::{
     Head, RECORD_LEN, SUMMED_LEN, begin_payload, decode, get_sums, payload_is_bounded,
 };
-use zst_stream::is_form_built;
 
 /// What is found at the front of the held bytes.
 #[derive(Clone, Copy)]
@@ -45,13 +44,14 @@ fn compare(held: &[u8], at: u64, found: Sum, place: usize) -> Option<StreamFault
     })
 }
 
-// A record of a form that isn't built, or that fails a check other than a checksum.
-fn not_built(at: u64) -> StreamFault
-    ensures { result ≡ StreamFault.Unsupported at Lack.NotBuilt }
+// E17: END states another guid than BEGIN.
+fn other_guid(at: u64) -> StreamFault
+    requires { at < 2 ^ 62 }
+    ensures { result ≡ StreamFault.Grammar (at + 40) Flaw.Guid }
 {
-    StreamFault::Unsupported {
-        at,
-        lack: Lack::NotBuilt,
+    StreamFault::Grammar {
+        at: at + 40,
+        flaw: Flaw::Guid,
     }
 }
 
@@ -75,16 +75,8 @@ pub(crate) fn read_head(held: &[u8], place: &Place, head: &mut Head) -> Result<b
     if held.len() < RECORD_LEN {
         return Ok(false);
     }
-    match decode(front_of(held), place.at, place.features) {
-        Err(_) => Err(not_built(place.at)),
-        Ok(found) => {
-            if !is_form_built(&found) {
-                return Err(not_built(place.at));
-            }
-            *head = found;
-            Ok(true)
-        }
-    }
+    *head = decode(front_of(held), place.at, place.features)?;
+    Ok(true)
 }
 
 // What the record at the front says with its payload, where that says more than its 312 bytes: only BEGIN's does.
@@ -151,7 +143,7 @@ fn judge_later(held: &[u8], place: &Place, head: &mut Head) -> Verdict
     let whole = match open_payload(held, head) {
         Ok(None) => return judge_sealed(held, place, head),
         Ok(Some(whole)) => whole,
-        Err(_) => return Verdict::Refuse(not_built(place.at)),
+        Err(fault) => return Verdict::Refuse(fault),
     };
     let verdict = judge_sealed(held, place, &whole);
     if let Verdict::More(_) = verdict {
@@ -171,7 +163,7 @@ fn judge_end(held: &[u8], place: &Place, sums: [u64; 4], to: u64) -> Verdict
         return Verdict::Refuse(fault);
     }
     if to != place.to {
-        return Verdict::Refuse(not_built(place.at));
+        return Verdict::Refuse(other_guid(place.at));
     }
     let sum = place.sum_with(held, RECORD_LEN);
     let ahead = LeadingSum { sum, count: 0 };

@@ -1,5 +1,5 @@
 -- A header that fits a BEGIN without a payload can be stated.
-use Rattle.std.proofs.Common.{◌≡◌, inl, inr, ℕ, ◌+◌, ◌^◌, ◌<◌, ◌==◌, ◌||◌, true, false, List, [], length, get_or, refl, sym, ap, ◌∙◌, subst, arith}
+use Rattle.std.proofs.Common.{◌≡◌, inl, inr, ℕ, ◌+◌, ◌^◌, ◌<◌, ◌==◌, ◌||◌, true, false, List, [], length, None, Option, Some, get_or, refl, sym, ap, ◌∙◌, subst, arith}
 use Rattle.std.specs.Int.Bits.{and_zero_l}
 use Rattle.std.specs.List.{Contains, position_or_len}
 use Rattle.std.specs.Prelude.{bit_and}
@@ -8,12 +8,14 @@ use Rattle.std.proofs.lemmas.List.Elements.{All-nil}
 use Rattle.std.proofs.lemmas.List.Sums.{fails_before_first}
 use Rattle.std.proofs.lemmas.Nat.{and_assoc}
 use Rattle.zst_model.specs.declared.sends.header.Header.{Header}
+use Rattle.zst_model.specs.declared.sends.header.Point.{Point}
 use Rattle.zst_model.specs.fields.Guids.{IsGuidSet}
 use Rattle.zst_model.specs.pools.Pool.{IsKind, IsStated}
 use Rattle.zst_model.specs.sends.Features.{redacts, resuming}
 use Rattle.zst_record.specs.Decoding.{needs_payload}
 use Rattle.zst_record.specs.RecordValues.{BeginFits}
 use Rattle.zst_record.specs.Laws.{AreBytes}
+use Rattle.zst_record.specs.Payload.{StatesPayload, StatesResume, bare}
 
 kind-is : (kind : ℕ) → ((kind == 2) || (kind == 3)) ≡ true → IsKind kind
 kind-is kind is =
@@ -49,6 +51,32 @@ unfolding needs_payload redacts resuming
 not-redacted features none =
     let mask : bit_and features (2 ^ 20 + 2 ^ 21) ≡ 0 = eqb-true _ 0 (not-false _ none) in
     sym (and_assoc (2 ^ 21) features (2 ^ 20 + 2 ^ 21)) ∙ ap (λ (n : ℕ). bit_and n (2 ^ 21)) mask ∙ and_zero_l (2 ^ 21)
+
+no_point : (features : ℕ) (resume : Option Point) → StatesResume features resume → bit_and features resuming ≡ 0 → resume ≡ None
+no_point features None states none = refl
+no_point features (Some point) states none = absurd (eqb-false (bit_and features resuming) 0 states.resumed none)
+
+-- a header that BEGIN states with its payload, in a stream that isn't resumed
+pub said-stated : (header said : Header) (len : ℕ) → BeginFits header len → AreBytes header.name → bare said ≡ header → StatesPayload said → bit_and said.features resuming ≡ 0 → IsStated said
+unfolding bare
+said-stated header said len fits all same states none =
+    let f : BeginFits (bare said) len = subst (λ (h : Header). BeginFits h len) (sym same) fits in
+    let short = f.name in
+    record {
+      kind = kind-is said.kind f.kind;
+      flags = f.flags;
+      features = f.features;
+      time = f.time;
+      to = (guid-some said.to f.to_there, f.to);
+      from = f.from;
+      name = record { short = omega arith; bytes = subst AreBytes (sym (ap (λ (h : Header). h.name) same)) all; no_zero = no_zero-name said.name f.no_zero };
+      redact = states.redact;
+      from_redact = states.from_redact;
+      resume = no_point said.features said.resume states.resume none;
+      unresumed = none;
+      redacted = states.redacted;
+      source = states.source;
+    }
 
 pub begin-stated : (header : Header) → BeginFits header 0 → AreBytes header.name → IsStated header
 begin-stated header f all =

@@ -11,7 +11,7 @@ use Rattle.zst_record.specs.Formats.{begin_type, compound_stream, large_blocks, 
 use Rattle.zst_record.specs.Heads.{Covered, payload_len, size_of}
 use Rattle.zst_record.specs.Payload as payloads
 use Rattle.zst_record.specs.Payload.{Opened}
-use Rattle.zst_stream.specs.Reading.{Outcome, waiting, faulty, complete, Reading, Ruling, Closing, wait, refuse, last, more, unless, sum_fault, is_built, begun, next_by, not_built, opened, sealed_next, cover, finish, rule_by, closing, judged, ruling, after, reading_from, reading}
+use Rattle.zst_stream.specs.Reading.{Outcome, waiting, faulty, complete, Reading, Ruling, Closing, wait, refuse, last, more, unless, sum_fault, begun, next_by, opened, other_guid, sealed_next, cover, finish, rule_by, closing, judged, ruling, after, reading_from, reading}
 use Rattle.zst_recv.specs.Stages.{is_begin, is_end}
 
 -- END is the last of these where all is covered, and else none of them
@@ -95,10 +95,10 @@ rules-by before rest head None is =
     let payload = take (payload_len head) (drop 312 rest) in
     rules-cond (nat_lt (length rest) (size_of head)) wait _ tt (rules-next before rest (opened head payload) (no_end-opened head payload is))
 rules-by before rest head (Some c) is =
-    rules-unless (sum_fault before rest 0 8) _ (rules-cond (c.to == number_at before 40 8) (last head) (refuse (not_built before)) (an_end head c is) tt)
+    rules-unless (sum_fault before rest 0 8) _ (rules-cond (c.to == number_at before 40 8) (last head) (refuse (other_guid before)) (an_end head c is) tt)
 
 rules-judged : (before rest : List ℕ) (d : Decoded) → Rules (judged before rest d)
-rules-judged before rest (Ok head) = rules-cond (is_built head) _ (refuse (not_built before)) (rules-by before rest head (closing head) refl) tt
+rules-judged before rest (Ok head) = rules-by before rest head (closing head) refl
 rules-judged before rest (Err fault) = tt
 
 rules : (before rest : List ℕ) → Rules (ruling before rest)
@@ -219,10 +219,10 @@ opens-by before rest head None is =
     let payload = take (payload_len head) (drop 312 rest) in
     opens-cond (nat_lt (length rest) (size_of head)) wait _ tt (opens-next before rest (opened head payload) (begins-opened head payload is))
 opens-by before rest head (Some c) is =
-    opens-unless (sum_fault before rest 0 8) _ (opens-cond (c.to == number_at before 40 8) (last head) (refuse (not_built before)) is tt)
+    opens-unless (sum_fault before rest 0 8) _ (opens-cond (c.to == number_at before 40 8) (last head) (refuse (other_guid before)) is tt)
 
 opens-judged : (before rest : List ℕ) (d : Decoded) → OkBegins d → Opens (judged before rest d)
-opens-judged before rest (Ok head) is = opens-cond (is_built head) _ (refuse (not_built before)) (opens-by before rest head (closing head) is) tt
+opens-judged before rest (Ok head) is = opens-by before rest head (closing head) is
 opens-judged before rest (Err fault) is = tt
 
 opens : (text : List ℕ) → Opens (ruling [] text)

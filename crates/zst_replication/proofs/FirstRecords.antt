@@ -15,7 +15,7 @@ use Rattle.zst_record.specs.Formats.{begin_type, compound_stream, large_blocks, 
 use Rattle.zst_record.specs.Heads.{Covered}
 use Rattle.zst_record.specs.Payload as payloads
 use Rattle.zst_stream.specs.PassedRecords.{IsBegin}
-use Rattle.zst_stream.specs.Reading.{Reading, Ruling, wait, refuse, last, more, after, begun, cover, is_built, judged, next_by, not_built, opened, reading, reading_from, ruling, sealed_next, unless}
+use Rattle.zst_stream.specs.Reading.{Reading, Ruling, wait, refuse, last, more, after, begun, cover, judged, next_by, opened, reading, reading_from, ruling, sealed_next, unless}
 
 abbrev pub FirstIsBegin : List Covered → Type 0
 FirstIsBegin [] = Unit {0}
@@ -88,18 +88,18 @@ unless_fault (Some fault) next is = refuses fault
 next_begin : (rest : List ℕ) (len : ℕ) (o : payloads.Opened) → IsBeginBy (next_by [] rest (begun len o))
 unfolding sealed_next
 next_begin rest len (Ok header) = one_of _ wait _ waits (unless_fault _ (more (heads.Begin header len)) (covers header len))
-next_begin rest len (Err fault) = refuses (not_built [])
+next_begin rest len (Err fault) = refuses fault
 
 cover_begin : (rest : List ℕ) (header : Header) (len : ℕ) → IsBeginBy (cover [] rest (heads.Begin header len))
 unfolding cover opened
 cover_begin rest header len = one_of _ wait _ waits (next_begin rest len (payloads.opened header (take len (drop record_len rest))))
 
 judged_begin : (rest : List ℕ) (d : Decoded) → IsBeginOf d → IsBeginBy (judged [] rest d)
-judged_begin rest (Err fault) is = refuses (not_built [])
+judged_begin rest (Err fault) is = refuses fault
 judged_begin rest (Ok head) is = go head (is head refl)
   where
     go : (head : Head) → IsBegin head → IsBeginBy (judged [] rest (Ok head))
-    go (heads.Begin header len) begins = one_of (is_built (heads.Begin header len)) (cover [] rest (heads.Begin header len)) (refuse (not_built [])) (cover_begin rest header len) (refuses (not_built []))
+    go (heads.Begin header len) begins = cover_begin rest header len
     go (heads.Object object kind bonus_kind block_size bonus_len max_block to) begins = absurd begins
     go (heads.FreeObjects first count to) begins = absurd begins
     go (heads.Write object kind offset size to) begins = absurd begins

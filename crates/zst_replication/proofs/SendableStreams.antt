@@ -35,7 +35,6 @@ use Rattle.zst_record.specs.Laws.{PayloadHasLength}
 use Rattle.zst_record.specs.Payload.{StatesPayload, StatesResume, bare, begin_payload, has_payload, stated_point}
 use Rattle.zst_stream.specs.Image.{CanBegin}
 use Rattle.zst_stream.specs.Items.{IsUnredacted, PlainIsAllowed, keeps_spill}
-use Rattle.zst_stream.specs.Reading.{is_payload_built}
 use Rattle.zst_send.specs.Openings.{built, is_plain, opening}
 use Rattle.zst_send.specs.Sends.{begun}
 use Rattle.zst_replication.specs.MatchingBases.{IsTokenPoint, PlainCanBeSent, RestCanBeSent}
@@ -178,22 +177,21 @@ kind_test kind (inr e) = ap (λ (k : ℕ). (k == 2) || (k == 3)) e
 
 -- ---- a header that may have a point
 
--- features under which BEGIN can be stated, with a payload or without one
+-- features under which BEGIN of an unredacted stream can be stated
 record AreFit (features : ℕ) : Type 0 where
   small : features < 2 ^ 30
   accepted : others_of features ≡ 0
   small_blocks : bit_and features large_blocks ≡ 0
-  payload : (needs_payload features ≡ false) ⊎ (is_payload_built features ≡ true)
   redacts_none : (bit_and features redacts == 0) ≡ true
 
 plain_fit : (redaction : Option Bookmark) → redaction ≡ None → AreFit (redacted_part redaction + sa_spill)
-unfolding sa_spill resuming redacts needs_payload
-plain_fit None e = record { small = omega arith; accepted = refl; small_blocks = refl; payload = inl refl; redacts_none = refl }
+unfolding sa_spill resuming redacts
+plain_fit None e = record { small = omega arith; accepted = refl; small_blocks = refl; redacts_none = refl }
 plain_fit (Some bookmark) e = absurd cc
 
 resumed_fit : (redaction : Option Bookmark) → redaction ≡ None → AreFit (bit_or (redacted_part redaction + sa_spill) resuming)
-unfolding sa_spill resuming redacts is_payload_built
-resumed_fit None e = record { small = omega arith; accepted = refl; small_blocks = refl; payload = inr refl; redacts_none = refl }
+unfolding sa_spill resuming redacts
+resumed_fit None e = record { small = omega arith; accepted = refl; small_blocks = refl; redacts_none = refl }
 resumed_fit (Some bookmark) e = absurd cc
 
 says_resuming : (redaction : Option Bookmark) → redaction ≡ None → (bit_and (bit_or (redacted_part redaction + sa_spill) resuming) resuming == 0) ≡ false
@@ -211,15 +209,11 @@ unfolding features_of
 states_resume sent None stated whole fits = ap (λ (n : ℕ). n == 0) stated.unresumed
 states_resume sent (Some point) stated whole fits = record { resumed = says_resuming sent.redaction whole; object = fits.object; offset = fits.offset }
 
-either_true : (a : Bool) → (a || true) ≡ true
-either_true true = refl
-either_true false = refl
-
 neither : (a b : Bool) → not (a || b) ≡ true → a ≡ false
 neither true b e = absurd cc
 neither false b e = refl
 
-module _ (lengths : PayloadHasLength) (header : Header) (features : ℕ) (resume : Option Point) (stated : IsStated header) (plain : header.redact ≡ []) (unredacted : header.from_redact ≡ []) (fit : AreFit features)
+module _ (lengths : PayloadHasLength) (header : Header) (features : ℕ) (resume : Option Point) (stated : IsStated header) (plain : header.redact ≡ []) (fit : AreFit features)
     (states : StatesResume features resume)
   where
     abbrev now : Header
@@ -241,16 +235,6 @@ module _ (lengths : PayloadHasLength) (header : Header) (features : ℕ) (resume
     unneeded : (payload_len == 0) ≡ true → needs_payload features ≡ false
     unfolding has_payload
     unneeded empty = neither (needs_payload features) (nat_lt 0 (length header.from_redact)) (sym (lengths now states_payload).none ∙ empty)
-
-    is_empty : needs_payload features ≡ false → (payload_len == 0) ≡ true
-    unfolding has_payload
-    is_empty unneeded =
-        (lengths now states_payload).none ∙ ap (λ (t : Bool). not (t || nat_lt 0 (length header.from_redact))) unneeded
-        ∙ ap (λ (guids : List ℕ). not (nat_lt 0 (length guids))) unredacted
-
-    is_form : (needs_payload features ≡ false) ⊎ (is_payload_built features ≡ true) → ((payload_len == 0) || is_payload_built features) ≡ true
-    is_form (inl unneeded) = ap (λ (t : Bool). t || is_payload_built features) (is_empty unneeded)
-    is_form (inr built) = ap (λ (t : Bool). (payload_len == 0) || t) built ∙ either_true (payload_len == 0)
 
     fits_bare : BeginFits (bare now) payload_len
     unfolding bare
@@ -274,7 +258,7 @@ module _ (lengths : PayloadHasLength) (header : Header) (features : ℕ) (resume
     }
 
     can_begin : CanBegin now
-    can_begin = record { begins = fits_bare; payload = states_payload; built = is_form fit.payload }
+    can_begin = record { begins = fits_bare; payload = states_payload }
 
 begins : PayloadHasLength → (sent : Sent) (start : Option Point) → IsStated (header_of sent) → IsPlain sent → IfSome start IsTokenPoint → CanBegin (begun sent start)
 begins lengths sent start stated plain fits = go start fits (features_fit sent start plain.whole) (states_resume sent start stated plain.whole fits)
@@ -283,8 +267,8 @@ begins lengths sent start stated plain fits = go start fits (features_fit sent s
     no_redact = ap redaction_guids plain.whole
 
     go : (start : Option Point) → IfSome start IsTokenPoint → AreFit (begun sent start).features → StatesResume (begun sent start).features (begun sent start).resume → CanBegin (begun sent start)
-    go None fits fit states = can_begin lengths (header_of sent) (features_of sent) None stated no_redact plain.source fit (subst (StatesResume (features_of sent)) stated.resume states)
-    go (Some point) fits fit states = can_begin lengths (header_of sent) (bit_or (features_of sent) resuming) (Some point) stated no_redact plain.source fit states
+    go None fits fit states = can_begin lengths (header_of sent) (features_of sent) None stated no_redact fit (subst (StatesResume (features_of sent)) stated.resume states)
+    go (Some point) fits fit states = can_begin lengths (header_of sent) (bit_or (features_of sent) resuming) (Some point) stated no_redact fit states
 
 spills_stated : (sent : Sent) → keeps_spill (flags_of sent) ≡ false
 unfolding flags_of clone_flag free_records spill_block

@@ -46,7 +46,6 @@ unfolding needs_payload resuming redacts begin_payload has_payload
 begins = record {
   begins = begins-bare;
   payload = record { resume = refl; redact = no-guids; from_redact = no-guids; redacted = refl; source = λ some. absurd (omega arith) };
-  built = refl;
 }
 
 object-fits : ObjectFits 1 19 0 512 0 0 4294967297
@@ -73,12 +72,12 @@ free-fits = record { object_fits = refl; offset_fits = lit< tt; size_fits = lit<
 pieces-fit : PiecesFit 4 example_pieces
 unfolding opened padded
 pieces-fit = (
-  record { later = tt; not_end = refl; built = refl; fits = (lit< tt, lit< tt, lit< tt); len = refl; sound = refl },
+  record { later = tt; not_end = refl; fits = (lit< tt, lit< tt, lit< tt); len = refl; sound = refl },
   (
-    record { later = tt; not_end = refl; built = refl; fits = object-fits; len = refl; sound = refl },
+    record { later = tt; not_end = refl; fits = object-fits; len = refl; sound = refl },
     (
-      record { later = tt; not_end = refl; built = refl; fits = write-fits; len = refl; sound = refl },
-      (record { later = tt; not_end = refl; built = refl; fits = free-fits; len = refl; sound = refl }, tt),
+      record { later = tt; not_end = refl; fits = write-fits; len = refl; sound = refl },
+      (record { later = tt; not_end = refl; fits = free-fits; len = refl; sound = refl }, tt),
     ),
   ),
 )

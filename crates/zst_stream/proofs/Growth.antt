@@ -8,7 +8,7 @@ use Rattle.zst_record.specs.Heads.{Covered, payload_len, size_of}
 use Rattle.zst_record.specs.Decoding.{Decoded, decoded, features_in}
 use Rattle.zst_record.specs.declared.head.Head.{Head}
 use Rattle.zst_model.specs.declared.refusals.stream_fault.StreamFault.{StreamFault}
-use Rattle.zst_stream.specs.Reading.{Reading, Ruling, Closing, FrontOf, wait, refuse, last, more, sum_fault, not_built, is_built, cover, finish, rule_by, judged, ruling, closing, opened, covered_at, after, reading_from, reading, prepend, unless, sealed_next, next_by}
+use Rattle.zst_stream.specs.Reading.{Reading, Ruling, Closing, FrontOf, wait, refuse, last, more, sum_fault, cover, finish, rule_by, judged, ruling, closing, opened, covered_at, after, reading_from, reading, prepend, unless, sealed_next, next_by}
 
 -- ---- what is read from the bytes that are there
 
@@ -68,14 +68,8 @@ rule-grown : (before rest m : List ℕ) (head : Head) (o : Option Closing) → 3
 rule-grown before rest m head None h ready = cover-grown before rest m head ready
 rule-grown before rest m head (Some c) h ready = finish-grown before rest m head c h
 
-built-grown : (before rest m : List ℕ) (head : Head) (built : Bool) → 312 ≤ length rest
-    → (cond built (rule_by before rest head (closing head)) (refuse (not_built before)) ≡ wait → ⊥)
-    → cond built (rule_by before (rest ++ m) head (closing head)) (refuse (not_built before)) ≡ cond built (rule_by before rest head (closing head)) (refuse (not_built before))
-built-grown before rest m head true h ready = rule-grown before rest m head (closing head) h ready
-built-grown before rest m head false h ready = refl
-
 judged-grown : (before rest m : List ℕ) (d : Decoded) → 312 ≤ length rest → (judged before rest d ≡ wait → ⊥) → judged before (rest ++ m) d ≡ judged before rest d
-judged-grown before rest m (Ok head) h ready = built-grown before rest m head (is_built head) h ready
+judged-grown before rest m (Ok head) h ready = rule-grown before rest m head (closing head) h ready
 judged-grown before rest m (Err fault) h ready = refl
 
 -- a ruling other than "wait" stays where more bytes follow
@@ -127,15 +121,13 @@ last-no None head other f true e = cc
 last-no None head other f false e = cc
 last-no (Some g) head other f same e = cc
 
-built-more : (before rest : List ℕ) (other head : Head) (built : Bool) (o : Option Closing)
-    → cond built (rule_by before rest other o) (refuse (not_built before)) ≡ more head → size_of head + 312 ≤ length rest
+rule-more : (before rest : List ℕ) (other head : Head) (o : Option Closing) → rule_by before rest other o ≡ more head → size_of head + 312 ≤ length rest
 unfolding finish
-built-more before rest other head true None e = cover-more before rest other head e
-built-more before rest other head true (Some c) e = absurd (last-no (sum_fault before rest 0 8) other head _ (c.to == number_at before 40 8) e)
-built-more before rest other head false o e = absurd cc
+rule-more before rest other head None e = cover-more before rest other head e
+rule-more before rest other head (Some c) e = absurd (last-no (sum_fault before rest 0 8) other head _ (c.to == number_at before 40 8) e)
 
 judged-more : (before rest : List ℕ) (d : Decoded) (head : Head) → judged before rest d ≡ more head → size_of head + 312 ≤ length rest
-judged-more before rest (Ok other) head e = built-more before rest other head (is_built other) (closing other) e
+judged-more before rest (Ok other) head e = rule-more before rest other head (closing other) e
 judged-more before rest (Err f) head e = absurd cc
 
 -- a record that is covered is whole, and the next 312 bytes are there

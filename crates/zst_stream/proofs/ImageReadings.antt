@@ -19,7 +19,7 @@ use Rattle.zst_record.specs.Decoding.{sums_at, decoded, features_in}
 use Rattle.zst_record.proofs.TableLaws.{length-head, length-end, length-sealed, sealed-front, sealed-sums, end-states, begin-features, begin-to}
 use Rattle.zst_record.proofs.DecodingLaws.{later-back}
 use Rattle.zst_record.proofs.BeginLaws.{begin-back}
-use Rattle.zst_stream.specs.Reading.{Reading, FrontOf, last, more, waiting, complete, same_sums, sum_fault, is_built, cover, finish, ruling, closing, begun, opened, after, reading_from, reading, prepend, sealed_next}
+use Rattle.zst_stream.specs.Reading.{Reading, FrontOf, last, more, waiting, complete, same_sums, sum_fault, cover, finish, ruling, closing, begun, opened, after, reading_from, reading, prepend, sealed_next}
 use Rattle.zst_stream.specs.Image.{Piece, record_after, piece_after, end_after, image_after, front_of, begin_head, image, covers_after, covers, PiecesFit, IsStream}
 use Rattle.zst_stream.proofs.Growth.{number-grown, front}
 use Rattle.zst_stream.specs.Laws.{piece_of, all_pieces}
@@ -98,10 +98,10 @@ sum-none before r rest o =
 -- ---- rulings
 
 ruling-piece : (before bytes payload rest : List ℕ) (head whole : Head) → length bytes ≡ 312 → decoded (length before) (features_in before) bytes ≡ Ok head
-    → is_built head ≡ true → closing head ≡ None → length payload ≡ payload_len head → opened head payload ≡ Ok whole → payload_len whole ≡ payload_len head
+    → closing head ≡ None → length payload ≡ payload_len head → opened head payload ≡ Ok whole → payload_len whole ≡ payload_len head
     → Opens (before ++ (bytes ++ payload)) rest → ruling before ((bytes ++ payload) ++ rest) ≡ more whole
 unfolding ruling cover sealed_next
-ruling-piece before bytes payload rest head whole size is built middle len sound same o =
+ruling-piece before bytes payload rest head whole size is middle len sound same o =
     let r = bytes ++ payload in
     let text = r ++ rest in
     let long = o.long in
@@ -117,7 +117,6 @@ ruling-piece before bytes payload rest head whole size is built middle len sound
       le-ltb (length text) 312 (omega arith),
       first,
       is,
-      built,
       middle,
       le-ltb (length text) (size_of head) (omega arith),
       body,
@@ -206,7 +205,7 @@ whole-from (p ∷ ps) (suc fuel) index before features to room b small fit =
     let size = length-record before p.head (length-head features p.head f.fits) in
     let len = f.len in
     let all : length r ≡ size_of p.head = omega (arith, length-append bytes p.payload) in
-    let ruled = ruling-piece before bytes p.payload rest p.head p.head size (record-decoded before features to p.head b f.later f.fits) f.built f.not_end f.len f.sound refl (image-opens (before ++ r) ps features to fit.1 small) in
+    let ruled = ruling-piece before bytes p.payload rest p.head p.head size (record-decoded before features to p.head b f.later f.fits) f.not_end f.len f.sound refl (image-opens (before ++ r) ps features to fit.1 small) in
     let body : take (payload_len p.head) (drop 312 (r ++ rest)) ≡ p.payload =
     ap (λ (t : List ℕ). take (payload_len p.head) (drop 312 t)) (append_assoc bytes p.payload rest)
     ∙ ap (take (payload_len p.head)) (drop_at bytes (p.payload ++ rest) 312 size) ∙ take_at p.payload rest (payload_len p.head) f.len in
@@ -227,10 +226,6 @@ begin-bare header len = refl
 begin-decoded : (features : ℕ) (header : Header) (len : ℕ) → BeginFits (bare header) len → decoded 0 features (head_bytes (heads.Begin header len)) ≡ Ok (heads.Begin (bare header) len)
 begin-decoded features header len fits =
     ap (decoded 0 features) (sym (begin-bare header len)) ∙ begin-back features (bare header) len fits
-
-bare-built : (header : Header) (len : ℕ) → is_built (heads.Begin header len) ≡ true → is_built (heads.Begin (bare header) len) ≡ true
-unfolding bare
-bare-built header len built = built
 
 -- what later records are judged by stands in BEGIN
 begin-begun : (header : Header) (len : ℕ) (payload : List ℕ) → BeginFits (bare header) len → Begun (head_bytes (heads.Begin header len) ++ payload) header.features header.to
@@ -265,7 +260,7 @@ whole header ps s =
     let all : length r ≡ size_of head = omega (arith, length-append bytes payload) in
     let begun : Begun r header.features header.to = begin-begun header len payload fits in
     let ruled : ruling [] (r ++ rest) ≡ more head =
-    ruling-piece [] bytes payload rest alone head size (begin-decoded (features_in []) header len fits) (bare-built header len s.begins.built) refl refl
+    ruling-piece [] bytes payload rest alone head size (begin-decoded (features_in []) header len fits) refl refl
     (begin-opened header len s.begins.payload) refl (image-opens r ps header.features header.to s.pieces_fit small) in
     let body : take (payload_len head) (drop 312 (r ++ rest)) ≡ payload =
     ap (λ (t : List ℕ). take (payload_len head) (drop 312 t)) (append_assoc bytes payload rest)

@@ -1,10 +1,7 @@
 -- A stream of items is read as these items.
-use Rattle.std.proofs.Common.{◌≡◌, ℕ, ◌+◌, ◌-◌, ◌*◌, ◌/◌, ◌^◌, ◌==◌, Bool, true, false, not, List, [], ◌∷◌, ◌++◌, length, take, replicate, inl, inr, refl, sym, ap, ◌∙◌, arith, append_assoc}
+use Rattle.std.proofs.Common.{◌≡◌, ℕ, ◌+◌, ◌-◌, ◌*◌, ◌/◌, ◌==◌, Bool, true, false, List, [], ◌∷◌, ◌++◌, length, take, replicate, refl, sym, ap, ◌∙◌, arith, append_assoc}
 use Rattle.std.specs.List.{All}
-use Rattle.std.specs.Prelude.{bit_and}
-use Rattle.std.specs.Int.Bits.{and_zero_l}
-use Rattle.std.proofs.lemmas.Nat.{and_assoc}
-use Rattle.std.proofs.lemmas.Bool.{and_parts, cond-true, cond-false, or_cases, ne_eqb}
+use Rattle.std.proofs.lemmas.Bool.{cond-true, cond-false, ne_eqb}
 use Rattle.std.proofs.lemmas.Bool.Decides.{nat_tests}
 use Rattle.std.proofs.lemmas.List.{take_at}
 use Rattle.std.proofs.lemmas.List.Elements.{All-head, All-tail, All-weaker}
@@ -14,19 +11,17 @@ use Rattle.zst_model.specs.declared.states.item.Change.{Change}
 use Rattle.zst_model.specs.declared.states.item.Change.TheVariants.{Put, Spill, FreeFrom, Free, Redact, Write}
 use Rattle.zst_model.specs.declared.states.item.Item.{Item}
 use Rattle.zst_model.specs.declared.states.item.Item.TheVariants.{FreeObjects, At}
-use Rattle.zst_model.specs.sends.Features.{redacts, resuming}
 use Rattle.zst_model.specs.sends.Items.{items}
 use Rattle.zst_model.specs.sends.View.{view_of}
-use Rattle.zst_record.specs.Decoding.{needs_payload}
 use Rattle.zst_record.specs.RecordValues.{Fits}
 use Rattle.zst_record.specs.Formats.{to_end}
 use Rattle.zst_record.specs.Heads.{Covered, payload_len}
-use Rattle.zst_record.specs.Payload.{bare, begin_payload}
+use Rattle.zst_record.specs.Payload.{begin_payload}
 use Rattle.zst_record.specs.Table.{padded}
 use Rattle.zst_record.proofs.SizeLaws.{block-bounded, spill-size-bounded}
 use Rattle.zst_record.proofs.TableLaws.{length-padded}
-use Rattle.zst_stream.specs.Image.{CanBegin, PieceFits, PiecesFit, front_of, covers, covers_after, piece_after}
-use Rattle.zst_stream.specs.Reading.{Reading, reading, opened, is_payload_built}
+use Rattle.zst_stream.specs.Image.{PieceFits, PiecesFit, front_of, covers, covers_after, piece_after}
+use Rattle.zst_stream.specs.Reading.{Reading, reading, opened}
 use Rattle.zst_stream.specs.Records.{Allows, item_head, item_payload, padded_bonus, piece_for, pieces_for, view_text}
 use Rattle.zst_stream.specs.Items.{keeps_spill, items_by, items_of, Says, ItemsAreRead, PayloadsFit, ViewIsStream, ViewIsRead, FirstItems}
 use Rattle.zst_stream.proofs.CarriedItems.{IsCarried, items_carried, items_fit}
@@ -97,35 +92,22 @@ item_whole features to (At k (Write offset type bytes)) f = (block-bounded (leng
 pub payloads_fit : PayloadsFit
 payloads_fit features to item f = (payload_fits to item, item_whole features to item f)
 
--- a stream that is built isn't redacted
-not_redacted : (header : Header) → CanBegin header → (bit_and header.features redacts == 0) ≡ true
-unfolding is_payload_built needs_payload redacts resuming bare
-not_redacted header can = elim (or_cases (length (begin_payload header) == 0) (is_payload_built header.features) can.built) [
-  | inl empty ↦
-      let none : needs_payload header.features ≡ false = can.begins.stated empty in
-      let mask : bit_and header.features (2 ^ 20 + 2 ^ 21) ≡ 0 = grind (arith, nat_tests, none) in
-      let part : bit_and header.features (2 ^ 21) ≡ 0 =
-      sym (and_assoc (2 ^ 21) header.features (2 ^ 20 + 2 ^ 21)) ∙ ap (λ (n : ℕ). bit_and n (2 ^ 21)) mask ∙ and_zero_l (2 ^ 21) in
-      ap (λ (n : ℕ). n == 0) part
-  | inr built ↦ (and_parts (not (bit_and header.features resuming == 0)) (bit_and header.features redacts == 0) built).1
-]
-
-piece_fits : (features to : ℕ) (item : Item) → (bit_and features redacts == 0) ≡ true → Allows features item → Fits features (item_head to item) → PieceFits features (piece_for to item)
+piece_fits : (features to : ℕ) (item : Item) → Allows features item → Fits features (item_head to item) → PieceFits features (piece_for to item)
 unfolding opened
-piece_fits features to (FreeObjects first count) none a f = record { later = tt; not_end = refl; built = refl; fits = f; len = refl; sound = refl }
-piece_fits features to (At k (Put head bonus keep max)) none a f = record { later = tt; not_end = refl; built = refl; fits = f; len = padded_len bonus; sound = refl }
-piece_fits features to (At k (Spill bytes)) none a f = record { later = tt; not_end = refl; built = refl; fits = f; len = refl; sound = refl }
-piece_fits features to (At k (FreeFrom offset)) none a f = record { later = tt; not_end = refl; built = refl; fits = f; len = refl; sound = refl }
-piece_fits features to (At k (Free offset count)) none a f = record { later = tt; not_end = refl; built = refl; fits = f; len = refl; sound = refl }
-piece_fits features to (At k (Redact offset count)) none a f = absurd (let bad : false ≡ true = rw none at a in (cc))
-piece_fits features to (At k (Write offset type bytes)) none a f = record { later = tt; not_end = refl; built = refl; fits = f; len = refl; sound = refl }
+piece_fits features to (FreeObjects first count) a f = record { later = tt; not_end = refl; fits = f; len = refl; sound = refl }
+piece_fits features to (At k (Put head bonus keep max)) a f = record { later = tt; not_end = refl; fits = f; len = padded_len bonus; sound = refl }
+piece_fits features to (At k (Spill bytes)) a f = record { later = tt; not_end = refl; fits = f; len = refl; sound = refl }
+piece_fits features to (At k (FreeFrom offset)) a f = record { later = tt; not_end = refl; fits = f; len = refl; sound = refl }
+piece_fits features to (At k (Free offset count)) a f = record { later = tt; not_end = refl; fits = f; len = refl; sound = refl }
+piece_fits features to (At k (Redact offset count)) a f = record { later = tt; not_end = refl; fits = f; len = refl; sound = refl }
+piece_fits features to (At k (Write offset type bytes)) a f = record { later = tt; not_end = refl; fits = f; len = refl; sound = refl }
 
-pieces_fit : (features to : ℕ) (sent : List Item) → (bit_and features redacts == 0) ≡ true → All (Allows features) sent → All (λ item. Fits features (item_head to item)) sent
+pieces_fit : (features to : ℕ) (sent : List Item) → All (Allows features) sent → All (λ item. Fits features (item_head to item)) sent
     → PiecesFit features (pieces_for to sent)
-pieces_fit features to [] none a f = tt
-pieces_fit features to (item ∷ rest) none a f = (
-  piece_fits features to item none (All-head (Allows features) item rest a) (All-head (λ item. Fits features (item_head to item)) item rest f),
-  pieces_fit features to rest none (All-tail (Allows features) item rest a) (All-tail (λ item. Fits features (item_head to item)) item rest f),
+pieces_fit features to [] a f = tt
+pieces_fit features to (item ∷ rest) a f = (
+  piece_fits features to item (All-head (Allows features) item rest a) (All-head (λ item. Fits features (item_head to item)) item rest f),
+  pieces_fit features to rest (All-tail (Allows features) item rest a) (All-tail (λ item. Fits features (item_head to item)) item rest f),
 )
 
 -- what is carried is said
@@ -144,10 +126,9 @@ both P Q xs f p k d lt = f k d lt (p k d lt)
 pub view_stream : ViewIsStream
 view_stream header snap choice point can =
     let sent = items (view_of header snap choice) point in
-    let none = not_redacted header can.begins in
     let fit = both (Allows header.features) (λ item. Fits header.features (item_head header.to item)) sent
     (items_fit header snap choice point can.lawful (small-to header (length (begin_payload header)) can.begins.begins)) can.allowed in (
-      record { begins = can.begins; pieces_fit = pieces_fit header.features header.to sent none can.allowed fit },
+      record { begins = can.begins; pieces_fit = pieces_fit header.features header.to sent can.allowed fit },
       All-weaker IsCarried (Says header.flags) (carried_says header.flags can.flags) sent (items_carried header snap choice point can.lawful),
     )
 

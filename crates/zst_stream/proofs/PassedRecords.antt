@@ -1,28 +1,25 @@
 -- What the covered records of a text have passed, and in which places they stand.
-use Rattle.std.proofs.Common.{◌≡◌, inl, inr, ℕ, zero, suc, ◌+◌, ◌/◌, ◌%◌, ◌^◌, ◌<◌, ◌≤◌, ◌==◌, ◌&&◌, ◌||◌, Bool, true, false, not, cond, List, [], ◌∷◌, ◌++◌, length, take, drop, Option, Some, None, Ok, Err, nat_lt, refl, sym, ap, ◌∙◌, subst, arith, length-append, length-take}
-use Rattle.std.specs.Prelude.{bit_and, slice_get}
+use Rattle.std.proofs.Common.{◌≡◌, inl, inr, ℕ, zero, suc, ◌+◌, ◌/◌, ◌%◌, ◌^◌, ◌<◌, ◌≤◌, ◌==◌, Bool, true, false, cond, List, [], ◌∷◌, ◌++◌, length, take, drop, Option, Some, None, Ok, Err, nat_lt, refl, sym, ap, ◌∙◌, subst, arith, length-append, length-take}
+use Rattle.std.specs.Prelude.{slice_get}
 use Rattle.std.specs.List.{All}
-use Rattle.std.proofs.lemmas.Bool.{and_parts, cases_eq, cases_lt, eqb-false, ne_eqb, not-true}
-use Rattle.std.proofs.lemmas.List.{nil_from_length, take-append-drop, take_all, length-take-le, length-drop}
+use Rattle.std.proofs.lemmas.Bool.{cases_lt}
+use Rattle.std.proofs.lemmas.List.{take-append-drop, take_all, length-take-le, length-drop}
 use Rattle.std.proofs.lemmas.List.Elements.{All-nil, All-cons, All-take, All-drop}
 use Rattle.zst_bytes.specs.Bytes.{number_at}
 use Rattle.zst_model.specs.declared.refusals.stream_fault.StreamFault.{StreamFault}
 use Rattle.zst_model.specs.declared.sends.header.Header.{Header}
-use Rattle.zst_model.specs.pools.Pool.{IsStated}
-use Rattle.zst_model.specs.sends.Features.{redacts, resuming}
 use Rattle.zst_record.specs.Payload as payloads
 use Rattle.zst_record.specs.Payload.{bare}
-use Rattle.zst_record.proofs.PayloadFields.{require-ok}
 use Rattle.zst_record.proofs.PayloadLaws.{bare-same, payload-written}
 use Rattle.zst_record.specs.declared.head.Head.{Head}
 use Rattle.zst_record.specs.declared.head.Head.TheVariants as heads
-use Rattle.zst_record.specs.Decoding.{Decoded, decoded, features_in, needs_payload}
+use Rattle.zst_record.specs.Decoding.{Decoded, decoded, features_in}
 use Rattle.zst_record.specs.RecordValues.{Fits, IsLater, BeginFits}
 use Rattle.zst_record.specs.Heads.{Covered, payload_len, size_of}
 use Rattle.zst_record.specs.Laws.{AreBytes, Begins, Follows}
 use Rattle.zst_record.proofs.RecordValueLaws.{begins, follows}
-use Rattle.zst_record.proofs.StatedHeaders.{begin-stated}
-use Rattle.zst_stream.specs.Reading.{Reading, Ruling, Closing, wait, refuse, last, more, unless, sum_fault, is_built, is_payload_built, begun, next_by, not_built, opened, sealed_next, cover, finish, rule_by, closing, judged, ruling, covered_at, covered_last, after, reading_from, reading}
+use Rattle.zst_record.proofs.StatedHeaders.{said-stated}
+use Rattle.zst_stream.specs.Reading.{Reading, Ruling, Closing, wait, refuse, last, more, unless, sum_fault, begun, next_by, opened, other_guid, sealed_next, cover, finish, rule_by, closing, judged, ruling, covered_at, covered_last, after, reading_from, reading}
 use Rattle.zst_stream.specs.PassedRecords.{StatesHeader, bare_head, HasPassed, IsBegin, IsInPlace}
 use Rattle.zst_stream.proofs.Growth.{number-grown, more-fits}
 
@@ -39,13 +36,12 @@ Rules M L (more head) = M head
 record IsMiddle (rest : List ℕ) (d : Decoded) (head : Head) : Type 0 where
   bare : Head
   is : d ≡ Ok bare
-  built : is_built bare ≡ true
   middle : closing bare ≡ None
   whole : opened bare (take (payload_len bare) (drop 312 rest)) ≡ Ok head
 
 -- or END
 abbrev IsFinal : Decoded → Head → Type 0
-IsFinal d head = (d ≡ Ok head) × (is_built head ≡ true) × ((c : Closing) × (closing head ≡ Some c))
+IsFinal d head = (d ≡ Ok head) × ((c : Closing) × (closing head ≡ Some c))
 
 abbrev IsRuled : List ℕ → Decoded → Ruling → Type 0
 IsRuled rest d r = Rules (IsMiddle rest d) (IsFinal d) r
@@ -58,30 +54,26 @@ ruled-unless : (rest : List ℕ) (d : Decoded) (o : Option StreamFault) (r : Rul
 ruled-unless rest d None r h = h
 ruled-unless rest d (Some fault) r h = tt
 
-ruled-next : (before rest : List ℕ) (bare : Head) (d : Decoded) → is_built bare ≡ true → closing bare ≡ None → opened bare (take (payload_len bare) (drop 312 rest)) ≡ d
+ruled-next : (before rest : List ℕ) (bare : Head) (d : Decoded) → closing bare ≡ None → opened bare (take (payload_len bare) (drop 312 rest)) ≡ d
     → IsRuled rest (Ok bare) (next_by before rest d)
 unfolding sealed_next
-ruled-next before rest bare (Ok head) built middle whole =
+ruled-next before rest bare (Ok head) middle whole =
     let end = size_of head + 280 in
     ruled-cond rest (Ok bare) (nat_lt (length rest) (size_of head + 312)) wait _ tt
-    (ruled-unless rest (Ok bare) (sum_fault before rest end end) (more head) (record { bare = bare; is = refl; built = built; middle = middle; whole = whole }))
-ruled-next before rest bare (Err fault) built middle whole = tt
+    (ruled-unless rest (Ok bare) (sum_fault before rest end end) (more head) (record { bare = bare; is = refl; middle = middle; whole = whole }))
+ruled-next before rest bare (Err fault) middle whole = tt
 
-ruled-by : (before rest : List ℕ) (head : Head) (o : Option Closing) → is_built head ≡ true → closing head ≡ o → IsRuled rest (Ok head) (rule_by before rest head o)
+ruled-by : (before rest : List ℕ) (head : Head) (o : Option Closing) → closing head ≡ o → IsRuled rest (Ok head) (rule_by before rest head o)
 unfolding cover finish
-ruled-by before rest head None built is =
+ruled-by before rest head None is =
     ruled-cond rest (Ok head) (nat_lt (length rest) (size_of head)) wait _ tt
-    (ruled-next before rest head (opened head (take (payload_len head) (drop 312 rest))) built is refl)
-ruled-by before rest head (Some c) built is =
+    (ruled-next before rest head (opened head (take (payload_len head) (drop 312 rest))) is refl)
+ruled-by before rest head (Some c) is =
     ruled-unless rest (Ok head) (sum_fault before rest 0 8) _
-    (ruled-cond rest (Ok head) (c.to == number_at before 40 8) (last head) (refuse (not_built before)) (refl, built, (c, is)) tt)
+    (ruled-cond rest (Ok head) (c.to == number_at before 40 8) (last head) (refuse (other_guid before)) (refl, (c, is)) tt)
 
 ruled-judged : (before rest : List ℕ) (d : Decoded) → IsRuled rest d (judged before rest d)
-ruled-judged before rest (Ok head) = by_test (is_built head) refl
-  where
-    by_test : (b : Bool) → is_built head ≡ b → IsRuled rest (Ok head) (cond b (rule_by before rest head (closing head)) (refuse (not_built before)))
-    by_test true built = ruled-by before rest head (closing head) built refl
-    by_test false built = tt
+ruled-judged before rest (Ok head) = ruled-by before rest head (closing head) refl
 ruled-judged before rest (Err fault) = tt
 
 -- what is covered was decoded from its 312 bytes
@@ -134,51 +126,24 @@ sound-begin features (heads.Redact object offset size to) b = absurd b
 -- a record that has passed, in its place
 record IsWhole (features place : ℕ) (head : Head) : Type 0 where
   fits : Fits features (bare_head head)
-  built : is_built head ≡ true
   stated : StatesHeader head
   first : place ≡ 0 → IsBegin head
   later : 0 < place → IsLater head
   middle : closing head ≡ None
 
--- no payload without the feature
-none-built : (features len : ℕ) → ((len == 0) || is_payload_built features) ≡ true → bit_and features resuming ≡ 0 → len ≡ 0
-unfolding is_payload_built
-none-built features len built none = elim (cases_eq len 0) [
-  | inl empty ↦ empty
-  | inr some ↦
-      let needs : (not (bit_and features resuming == 0) && (bit_and features redacts == 0)) ≡ true = rw (ne_eqb len 0 some) at built in
-      let resumed = not-true _ (and_parts (not (bit_and features resuming == 0)) (bit_and features redacts == 0) needs).0 in
-      absurd (eqb-false (bit_and features resuming) 0 resumed none)
-]
-
--- what BEGIN says without a payload
-opened-empty : (header said : Header) → payloads.opened header [] ≡ Ok said → header ≡ said
-unfolding payloads.opened
-opened-empty header said is = let e = require-ok (not (needs_payload header.features)) _ (Ok header) said is in cc e.1
-
-begin-kept : (header said : Header) (len : ℕ) (payload : List ℕ) → BeginFits header len → AreBytes header.name → ((len == 0) || is_payload_built header.features) ≡ true
-    → length payload ≤ len → payloads.opened header payload ≡ Ok said → bit_and said.features resuming ≡ 0 → said.features ≡ header.features → IsStated said
-begin-kept header said len payload fits name built short is none same =
-    let empty : len ≡ 0 = none-built header.features len built (ap (λ (n : ℕ). bit_and n resuming) (sym same) ∙ none) in
-    let nothing : payload ≡ [] = nil_from_length payload (omega arith) in
-    let again : header ≡ said = opened-empty header said (ap (payloads.opened header) (sym nothing) ∙ is) in
-    subst IsStated again (begin-stated header (subst (BeginFits header) empty fits) name)
-
 whole-begin : (features place len : ℕ) (header said : Header) (payload : List ℕ) → AreBytes payload → length payload ≤ len → IsSound features place (heads.Begin header len)
-    → is_built (heads.Begin header len) ≡ true → payloads.opened header payload ≡ Ok said → IsWhole features place (heads.Begin said len)
+    → payloads.opened header payload ≡ Ok said → IsWhole features place (heads.Begin said len)
 unfolding bare
-whole-begin features place len header said payload all short sound built is =
+whole-begin features place len header said payload all short sound is =
     let fits = sound.fits.1 in
     let alone : bare header ≡ header = bare-same header fits.no_resume fits.no_redact fits.no_from_redact in
     let has = payload-written header said payload all (ap (λ (h : Header). payloads.opened h payload) alone ∙ is) in
     let same : bare said ≡ header = has.over ∙ alone in
-    let kind : said.features ≡ header.features = ap (λ (h : Header). h.features) same in
     record {
       fits = subst (λ (h : Header). (features ≡ h.features) × BeginFits h len) (sym same) sound.fits;
-      built = ap (λ (n : ℕ). (len == 0) || is_payload_built n) kind ∙ built;
       stated = record {
         payload = has.stated;
-        kept = λ none. begin-kept header said len payload fits sound.name built short is none kind;
+        kept = λ none. said-stated header said len fits sound.name same has.stated none;
       };
       first = λ none. tt;
       later = λ some. sound.later some;
@@ -191,31 +156,30 @@ begun-is features place len whole (Ok said) is each = let same : heads.Begin sai
 begun-is features place len whole (Err fault) is each = absurd (cc is)
 
 -- a record other than BEGIN says with its payload what it says without
-whole-later : (features place : ℕ) (head whole : Head) → bare_head head ≡ head → StatesHeader head → IsSound features place head → is_built head ≡ true → closing head ≡ None
+whole-later : (features place : ℕ) (head whole : Head) → bare_head head ≡ head → StatesHeader head → IsSound features place head → closing head ≡ None
     → head ≡ whole → IsWhole features place whole
-whole-later features place head whole alone states sound built middle same =
+whole-later features place head whole alone states sound middle same =
     subst (IsWhole features place) same (record {
       fits = subst (Fits features) (sym alone) sound.fits;
-      built = built;
       stated = states;
       first = sound.first;
       later = sound.later;
       middle = middle;
     })
 
-is-whole : (features place : ℕ) (head whole : Head) (payload : List ℕ) → AreBytes payload → length payload ≤ payload_len head → IsSound features place head → is_built head ≡ true
+is-whole : (features place : ℕ) (head whole : Head) (payload : List ℕ) → AreBytes payload → length payload ≤ payload_len head → IsSound features place head
     → closing head ≡ None → opened head payload ≡ Ok whole → IsWhole features place whole
 unfolding opened
-is-whole features place (heads.Begin header len) whole payload all short sound built middle is =
-    begun-is features place len whole (payloads.opened header payload) is (λ said e. whole-begin features place len header said payload all short sound built e)
-is-whole features place (heads.Object object kind bonus_kind block_size bonus_len max_block to) whole payload all short sound built middle is =
-    whole-later features place _ whole refl tt sound built middle (cc is)
-is-whole features place (heads.FreeObjects first count to) whole payload all short sound built middle is = whole-later features place _ whole refl tt sound built middle (cc is)
-is-whole features place (heads.Write object kind offset size to) whole payload all short sound built middle is = whole-later features place _ whole refl tt sound built middle (cc is)
-is-whole features place (heads.Free object offset size to) whole payload all short sound built middle is = whole-later features place _ whole refl tt sound built middle (cc is)
-is-whole features place (heads.End sums to) whole payload all short sound built middle is = absurd cc
-is-whole features place (heads.Spill object size to) whole payload all short sound built middle is = whole-later features place _ whole refl tt sound built middle (cc is)
-is-whole features place (heads.Redact object offset size to) whole payload all short sound built middle is = absurd (cc built)
+is-whole features place (heads.Begin header len) whole payload all short sound middle is =
+    begun-is features place len whole (payloads.opened header payload) is (λ said e. whole-begin features place len header said payload all short sound e)
+is-whole features place (heads.Object object kind bonus_kind block_size bonus_len max_block to) whole payload all short sound middle is =
+    whole-later features place _ whole refl tt sound middle (cc is)
+is-whole features place (heads.FreeObjects first count to) whole payload all short sound middle is = whole-later features place _ whole refl tt sound middle (cc is)
+is-whole features place (heads.Write object kind offset size to) whole payload all short sound middle is = whole-later features place _ whole refl tt sound middle (cc is)
+is-whole features place (heads.Free object offset size to) whole payload all short sound middle is = whole-later features place _ whole refl tt sound middle (cc is)
+is-whole features place (heads.End sums to) whole payload all short sound middle is = absurd cc
+is-whole features place (heads.Spill object size to) whole payload all short sound middle is = whole-later features place _ whole refl tt sound middle (cc is)
+is-whole features place (heads.Redact object offset size to) whole payload all short sound middle is = whole-later features place _ whole refl tt sound middle (cc is)
 
 -- END says with nothing what it says
 final : (head : Head) (c : Closing) → closing head ≡ Some c → (bare_head head ≡ head) × StatesHeader head
@@ -251,9 +215,9 @@ module _ (features index : ℕ) (before rest : List ℕ) (all : AreBytes rest) (
   last-stands head count place is counted at =
       let f = is-ruled before rest (last head) is in
       let s = sound head f.0 in
-      let end = final head f.2.0 f.2.1 in
+      let end = final head f.1.0 f.1.1 in
       record {
-        passed = record { fits = subst (Fits features) (sym end.0) s.fits; built = f.1; len = last-empty head f.2.0 f.2.1; stated = end.1 };
+        passed = record { fits = subst (Fits features) (sym end.0) s.fits; len = last-empty head f.1.0 f.1.1; stated = end.1 };
         in_place = record { index = sym at; first = λ none. s.first (omega arith); later = λ some. s.later (omega arith); last = inr (omega arith) };
       }
 
@@ -264,12 +228,11 @@ module _ (features index : ℕ) (before rest : List ℕ) (all : AreBytes rest) (
       let bytes : AreBytes payload =
       All-take (λ byte. byte < 2 ^ 8) (payload_len f.bare) (drop 312 rest) (All-drop (λ byte. byte < 2 ^ 8) 312 rest all) in
       let short : length payload ≤ payload_len f.bare = omega (arith, length-take (payload_len f.bare) (drop 312 rest)) in
-      let s = is-whole features index f.bare head payload bytes short (sound f.bare f.is) f.built f.middle f.whole in
+      let s = is-whole features index f.bare head payload bytes short (sound f.bare f.is) f.middle f.whole in
       let room = more-fits before rest head is in
       record {
         passed = record {
           fits = s.fits;
-          built = s.built;
           len = length-take-le (payload_len head) (drop 312 rest) (omega (arith, length-drop 312 rest));
           stated = s.stated;
         };

@@ -1,5 +1,5 @@
 -- The bytes of a stream as they are written, and the records that they are.
-use Rattle.std.specs.Prelude.{ℕ, ◌+◌, ◌≡◌, true, List, [], ◌∷◌, ◌++◌, length, take, None, Ok}
+use Rattle.std.specs.Prelude.{ℕ, ◌+◌, ◌≡◌, List, [], ◌∷◌, ◌++◌, length, take, None, Ok}
 use Rattle.zst_fletcher.specs.WeightSum.{weight_sum, parts_of}
 use Rattle.zst_model.specs.declared.sends.header.Header.{Header}
 use Rattle.zst_record.specs.declared.head.Head.{Head}
@@ -9,7 +9,7 @@ use Rattle.zst_record.specs.Heads.{Covered, payload_len}
 use Rattle.zst_record.specs.Payload.{StatesPayload, bare, begin_payload}
 use Rattle.zst_record.specs.Table.{head_bytes, sealed_bytes}
 use Rattle.zst_record.specs.RecordValues.{Fits, IsLater, BeginFits}
-use Rattle.zst_stream.specs.Reading.{closing, is_built, opened}
+use Rattle.zst_stream.specs.Reading.{closing, opened}
 
 -- a record and its payload
 pub record Piece : Type 0 where
@@ -60,7 +60,6 @@ covers header pieces =
 pub record PieceFits (features : ℕ) (p : Piece) : Type 0 where
   pub later : IsLater p.head
   pub not_end : closing p.head ≡ None
-  pub built : is_built p.head ≡ true
   pub fits : Fits features p.head
   pub len : length p.payload ≡ payload_len p.head
   pub sound : opened p.head p.payload ≡ Ok p.head
@@ -69,11 +68,10 @@ abbrev pub PiecesFit : ℕ → List Piece → Type 0
 PiecesFit features [] = Unit {0}
 PiecesFit features (p ∷ ps) = PieceFits features p × PiecesFit features ps
 
--- a header that BEGIN states with its payload, in a form that is built
+-- a header that BEGIN states with its payload
 pub record CanBegin (header : Header) : Type 0 where
   pub begins : BeginFits (bare header) (length (begin_payload header))
   pub payload : StatesPayload header
-  pub built : is_built (begin_head header) ≡ true
 
 -- a header and pieces that a stream can state
 pub record IsStream (header : Header) (pieces : List Piece) : Type 0 where

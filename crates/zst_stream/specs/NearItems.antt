@@ -1,5 +1,5 @@
 -- How far the items of a view reach.
-use Rattle.std.specs.Prelude.{ℕ, ◌+◌, ◌*◌, ◌≤◌, length}
+use Rattle.std.specs.Prelude.{◌+◌, ◌*◌, ◌≤◌, length}
 use Rattle.std.specs.List.{All}
 use Rattle.zst_model.specs.declared.sends.header.Header.{Header}
 use Rattle.zst_model.specs.declared.sends.header.Point.{Point}

@@ -1,5 +1,5 @@
 -- What the covered records of a text have passed, and in which places they stand.
-use Rattle.std.specs.Prelude.{ℕ, ◌+◌, ◌≡◌, ◌⊎◌, ◌<◌, true, List, length, Some, None, slice_get, bit_and, All}
+use Rattle.std.specs.Prelude.{ℕ, ◌+◌, ◌≡◌, ◌⊎◌, ◌<◌, List, length, Some, None, slice_get, bit_and, All}
 use Rattle.zst_model.specs.declared.sends.header.Header.{Header}
 use Rattle.zst_model.specs.pools.Pool.{IsStated}
 use Rattle.zst_model.specs.sends.Features.{resuming}
@@ -10,7 +10,7 @@ use Rattle.zst_record.specs.RecordValues.{Fits, IsLater}
 use Rattle.zst_record.specs.Heads.{Covered, payload_len}
 use Rattle.zst_record.specs.Laws.{AreBytes}
 use Rattle.zst_record.specs.Payload.{StatesPayload, bare}
-use Rattle.zst_stream.specs.Reading.{reading, closing, is_built}
+use Rattle.zst_stream.specs.Reading.{reading, closing}
 
 -- a header that BEGIN states with its payload: one that a pool can keep where the stream isn't resumed
 pub record StatesBegin (header : Header) : Type 0 where
@@ -27,10 +27,9 @@ abbrev pub bare_head : Head → Head
 bare_head (heads.Begin header len) = heads.Begin (bare header) len
 bare_head head = head
 
--- a record that fits a stream with these features (a BEGIN has these) by its 312 bytes and is of a form that is built, with a payload as long as it says
+-- a record that fits a stream with these features (a BEGIN has these) by its 312 bytes, with a payload as long as it says
 pub record HasPassed (features : ℕ) (c : Covered) : Type 0 where
   pub fits : Fits features (bare_head c.head)
-  pub built : is_built c.head ≡ true
   pub len : length c.payload ≡ payload_len c.head
   pub stated : StatesHeader c.head
 

@@ -1,9 +1,8 @@
 -- A stream, read from its front: which records are covered, and how the reading ends.
-use Rattle.std.specs.Prelude.{ℕ, ◌+◌, ◌==◌, ◌&&◌, ◌||◌, ◌≡◌, ◌⊎◌, Bool, true, false, not, if◌then◌else◌, List, [], ◌∷◌, ◌++◌, length, take, drop, Option, Some, None, Ok, Err, nat_lt, slice_index, bit_and, zero, suc}
+use Rattle.std.specs.Prelude.{ℕ, ◌+◌, ◌==◌, ◌&&◌, ◌≡◌, ◌⊎◌, Bool, if◌then◌else◌, List, [], ◌∷◌, ◌++◌, length, take, drop, Option, Some, None, Ok, Err, nat_lt, slice_index, zero, suc}
 use Rattle.zst_fletcher.specs.WeightSum.{weight_sum, parts_of}
 use Rattle.zst_bytes.specs.Bytes.{number_at}
-use Rattle.zst_model.specs.declared.refusals.faults.Lack.TheVariants as lacks
-use Rattle.zst_model.specs.sends.Features.{redacts, resuming}
+use Rattle.zst_model.specs.declared.refusals.faults.Flaw.TheVariants as flaws
 use Rattle.zst_record.specs.Formats.{record_len, summed_len}
 use Rattle.zst_record.specs.Heads.{Covered, payload_len, size_of}
 use Rattle.zst_record.specs.Decoding.{Decoded, sums_at, decoded, features_in}
@@ -12,7 +11,7 @@ use Rattle.zst_record.specs.Payload.{Opened}
 use Rattle.zst_record.specs.declared.head.Head.{Head}
 use Rattle.zst_record.specs.declared.head.Head.TheVariants as heads
 use Rattle.zst_model.specs.declared.refusals.stream_fault.StreamFault.{StreamFault}
-use Rattle.zst_model.specs.declared.refusals.stream_fault.StreamFault.TheVariants.{Checksum, Unsupported}
+use Rattle.zst_model.specs.declared.refusals.stream_fault.StreamFault.TheVariants.{Checksum, Grammar}
 
 -- ---- outcomes
 
@@ -61,24 +60,9 @@ compared at stated found = if same_sums found stated then None else Some (Checks
 unfoldable pub sum_fault : List ℕ → List ℕ → ℕ → ℕ → Option StreamFault
 sum_fault before rest n place = compared (length before + place) (sums_at rest place) (parts_of (weight_sum (before ++ take n rest)))
 
--- a record of a form that isn't built yet, or that fails a check other than a checksum
-abbrev pub not_built : List ℕ → StreamFault
-not_built before = Unsupported (length before) lacks.NotBuilt
-
--- a payload of BEGIN is built where the stream is resumed and isn't redacted
-unfoldable pub is_payload_built : ℕ → Bool
-is_payload_built features = not (bit_and features resuming == 0) && (bit_and features redacts == 0)
-
--- the forms that are built
-abbrev pub is_built : Head → Bool
-is_built (heads.Begin header len) = (len == 0) || is_payload_built header.features
-is_built (heads.Object object kind bonus_kind block_size bonus_len max_block to) = true
-is_built (heads.FreeObjects first count to) = true
-is_built (heads.Write object kind offset size to) = true
-is_built (heads.Free object offset size to) = true
-is_built (heads.End sums to) = true
-is_built (heads.Spill object size to) = true
-is_built (heads.Redact object offset size to) = false
+-- E17: END states another guid than BEGIN
+abbrev pub other_guid : List ℕ → StreamFault
+other_guid before = Grammar (length before + 40) flaws.Guid
 
 -- what END states
 pub record Closing : Type 0 where
@@ -114,7 +98,7 @@ sealed_next before rest head =
 
 abbrev pub next_by : List ℕ → List ℕ → Decoded → Ruling
 next_by before rest (Ok head) = sealed_next before rest head
-next_by before rest (Err fault) = refuse (not_built before)
+next_by before rest (Err fault) = refuse fault
 
 -- Before that its payload is whole, and passes its own checks.
 unfoldable pub cover : List ℕ → List ℕ → Head → Ruling
@@ -125,15 +109,15 @@ cover before rest head =
 -- END states the sums of all that stands before it, and BEGIN's guid.
 unfoldable pub finish : List ℕ → List ℕ → Head → Closing → Ruling
 finish before rest head c =
-    unless (sum_fault before rest 0 8) (if c.to == number_at before 40 8 then last head else refuse (not_built before))
+    unless (sum_fault before rest 0 8) (if c.to == number_at before 40 8 then last head else refuse (other_guid before))
 
 abbrev pub rule_by : List ℕ → List ℕ → Head → Option Closing → Ruling
 rule_by before rest head None = cover before rest head
 rule_by before rest head (Some c) = finish before rest head c
 
 abbrev pub judged : List ℕ → List ℕ → Decoded → Ruling
-judged before rest (Ok head) = if is_built head then rule_by before rest head (closing head) else refuse (not_built before)
-judged before rest (Err fault) = refuse (not_built before)
+judged before rest (Ok head) = rule_by before rest head (closing head)
+judged before rest (Err fault) = refuse fault
 
 -- What is found at the front of the rest: a record is judged once its bytes but the payload's are there.
 unfoldable pub ruling : List ℕ → List ℕ → Ruling

@@ -8,10 +8,8 @@ ghost use Rattle.zst_stream.specs.NearItems.{ItemsAreNear};
 ghost use Rattle.zst_stream.specs.Laws.{FrontsAgree, FaultsAreFound, ImageIsRead, FrontIsRead, CoversArePieces, FirstPieces, PieceGoesOn};
 ghost use Rattle.zst_stream.specs.PassedRecords.{CoveredFit, CoveredInOrder};
 
-mod forms;
 mod item_ref;
 
-pub use forms::is_form_built;
 pub use item_ref::{ItemRef, head_of, pad_bonus};
 
 /// However a text goes on, the reading of a front of it is a front of its reading.

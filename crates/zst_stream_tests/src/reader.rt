@@ -1,7 +1,10 @@
+mod faulty_records;
 mod input_reads;
 mod inputs;
 mod payloads;
 mod readers;
+mod redacted_streams;
+mod refusals;
 mod resumed_streams;
 mod streams;
 

@@ -1,3 +1,4 @@
+mod later_records;
 mod payload;
 mod records;
 

@@ -1,14 +1,12 @@
 // Streams whose BEGIN has a payload.
-use super::payloads::{PAYLOAD, hand_out_resumed, is_refused_by};
+use super::payloads::{PAYLOAD, hand_out_resumed};
 use super::readers::{open_reader, push_all};
-use super::streams::{PLAIN, Stream};
+use super::refusals::{grammar, is_refused_by, unsupported};
+use super::streams::{PLAIN, REDACTED, RESUMED, Stream};
 use std::alloc::Global;
 use std::process::Abort;
 use std::test::Fail;
-use zst_model::Point;
-
-// RESUMING is bit 20 of the features, REDACTED bit 21.
-const RESUMED: u64 = PLAIN + (1 << 22);
+use zst_model::{Flaw, Lack, Point};
 
 const BOTH: u64 = RESUMED + (1 << 23);
 
@@ -41,19 +39,42 @@ fn begin_says_where_a_stream_is_resumed(rt: HostRuntime) -> Result<(), Fail> {
 }
 
 #[test]
-fn other_payloads_are_not_built(rt: HostRuntime) -> Result<(), Fail> {
-    // What a payload says is judged once it is whole, and whether there may be one once BEGIN's 312 bytes are there.
-    for (what, version, place, byte, count) in [
-        ("another magic", RESUMED, 0, b'z', 352),
-        ("an object over 2 ^ 48", RESUMED, 14, 1, 352),
-        ("not resumed", PLAIN, 0, b'Z', 312),
-        ("redacted", BOTH, 0, b'Z', 312),
+fn a_payload_of_begin_is_refused_for_what_it_says(rt: HostRuntime) -> Result<(), Fail> {
+    let foreign = unsupported(312, Lack::ForeignPayload);
+    let wrong = grammar(312, Flaw::Payload);
+    // What a payload says is judged once it is whole.
+    for (what, version, place, byte, fault) in [
+        ("another magic", RESUMED, 0, b'z', foreign),
+        ("an object over 2 ^ 48", RESUMED, 14, 1, wrong),
+        ("a guid that isn't there", RESUMED, 32, 1, wrong),
+        ("not resumed", PLAIN, 0, b'Z', wrong),
+        ("redacted for no guid", BOTH, 0, b'Z', wrong),
     ] {
         let mut payload = *PAYLOAD;
         payload[place] = byte;
+        let stream = Stream::begin_with(&rt, rt.alloc(), version, &payload)?;
         assert!(rt;
-            is_refused_by(&rt, rt.alloc(), version, &payload, count)?,
+            is_refused_by(&rt, rt.alloc(), &stream, 352, 0, fault),
             "{what}"
+        );
+    }
+    Ok(())
+}
+
+#[test]
+fn a_payload_of_another_length_is_refused_before_it_is_read(rt: HostRuntime) -> Result<(), Fail> {
+    let foreign = unsupported(4, Lack::ForeignPayload);
+    for (length, version, fault) in [
+        (0, RESUMED, grammar(4, Flaw::Payload)),
+        (0, REDACTED, grammar(4, Flaw::Payload)),
+        (32, RESUMED, foreign),
+        (36, PLAIN, foreign),
+    ] {
+        let (payload, _) = PAYLOAD.split_at(length);
+        let stream = Stream::begin_with(&rt, rt.alloc(), version, payload)?;
+        assert!(rt;
+            is_refused_by(&rt, rt.alloc(), &stream, 312, 0, fault),
+            "{length} bytes"
         );
     }
     Ok(())

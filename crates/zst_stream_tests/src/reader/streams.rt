@@ -1,5 +1,5 @@
 // Streams of the tests' own.
-use crate::fields::{GUID, set_all};
+use crate::fields::{Field, GUID, set_all};
 use std::alloc::Global;
 use std::process::Abort;
 use std::test::Fail;
@@ -33,12 +33,24 @@ impl Stream {
         version: u64,
         payload: &[u8],
     ) -> Result<Stream, Fail> {
+        Stream::begin_from(rt, alloc, version, 0, payload)
+    }
+
+    /// The same from this guid.
+    pub(super) fn begin_from(
+        rt: &impl Abort,
+        alloc: Global,
+        version: u64,
+        from: u64,
+        payload: &[u8],
+    ) -> Result<Stream, Fail> {
         let mut smallest = smallest_stream(rt);
-        set_all(
-            rt,
-            &mut smallest,
-            &[(4, 4, payload.len() as u64), (16, 8, version)],
-        );
+        let fields = [
+            (4, 4, payload.len() as u64),
+            (16, 8, version),
+            (48, 8, from),
+        ];
+        set_all(rt, &mut smallest, &fields);
         let (begin, _) = smallest.split_at(RECORD_LEN);
         let mut stream = Stream::new(alloc);
         stream.add(rt, begin)?;
@@ -57,12 +69,24 @@ impl Stream {
     fn put(&mut self, rt: &impl Abort, head: &Head, payload: &[u8]) -> Result<(), Fail> {
         let mut record = [0; RECORD_LEN];
         encode(head, &mut record);
+        self.seal(rt, record)?;
+        self.add(rt, payload)
+    }
+
+    /// A record of these fields with its sum, whatever they say.
+    pub(super) fn put_fields(&mut self, rt: &impl Abort, fields: &[Field]) -> Result<(), Fail> {
+        let mut record = [0; RECORD_LEN];
+        set_all(rt, &mut record, fields);
+        self.seal(rt, record)
+    }
+
+    fn seal(&mut self, rt: &impl Abort, bytes: [u8; RECORD_LEN]) -> Result<(), Fail> {
+        let mut record = bytes;
         let (front, _) = record.split_at(SUMMED_LEN);
         self.add(rt, front)?;
         put_sums(&mut record, SUMMED_LEN, &self.sum.parts());
         let (_, stated) = record.split_at(SUMMED_LEN);
-        self.add(rt, stated)?;
-        self.add(rt, payload)
+        self.add(rt, stated)
     }
 
     /// A block of object 1.
@@ -93,11 +117,27 @@ impl Stream {
         self.put(rt, &head, &[])
     }
 
+    /// A block of object 1 that is redacted.
+    pub(super) fn redact(&mut self, rt: &impl Abort, offset: u64) -> Result<(), Fail> {
+        let head = Head::Redact {
+            object: 1,
+            offset,
+            length: 512,
+            to: GUID,
+        };
+        self.put(rt, &head, &[])
+    }
+
     /// END, which states the sum of all before it.
     pub(super) fn end(&mut self, rt: &impl Abort) -> Result<(), Fail> {
+        self.end_to(rt, GUID)
+    }
+
+    /// The same with this guid.
+    pub(super) fn end_to(&mut self, rt: &impl Abort, to: u64) -> Result<(), Fail> {
         let head = Head::End {
             sums: self.sum.parts(),
-            to: GUID,
+            to,
         };
         self.put(rt, &head, &[])
     }
@@ -105,6 +145,12 @@ impl Stream {
 
 /// `drr_versioninfo` of the smallest stream. The features stand above its lowest two bits.
 pub(super) const PLAIN: u64 = 17;
+
+/// That of a resumed stream: RESUMING is bit 20 of the features.
+pub(super) const RESUMED: u64 = PLAIN + (1 << 22);
+
+/// That of a redacted one: REDACTED is bit 21.
+pub(super) const REDACTED: u64 = PLAIN + (1 << 23);
 
 /// The smallest stream: BEGIN of `t/a@s` and END, with the sums that a sender of OpenZFS states.
 pub(super) fn smallest_stream(rt: &impl Abort) -> [u8; 624] {

@@ -12,12 +12,15 @@ pub(super) enum Found {
     Lack(u64, Lack),
 }
 
-/// What is judged of a record that begins there.
+// REDACTED, bit 21 of the features: without it every REDACT is refused.
+const FEATURES: u32 = 1 << 21;
+
+/// What is judged of a record that begins there, in a redacted stream.
 pub(super) fn fault_of(record: &[u8; 312], at: u64) -> Option<StreamFault> {
     if at > 1 << 62 {
         return None;
     }
-    decode(record, at, 0).err()
+    decode(record, at, FEATURES).err()
 }
 
 /// Whether a record that begins there is judged so.
@@ -52,11 +55,26 @@ pub(super) fn judge(rt: &impl Abort, good: &[u8; 312], at: u64, table: &[(Field,
     }
 }
 
+/// Breaks one field after the other in a record that passes, those that are checked last first: what is found is always the
+/// fault that is checked first.
+pub(super) fn judge_order(rt: &impl Abort, good: &[u8; 312], at: u64, table: &[(Field, Found)]) {
+    let mut record = *good;
+    for (field, want) in table {
+        set(rt, &mut record, field);
+        assert!(rt; is_found(&record, at, want), "{field:?}");
+    }
+}
+
+/// A record of these fields.
+pub(super) fn record_of(rt: &impl Abort, fields: &[Field]) -> [u8; 312] {
+    let mut record = [0; 312];
+    set_all(rt, &mut record, fields);
+    record
+}
+
 pub(super) fn object_record(rt: &impl Abort) -> [u8; 312] {
     let fields = [(0, 4, 1), (8, 8, 1), (16, 4, 19), (24, 4, 512), (34, 1, 1)];
-    let mut record = [0; 312];
-    set_all(rt, &mut record, &fields);
-    record
+    record_of(rt, &fields)
 }
 
 /// BEGIN of the smallest stream.
@@ -70,7 +88,5 @@ pub(super) fn begin_record(rt: &impl Abort) -> [u8; 312] {
         (40, 8, GUID),
         (56, 5, 0x73_4061_2f74),
     ];
-    let mut record = [0; 312];
-    set_all(rt, &mut record, &fields);
-    record
+    record_of(rt, &fields)
 }
