@@ -7,9 +7,12 @@ pub mod RedactionSteps
 pub mod Aborts
 pub mod AlikePools
 pub mod AcceptedCommands
+pub mod AcceptedRedactions
 pub mod AcceptedRemovals
 pub mod Filters
 pub mod Lookups
+pub mod Redactions
+pub mod RefusedSends
 pub mod SendPlans
 pub mod Lineages
 pub mod CommitCounts

@@ -24,6 +24,7 @@ pub mod ReceivedRecords
 pub mod RedactExample
 pub mod RedactionLists
 pub mod RedactionSteps
+pub mod Redactions
 pub mod RememberedStates
 pub mod ResumedSends
 pub mod SendExample

@@ -3,12 +3,11 @@ use Rattle.std.specs.Prelude.{◌≡◌, ℕ, ◌<◌, true, List, map, length, 
 use Rattle.zst_model.specs.fields.Lists.{has_pair}
 use Rattle.zst_model.specs.pools.Ancestry.{Source, OfSnapshot, OfBookmark, number_of_source}
 use Rattle.zst_model.specs.pools.Pool.{Pool, Snapshot, Bookmark, IsPool}
-use Rattle.zst_model.specs.pools.RedSet.{red_set}
+use Rattle.zst_model.specs.pools.RedSet.{objects_of, red_set}
 use Rattle.zst_model.specs.pools.Soundness.{Sound}
 use Rattle.zst_model.specs.sends.Headers.{Sent, IsOf, choice_of}
 use Rattle.zst_model.specs.sends.Inclusion.{Pairs}
 use Rattle.zst_model.specs.sends.Target.{BaseOk, CanRedact, redacted}
-use Rattle.zst_model.specs.states.DatedState.{DatedState}
 use Rattle.zst_model.specs.states.State.{Object, State, IsState, is_user_data}
 use Rattle.zst_laws.specs.Meanings.{RedactsUserData}
 use Rattle.zst_laws.specs.RememberedStates.{IsOwn, SourceRemembers}
@@ -24,10 +23,6 @@ pub record AreRedactions (pool : Pool) (own : Snapshot) (guids : List ℕ) (reda
   pub there : (redaction : Snapshot) → Contains redactions redaction → Contains pool.snapshots redaction
   pub later : (redaction : Snapshot) → Contains redactions redaction → StandsBeforeSnapshot pool (OfSnapshot own) redaction
   pub alone : (other : Snapshot) → Contains pool.snapshots other → StandsBeforeSnapshot pool (OfSnapshot own) other → Contains guids other.guid → Contains redactions other
-
--- the dated states of snapshots
-abbrev pub objects_of : List Snapshot → List DatedState
-objects_of snapshots = map (λ snapshot. snapshot.objects) snapshots
 
 -- a bookmark lists what these redaction snapshots leave of its own snapshot
 abbrev pub Lists : Bookmark → Snapshot → List Snapshot → Type 0

@@ -1,16 +1,19 @@
--- What the plan of a send gives, and where its source is refused.
-use Rattle.std.specs.Prelude.{◌≡◌, ◌↔◌, true, [], Option, Some, IfSome, option_map, Ok, Err, Contains}
+-- What the plan of a send gives, and for what it is refused, in which order.
+use Rattle.std.specs.Prelude.{◌≡◌, ◌↔◌, ℕ, true, List, [], Option, Some, IfSome, option_map, Result, Ok, Err, Contains}
+use Rattle.zst_model.specs.declared.refusals.faults.Lack.TheVariants as lacks
+use Rattle.zst_model.specs.declared.refusals.subjects.AbsentSubject.TheVariants as missing
 use Rattle.zst_model.specs.declared.refusals.subjects.Name.{Name}
 use Rattle.zst_model.specs.declared.refusals.subjects.Name.TheVariants as names
+use Rattle.zst_model.specs.declared.refusals.plan_fault.PlanFault.{PlanFault}
 use Rattle.zst_model.specs.declared.refusals.plan_fault.PlanFault.TheVariants as plans
 use Rattle.zst_model.specs.declared.sends.ask.FromName.{FromName}
 use Rattle.zst_model.specs.declared.sends.ask.FromName.TheVariants.{Snap, Book}
 use Rattle.zst_model.specs.declared.sends.ask.SendAsk.{SendAsk}
 use Rattle.zst_model.specs.pools.Ancestry.{Source, OfSnapshot, OfBookmark, IsIn, StandsBefore}
-use Rattle.zst_model.specs.pools.Pool.{Pool, Snapshot, Bookmark, IsPool, dataset_of_snapshot}
+use Rattle.zst_model.specs.pools.Pool.{Pool, Snapshot, Bookmark, HasSnapshot, IsPool, dataset_of_snapshot}
 use Rattle.zst_model.specs.pools.Soundness.{Sound}
-use Rattle.zst_model.specs.sends.Headers.{Sent, IsOf}
-use Rattle.zst_model.specs.sends.SendPlan.{comes_before, find_snapshot, find_source, find_redaction, name_of_source, send_plan}
+use Rattle.zst_model.specs.sends.Headers.{Sent, IsOf, IsRedactionOf}
+use Rattle.zst_model.specs.sends.SendPlan.{comes_before, find_snapshot, find_source, find_redaction, kind_of, name_of_source, send_plan}
 
 -- a source stands before a snapshot of the pool
 abbrev pub StandsBeforeSnapshot : Pool → Source → Snapshot → Type 0
@@ -52,3 +55,82 @@ AncestorIsWanted =
     (ask : SendAsk) (pool : Pool) (snapshot : Snapshot) (source : Source) (redaction : Option Bookmark) → IsPool pool → Sound pool
     → find_snapshot ask.snap pool ≡ Ok snapshot → find_source ask.from pool ≡ Ok (Some source) → find_redaction ask.redact pool ≡ Ok redaction
     → (send_plan ask pool ≡ Err (plans.NotAncestor (names.Snapshot snapshot.name) (name_of_source source))) ↔ (StandsBeforeSnapshot pool source snapshot → ⊥)
+
+-- ---- for what a send is refused, and in which order
+
+-- some bookmark of the pool has this name
+abbrev pub HasBookmark : Pool → List ℕ → Type 0
+HasBookmark pool name = (bookmark : Bookmark) × Contains pool.bookmarks bookmark × (bookmark.name ≡ name)
+
+-- the pool has the source that is named
+abbrev pub HasNamed : Pool → FromName → Type 0
+HasNamed pool (Snap name) = HasSnapshot pool name
+HasNamed pool (Book name) = HasBookmark pool name
+
+-- E3 of this name
+abbrev pub lacks_named : Name → Result Sent PlanFault
+lacks_named name = Err (plans.NoSuch (missing.Named name))
+
+-- first E3 of the snapshot, whatever else is asked for
+abbrev pub SnapshotIsWanted : Type 0
+SnapshotIsWanted = (ask : SendAsk) (pool : Pool) → (HasSnapshot pool ask.snap → ⊥) → send_plan ask pool ≡ lacks_named (names.Snapshot ask.snap)
+
+-- then E3 of the source
+abbrev pub SourceIsWanted : Type 0
+SourceIsWanted =
+    (ask : SendAsk) (pool : Pool) (from : FromName)
+    → HasSnapshot pool ask.snap → ask.from ≡ Some from → (HasNamed pool from → ⊥) → send_plan ask pool ≡ lacks_named (name_of_from from)
+
+-- then E3 of the bookmark of `--redact`
+abbrev pub BookmarkIsWanted : Type 0
+BookmarkIsWanted =
+    (ask : SendAsk) (pool : Pool) (name : List ℕ)
+    → HasSnapshot pool ask.snap → IfSome ask.from (HasNamed pool) → ask.redact ≡ Some name → (HasBookmark pool name → ⊥)
+    → send_plan ask pool ≡ lacks_named (names.Bookmark name)
+
+-- what the names of an ask stand for in the pool, all of which is there
+pub record IsAsked (pool : Pool) (ask : SendAsk) (snapshot : Snapshot) (source : Option Source) (redaction : Option Bookmark) : Type 0 where
+  pub sends : Contains pool.snapshots snapshot × (snapshot.name ≡ ask.snap)
+  pub comes_from : IfSome source (IsIn pool) × (option_map name_of_source source ≡ option_map name_of_from ask.from)
+  pub redacts_by : IfSome redaction (Contains pool.bookmarks) × (option_map (λ bookmark. bookmark.name) redaction ≡ ask.redact)
+
+-- then E6, whatever bookmark is asked for and whatever is redacted
+abbrev pub SourceIsLater : Type 0
+SourceIsLater =
+    (ask : SendAsk) (pool : Pool) (snapshot : Snapshot) (source : Source) (redaction : Option Bookmark)
+    → IsPool pool → Sound pool → IsAsked pool ask snapshot (Some source) redaction
+    → (StandsBeforeSnapshot pool source snapshot → ⊥)
+    → send_plan ask pool ≡ Err (plans.NotAncestor (names.Snapshot snapshot.name) (name_of_source source))
+
+-- then E7, whatever is redacted
+abbrev pub BookmarkIsOther : Type 0
+BookmarkIsOther =
+    (ask : SendAsk) (pool : Pool) (snapshot : Snapshot) (source : Option Source) (bookmark : Bookmark)
+    → IsPool pool → Sound pool → IsAsked pool ask snapshot source (Some bookmark)
+    → IfSome source (λ from. StandsBeforeSnapshot pool from snapshot)
+    → (IsRedactionOf pool snapshot bookmark → ⊥)
+    → send_plan ask pool ≡ Err (plans.NotRedactionOf bookmark.name snapshot.name)
+
+-- what is asked for is there, and neither E6 nor E7 comes
+pub record IsFit (pool : Pool) (ask : SendAsk) (snapshot : Snapshot) (source : Option Source) (redaction : Option Bookmark) : Type 0 where
+  pub asked : IsAsked pool ask snapshot source redaction
+  pub before : IfSome source (λ from. StandsBeforeSnapshot pool from snapshot)
+  pub redacts : IfSome redaction (IsRedactionOf pool snapshot)
+
+-- neither the snapshot nor the source is redacted
+abbrev pub IsUnrelayed : Snapshot → Option Source → Type 0
+IsUnrelayed snapshot source = (snapshot.redact ≡ []) × IfSome source IsWhole
+
+-- at last E19, where something of this is redacted
+abbrev pub RelayIsLast : Type 0
+RelayIsLast =
+    (ask : SendAsk) (pool : Pool) (snapshot : Snapshot) (source : Option Source) (redaction : Option Bookmark)
+    → IsPool pool → Sound pool → IsFit pool ask snapshot source redaction → (IsUnrelayed snapshot source → ⊥)
+    → send_plan ask pool ≡ Err (plans.Unsupported lacks.Relay)
+
+-- a plan is refused for nothing else: E5 and E23 of what a session holds come behind it
+abbrev pub ElseIsPlanned : Type 0
+ElseIsPlanned =
+    (ask : SendAsk) (pool : Pool) (snapshot : Snapshot) (source : Option Source) (redaction : Option Bookmark)
+    → IsPool pool → Sound pool → IsFit pool ask snapshot source redaction → IsUnrelayed snapshot source
+    → send_plan ask pool ≡ Ok (record { snapshot = snapshot; kind = kind_of pool snapshot; source = source; redaction = redaction })

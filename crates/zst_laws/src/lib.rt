@@ -29,6 +29,7 @@ mod received_records;
 mod redact_example;
 mod redaction_lists;
 mod redaction_steps;
+mod redactions;
 mod remembered_states;
 mod send_examples;
 mod send_plans;
@@ -72,12 +73,13 @@ pub use received_records::{
     cut_is_part_way, far_records_are_refused, moved_has_taken, part_way_is_completed,
     received_is_state, record_faults_come_first,
 };
-pub use redact_example::two_clones_list_one_block;
 pub use remembered_states::{
     history_is_base, own_is_remembered, remembered_is_base, sources_are_bases, steps_remember,
 };
 pub use send_examples::{changed_objects_are_sent, whole_object_is_sent};
-pub use send_plans::{ancestor_is_wanted, before_is_tested, plans_are_of_pool};
+pub use send_plans::{
+    ancestor_is_wanted, before_is_tested, plans_are_of_pool, sends_are_refused_in_order,
+};
 pub use sessions::{cuts_are_exact, cuts_complete, full_cuts_are_exact, increment_cuts_are_exact};
 pub use step_examples::{rewritten_is_made, small_is_changed, small_is_made, small_is_put_again};
 pub use step_invariants::{steps_keep_partials, steps_keep_pools, steps_keep_sound};
@@ -86,13 +88,15 @@ pub use step_refusals::{
     reads_are_refused, snapshots_are_refused, writes_are_refused,
 };
 
-// Laws that no command uses yet: of redaction bookmarks, and of nearest snapshots.
+// Laws of redaction.
+pub use redact_example::two_clones_list_one_block;
+pub use redaction_steps::{lists_are_kept, steps_keep_lists};
+pub use redactions::{redactions_are_refused, redactions_list_what_none_keeps};
+
+// Laws that no command uses yet: of redacted bases, and of nearest snapshots.
 pub use alike_pools::alike_pools_are_sent_alike;
 pub use nearest_snapshots::nearest_is_enough;
 pub use redaction_lists::{covered_is_base, listed_may_be_redacted};
-pub use redaction_steps::{
-    lists_are_kept, redactions_keep_sound, redactions_list, steps_keep_lists,
-};
 
 /// A lawful snapshot with a lawful choice has a lawful view.
 pub fn snapshot_has_view()

@@ -1,4 +1,5 @@
 ghost use Rattle.zst_laws.specs.SendPlans.{AncestorIsWanted, BeforeIsTested, PlansAreOfPool};
+ghost use Rattle.zst_laws.specs.SendPlans.{BookmarkIsOther, BookmarkIsWanted, ElseIsPlanned, RelayIsLast, SnapshotIsWanted, SourceIsLater, SourceIsWanted};
 
 /// In a sound pool the test of a plan says yes exactly where the source stands before the snapshot.
 pub fn before_is_tested()
@@ -13,4 +14,16 @@ pub fn plans_are_of_pool()
 /// A source is refused exactly where it doesn't stand before the snapshot.
 pub fn ancestor_is_wanted()
     ensures { AncestorIsWanted }
+{}
+
+/// A send is refused for want of its snapshot, its source and its redaction bookmark, for a source that doesn't stand before the
+/// snapshot, for a bookmark that doesn't redact it, and for what is redacted already, in this order; and for nothing else.
+pub fn sends_are_refused_in_order()
+    ensures absent { SnapshotIsWanted }
+    ensures no_source { SourceIsWanted }
+    ensures no_bookmark { BookmarkIsWanted }
+    ensures later { SourceIsLater }
+    ensures other { BookmarkIsOther }
+    ensures relay { RelayIsLast }
+    ensures planned { ElseIsPlanned }
 {}

@@ -8,6 +8,7 @@ pub mod Numbers
 pub mod OneAnswer
 pub mod OptionWalk
 pub mod OptionPlaces
+pub mod RedactionWords
 pub mod SameLine
 pub mod Sizes
 pub mod Spills

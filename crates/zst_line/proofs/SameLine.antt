@@ -32,6 +32,7 @@ kind_of_command (commands.Free dataset first count) = kinds.Free
 kind_of_command (commands.Snapshot name) = kinds.Snapshot
 kind_of_command (commands.Clone origin dataset) = kinds.Clone
 kind_of_command (commands.Bookmark snapshot bookmark) = kinds.Bookmark
+kind_of_command (commands.Redact snapshot bookmark redactions) = kinds.Redact
 kind_of_command (commands.Rollback destroys snapshot) = kinds.Rollback
 kind_of_command (commands.Destroy name) = kinds.Destroy
 kind_of_command (commands.Abort dataset) = kinds.Abort
@@ -50,6 +51,7 @@ said_kind (commands.Free dataset first count) image words says = ap first_kind s
 said_kind (commands.Snapshot name) image words says = ap first_kind says
 said_kind (commands.Clone origin dataset) image words says = ap first_kind says
 said_kind (commands.Bookmark snapshot bookmark) image words says = ap first_kind says
+said_kind (commands.Redact snapshot bookmark redactions) image words says = ap first_kind says
 said_kind (commands.Rollback destroys snapshot) image words says = ap first_kind says.0.1
 said_kind (commands.Destroy name) image words says = ap first_kind says.1.1
 said_kind (commands.Abort dataset) image words says = ap first_kind says
@@ -61,7 +63,6 @@ said_kind (commands.ListObjects name) image words says = ap first_kind says.1.1
 abbrev is_step : Kind → Bool
 is_step kinds.Dump = false
 is_step kinds.Create = false
-is_step kinds.Redact = false
 is_step kinds.Send = false
 is_step kinds.Receive = false
 is_step kinds.Token = false
@@ -81,6 +82,7 @@ commands_are_steps (commands.Free dataset first count) = refl
 commands_are_steps (commands.Snapshot name) = refl
 commands_are_steps (commands.Clone origin dataset) = refl
 commands_are_steps (commands.Bookmark snapshot bookmark) = refl
+commands_are_steps (commands.Redact snapshot bookmark redactions) = refl
 commands_are_steps (commands.Rollback destroys snapshot) = refl
 commands_are_steps (commands.Destroy name) = refl
 commands_are_steps (commands.Abort dataset) = refl
@@ -167,6 +169,10 @@ same_command (commands.Bookmark snapshot bookmark) (commands.Bookmark snapshot_ 
     let s = p.says in
     let t = q.says in
     cc
+same_command (commands.Redact snapshot bookmark redactions) (commands.Redact snapshot_ bookmark_ redactions_) image here words p q =
+    let s = p.says in
+    let t = q.says in
+    cc
 same_command (commands.Rollback destroys snapshot) (commands.Rollback more other) image here words p q =
     let s = p.says.0.1 in
     let t = q.says.0.1 in
@@ -214,7 +220,6 @@ abbrev kind_of_line : Line → Kind
 kind_of_line lines.Dump = kinds.Dump
 kind_of_line (lines.Create image sectors id) = kinds.Create
 kind_of_line (lines.Step image command) = kind_of_command command
-kind_of_line (lines.Redact image snapshot bookmark kept) = kinds.Redact
 kind_of_line (lines.Send image from redacts snapshot) = kinds.Send
 kind_of_line (lines.Resume image token) = kinds.Send
 kind_of_line (lines.Receive image keeps forces origin target) = kinds.Receive
@@ -228,7 +233,6 @@ line_kind : (line : Line) (words : List (List ℕ)) → LineIs line words → fi
 line_kind lines.Dump words p = ap first_kind p
 line_kind (lines.Create image sectors id) words p = ap first_kind p.0
 line_kind (lines.Step image command) words p = said_kind command image words p.0
-line_kind (lines.Redact image snapshot bookmark kept) words p = ap first_kind p
 line_kind (lines.Send image from redacts snapshot) words p = ap first_kind p.0.1
 line_kind (lines.Resume image token) words p = ap first_kind p.3
 line_kind (lines.Receive image keeps forces origin target) words p = ap first_kind p.2.1
@@ -253,7 +257,6 @@ same_line (lines.Create image sectors id) (lines.Create here more name) words p 
     cc
 same_line (lines.Step image one) (lines.Step here other) words p q =
     same_command one other image here words (record { says = p.0; is = p.1; fit = p.2 }) (record { says = q.0; is = q.1; fit = q.2 })
-same_line (lines.Redact image snapshot bookmark kept) (lines.Redact here other place more) words p q = cc
 same_line (lines.Send image from redacts snapshot) (lines.Send here origin place other) words p q =
     let s = p.0.1 in
     let t = q.0.1 in

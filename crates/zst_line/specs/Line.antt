@@ -17,7 +17,7 @@ use Rattle.zst_line.specs.Grammar.{stands_in, word_at}
 use Rattle.zst_line.specs.WordFaults.{UsageAt, MisreadAs, IsLine}
 use Rattle.zst_line.specs.NameKinds.{kind_of_name}
 use Rattle.zst_line.specs.declared.line.Line.{Line}
-use Rattle.zst_line.specs.declared.line.Line.TheVariants.{Dump, Create, Step, Redact, Send, Resume, Receive, Token, Check, Gen, Reclaim, Replay}
+use Rattle.zst_line.specs.declared.line.Line.TheVariants.{Dump, Create, Step, Send, Resume, Receive, Token, Check, Gen, Reclaim, Replay}
 use Rattle.zst_line.specs.declared.line.LineFault.{LineFault}
 use Rattle.zst_line.specs.declared.line.LineFault.TheVariants as faults
 use Rattle.zst_line.specs.declared.name_kinds.NameKind.{NameKind}
@@ -95,6 +95,7 @@ Says (commands.Free dataset first count) image words = words ≡ codes "free" �
 Says (commands.Snapshot name) image words = words ≡ codes "snapshot" ∷ image ∷ name ∷ []
 Says (commands.Clone origin dataset) image words = words ≡ codes "clone" ∷ image ∷ origin ∷ dataset ∷ []
 Says (commands.Bookmark snapshot bookmark) image words = words ≡ codes "bookmark" ∷ image ∷ snapshot ∷ bookmark ∷ []
+Says (commands.Redact snapshot bookmark redactions) image words = words ≡ codes "redact" ∷ image ∷ snapshot ∷ bookmark ∷ redactions
 Says (commands.Rollback destroys snapshot) image words =
     EndsIn (codes "rollback") (image ∷ snapshot ∷ []) words × (destroys ≡ stands_in words (codes "-r"))
 Says (commands.Destroy name) image words = (word : List ℕ) × ((name ≡ name_of word) × (words ≡ codes "destroy" ∷ image ∷ word ∷ []))
@@ -124,7 +125,6 @@ abbrev pub LineIs : Line → List (List ℕ) → Type 0
 LineIs Dump words = words ≡ codes "dump" ∷ []
 LineIs (Create image sectors id) words = (words ≡ codes "create" ∷ image ∷ decimal sectors ∷ decimal id ∷ []) × IsCreate sectors id
 LineIs (Step image command) words = Says command image words × IsCommand command × NumbersFit command
-LineIs (Redact image snapshot bookmark kept) words = words ≡ codes "redact" ∷ image ∷ snapshot ∷ bookmark ∷ kept
 LineIs (Send image from redacts snapshot) words =
     EndsIn (codes "send") (image ∷ snapshot ∷ []) words × (word_at words 1 ≢ codes "-t")
     × (from ≡ option_map name_of (value_behind (codes "-i") words)) × (redacts ≡ value_behind (codes "--redact") words)

@@ -1,4 +1,3 @@
-use crate::snapshots::Snapshots;
 use crate::text::Text;
 use std::alloc::AllocError;
 use zst_model::{Command, Name, PlanFault, Refusal};
@@ -20,13 +19,6 @@ pub enum Line {
     Step {
         image: Text,
         command: Command,
-    },
-    /// Makes a bookmark that keeps what these snapshots have of another (zfs-redact(8)).
-    Redact {
-        image: Text,
-        snapshot: SnapName,
-        bookmark: BookName,
-        kept: Snapshots,
     },
     /// Sends a snapshot, whole or from another one or a bookmark, and redacted where a bookmark says so (zfs-send(8)).
     Send {

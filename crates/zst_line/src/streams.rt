@@ -9,10 +9,9 @@ ghost use Rattle.zst_line.specs.declared.word_slot.WordSlot.TheVariants as slots
 use crate::kind::Kind;
 use crate::line::Line;
 use crate::options::stands_in;
-use crate::snapshots::Snapshots;
 use crate::word_values::{bookmark, name, snapshot, text, token};
 use std::alloc::{AllocError, Global};
-use zst_model::{Command, Name};
+use zst_model::{Command, Name, Snapshots};
 use zst_names::{BookName, SnapName};
 
 fn first_of(words: &[String]) -> Option<&str>
@@ -98,11 +97,13 @@ pub fn redact(alloc: Global, words: &[String]) -> Result<Line, AllocError>
     let [image, of, name, kept @ ..] = words else {
         unreachable!()
     };
-    Ok(Line::Redact {
+    Ok(Line::Step {
         image: text(alloc, image.as_str())?,
-        snapshot: snapshot(of.as_str()),
-        bookmark: bookmark(name.as_str()),
-        kept: snapshots(alloc, kept)?,
+        command: Command::Redact {
+            snapshot: snapshot(of.as_str()),
+            bookmark: bookmark(name.as_str()),
+            redactions: snapshots(alloc, kept)?,
+        },
     })
 }
 

@@ -2,6 +2,7 @@ mod SpacedTexts
 pub mod RunLists
 pub mod OneList
 pub mod RunsOf
+pub mod PushedPairs
 pub mod Sizes
 mod RisingGuids
 pub mod OrderLaws

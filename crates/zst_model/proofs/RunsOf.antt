@@ -100,7 +100,7 @@ joins_in : (run next : Run) (l j : ℕ) → (run.object == next.object && run.fi
     → (run.object == l && (nat_le run.first j && nat_lt j (run.first + (run.count + next.count)))) ≡ (is_in_run run l j || is_in_run next l j)
 joins_in run next l j touch = grind (arith, nat_tests)
 
-or_assoc : (a b c : Bool) → ((a || b) || c) ≡ (a || (b || c))
+pub or_assoc : (a b c : Bool) → ((a || b) || c) ≡ (a || (b || c))
 or_assoc true b c = refl
 or_assoc false b c = refl
 
@@ -123,7 +123,7 @@ joined_pairs (run ∷ rest) l j = before_pairs run (joined_runs rest) l j ∙ ap
 -- ---- the pairs one by one
 
 -- a pair of a number and an index is a run that a list may have
-unit_run : (k i : ℕ) → is_number k ≡ true → i < index_bound → (is_number k && (nat_lt 0 1 && nat_le (i + 1) index_bound)) ≡ true
+pub unit_run : (k i : ℕ) → is_number k ≡ true → i < index_bound → (is_number k && (nat_lt 0 1 && nat_le (i + 1) index_bound)) ≡ true
 unit_run k i n l = and_from (is_number k) _ n (go i l)
   where
     go : (i : ℕ) → i < index_bound → (nat_lt 0 1 && nat_le (i + 1) index_bound) ≡ true
@@ -253,11 +253,11 @@ appended (run ∷ next ∷ rest) first later a b before =
     (λ one lawful h. before one lawful (λ k i e. or_right (is_in_run run k i) (has_pair (next ∷ rest) k i) (h k i e)))))
 
 -- the last pair of a run
-last_in : (run : Run) (i : ℕ) → is_run run ≡ true → suc i ≡ run.first + run.count → is_in_run run run.object i ≡ true
+pub last_in : (run : Run) (i : ℕ) → is_run run ≡ true → suc i ≡ run.first + run.count → is_in_run run run.object i ≡ true
 last_in run i lawful e = grind (arith, nat_tests)
 
 -- which it has
-last_of : (run : Run) → is_run run ≡ true → (i : ℕ) × (suc i ≡ run.first + run.count)
+pub last_of : (run : Run) → is_run run ≡ true → (i : ℕ) × (suc i ≡ run.first + run.count)
 last_of run lawful = go (run.first + run.count) refl (grind (arith, nat_tests))
   where
     go : (n : ℕ) → n ≡ run.first + run.count → 0 < run.first + run.count → (i : ℕ) × (suc i ≡ run.first + run.count)

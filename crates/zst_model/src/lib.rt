@@ -17,6 +17,7 @@ pub use fields::name::NameText;
 pub use laws::{more_runs, one_list, runs_are_pairs};
 pub use pools::command::Command;
 pub use pools::reply::Reply;
+pub use pools::snapshots::Snapshots;
 pub use refusals::apply_fault::ApplyFault;
 pub use refusals::faults::{Flaw, Lack, Quantity};
 pub use refusals::plan_fault::PlanFault;

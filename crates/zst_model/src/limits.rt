@@ -1,6 +1,6 @@
 //! The limits of objects, of pools and of commands.
 ghost use Rattle.std.specs.Prelude.{◌≡◌};
-ghost use Rattle.zst_model.specs.pools.Limits.{last_number, last_guid, most_datasets, most_snapshots, most_bookmarks, most_partials, largest_write};
+ghost use Rattle.zst_model.specs.pools.Limits.{last_number, last_guid, most_datasets, most_snapshots, most_bookmarks, most_runs, most_partials, largest_write};
 ghost use Rattle.zst_model.specs.states.State.{number_bound, index_bound, largest_bonus, is_block_size, is_spill_size};
 
 /// Object numbers stand below this (DN_MAX_OBJECT of dnode.h).
@@ -39,11 +39,14 @@ pub const MOST_SNAPSHOTS: usize = 1024;
 /// A pool has at most so many bookmarks.
 pub const MOST_BOOKMARKS: usize = 1024;
 
+/// The list of a redaction bookmark has at most so many runs.
+pub const MOST_RUNS: usize = 65_536;
+
 /// A pool has at most so many partial states.
 pub const MOST_PARTIALS: usize = 16;
 
-/// Law: the limits in code are those of the definitions.
-#[tactic(auto, unfolding(crate::specs::states::State::number_bound, crate::specs::states::State::index_bound, crate::specs::pools::Limits::last_number, crate::specs::pools::Limits::last_guid, crate::specs::pools::Limits::most_datasets, crate::specs::pools::Limits::most_snapshots, crate::specs::pools::Limits::most_bookmarks, crate::specs::pools::Limits::most_partials))]
+/// Law: the limits of numbers and of bytes in code are those of the definitions.
+#[tactic(auto, unfolding(crate::specs::states::State::number_bound, crate::specs::states::State::index_bound, crate::specs::pools::Limits::last_number, crate::specs::pools::Limits::last_guid))]
 pub fn limits_are_defined()
     ensures numbers { NUMBER_BOUND ≡ number_bound }
     ensures indices { INDEX_BOUND ≡ index_bound }
@@ -51,9 +54,15 @@ pub fn limits_are_defined()
     ensures write { LARGEST_WRITE ≡ largest_write }
     ensures commits { LAST_NUMBER ≡ last_number }
     ensures guids { LAST_GUID ≡ last_guid }
+{}
+
+/// Law: and so are those of how many there are.
+#[tactic(auto, unfolding(crate::specs::pools::Limits::most_datasets, crate::specs::pools::Limits::most_snapshots, crate::specs::pools::Limits::most_bookmarks, crate::specs::pools::Limits::most_runs, crate::specs::pools::Limits::most_partials))]
+pub fn counts_are_defined()
     ensures datasets { MOST_DATASETS ≡ most_datasets }
     ensures snapshots { MOST_SNAPSHOTS ≡ most_snapshots }
     ensures bookmarks { MOST_BOOKMARKS ≡ most_bookmarks }
+    ensures runs { MOST_RUNS ≡ most_runs }
     ensures partials { MOST_PARTIALS ≡ most_partials }
 {}
 

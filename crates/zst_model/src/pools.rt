@@ -1,2 +1,3 @@
 pub mod command;
 pub mod reply;
+pub mod snapshots;

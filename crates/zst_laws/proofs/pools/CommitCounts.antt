@@ -10,6 +10,7 @@ use Rattle.zst_model.specs.declared.refusals.subjects.Name.TheVariants as names
 use Rattle.zst_model.specs.pools.Step.{Stepped, committed, new_dataset, on_head, stepped}
 use Rattle.zst_laws.specs.CommitCounts.{CommitsCount, AnswersKeep}
 use Rattle.zst_laws.proofs.pools.AcceptedCommands.{with_dataset_ok, with_snapshot_ok, with_clone_ok, with_bookmark_ok, read_keeps, list_keeps, list_objects_keeps, commit_counts, head_counts}
+use Rattle.zst_laws.proofs.pools.AcceptedRedactions.{with_redaction_ok}
 use Rattle.zst_laws.specs.StepInvariants.{partials_after, StepsKeepPartials, StepsKeepKept}
 use Rattle.zst_laws.proofs.pools.Rows.{committed_ok, on_head_ok}
 use Rattle.zst_laws.proofs.pools.AcceptedRemovals.{with_rollback_ok, dataset_destroyed_ok, snapshot_destroyed_ok, bookmark_destroyed_ok, with_aborted_ok}
@@ -25,6 +26,7 @@ commits_count held now (commands.Free name first count) pool after h c = head_co
 commits_count held now (commands.Snapshot name) pool after h c = commit_counts _ after (with_snapshot_ok now name pool after h).made
 commits_count held now (commands.Clone origin name) pool after h c = commit_counts _ after (with_clone_ok origin name pool after h).new.made
 commits_count held now (commands.Bookmark of name) pool after h c = commit_counts _ after (with_bookmark_ok of name pool after h).made
+commits_count held now (commands.Redact of name kept) pool after h c = commit_counts _ after (with_redaction_ok of name kept pool after h).made
 commits_count held now (commands.Rollback destroys name) pool after h c = commit_counts _ after (with_rollback_ok held destroys name pool after h).made
 commits_count held now (commands.Destroy (names.Dataset name)) pool after h c = commit_counts _ after (dataset_destroyed_ok held name pool after h).made
 commits_count held now (commands.Destroy (names.Snapshot name)) pool after h c = commit_counts _ after (snapshot_destroyed_ok held name pool after h).made
@@ -44,6 +46,7 @@ answers_keep held now (commands.Free name first count) pool after h c = absurd (
 answers_keep held now (commands.Snapshot name) pool after h c = absurd (cc)
 answers_keep held now (commands.Clone origin name) pool after h c = absurd (cc)
 answers_keep held now (commands.Bookmark of name) pool after h c = absurd (cc)
+answers_keep held now (commands.Redact of name kept) pool after h c = absurd (cc)
 answers_keep held now (commands.Rollback destroys name) pool after h c = absurd (cc)
 answers_keep held now (commands.Destroy name) pool after h c = absurd (cc)
 answers_keep held now (commands.Abort target) pool after h c = absurd (cc)
@@ -72,6 +75,7 @@ partials_stay held now (commands.Free name first count) pool after h = head_leav
 partials_stay held now (commands.Snapshot name) pool after h = commit_leaves _ after (with_snapshot_ok now name pool after h).made
 partials_stay held now (commands.Clone origin name) pool after h = commit_leaves _ after (with_clone_ok origin name pool after h).new.made
 partials_stay held now (commands.Bookmark of name) pool after h = commit_leaves _ after (with_bookmark_ok of name pool after h).made
+partials_stay held now (commands.Redact of name kept) pool after h = commit_leaves _ after (with_redaction_ok of name kept pool after h).made
 partials_stay held now (commands.Rollback destroys name) pool after h = commit_leaves _ after (with_rollback_ok held destroys name pool after h).made
 partials_stay held now (commands.Destroy (names.Dataset name)) pool after h = commit_leaves _ after (dataset_destroyed_ok held name pool after h).made
 partials_stay held now (commands.Destroy (names.Snapshot name)) pool after h = commit_leaves _ after (snapshot_destroyed_ok held name pool after h).made

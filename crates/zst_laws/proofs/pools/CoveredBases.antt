@@ -9,7 +9,7 @@ use Rattle.zst_model.proofs.InsertedLaws.{contains_first, contains_later, contai
 use Rattle.zst_model.specs.fields.Lists.{has_pair}
 use Rattle.zst_model.specs.pools.Ancestry.{Source, OfSnapshot, OfBookmark, number_of_source, IsIn}
 use Rattle.zst_model.specs.pools.Pool.{Pool, Snapshot, Bookmark, IsPool, IsGuid, dataset_of_snapshot}
-use Rattle.zst_model.specs.pools.RedSet.{is_data, is_user_block, red_set}
+use Rattle.zst_model.specs.pools.RedSet.{is_data, is_user_block, objects_of, red_set}
 use Rattle.zst_model.specs.pools.Rows.{snapshot_row, Row, rows}
 use Rattle.zst_model.specs.pools.Soundness.{DatedUpTo, Sound}
 use Rattle.zst_model.specs.fields.Guids.{IsGuidSet}
@@ -20,7 +20,7 @@ use Rattle.zst_model.specs.states.DatedState.{DatedState}
 use Rattle.zst_model.specs.states.State.{Block, Hole, Redacted, Data, Object, State, IsState, IsObjectOrNone, BytesOf, attr_at, content_at, block_content, end_at, index_bound, is_number, is_user_data}
 use Rattle.zst_model.proofs.IndexTests.{any_passes}
 use Rattle.zst_laws.specs.Bases.{IsRewritten}
-use Rattle.zst_laws.specs.RedactionLists.{AreListed, AreRedactions, CoveredIsBase, ListedMayBeRedacted, HaveOwnGuids, IsCovered, ToOne, ByRedaction, BySource, IsOverRedacted, each_guid, lost, objects_of}
+use Rattle.zst_laws.specs.RedactionLists.{AreListed, AreRedactions, CoveredIsBase, ListedMayBeRedacted, HaveOwnGuids, IsCovered, ToOne, ByRedaction, BySource, IsOverRedacted, each_guid, lost}
 use Rattle.zst_laws.specs.RememberedStates.{IsOwn}
 use Rattle.zst_laws.specs.SendPlans.{StandsBeforeSnapshot}
 use Rattle.zst_laws.proofs.examples.Meanings.{data_of, lists_can_be_redacted}

@@ -332,6 +332,7 @@ formed pool (commands.Free name first count) now h = absurd h
 formed pool (commands.Snapshot name) now h = absurd h
 formed pool (commands.Clone origin name) now h = absurd h
 formed pool (commands.Bookmark of name) now h = absurd h
+formed pool (commands.Redact of name kept) now h = absurd h
 formed pool (commands.Read name k i) now h = absurd h
 formed pool commands.List now h = absurd h
 formed pool (commands.ListObjects name) now h = absurd h

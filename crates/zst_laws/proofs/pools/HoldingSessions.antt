@@ -135,6 +135,7 @@ steps_ask_none held other now (commands.Free dataset first count) pool asks = re
 steps_ask_none held other now (commands.Snapshot name) pool asks = refl
 steps_ask_none held other now (commands.Clone origin name) pool asks = refl
 steps_ask_none held other now (commands.Bookmark of name) pool asks = refl
+steps_ask_none held other now (commands.Redact of name kept) pool asks = refl
 steps_ask_none held other now (commands.Rollback true name) pool asks = absurd (true≢false asks)
 steps_ask_none held other now (commands.Rollback false name) pool asks =
     ap (kept_back pool name) (none held) ∙ sym (ap (kept_back pool name) (none other))
@@ -278,6 +279,7 @@ free_ones pool (commands.Free dataset first count) held now free = refl
 free_ones pool (commands.Snapshot name) held now free = refl
 free_ones pool (commands.Clone origin name) held now free = refl
 free_ones pool (commands.Bookmark of name) held now free = refl
+free_ones pool (commands.Redact of name kept) held now free = refl
 free_ones pool (commands.Read name k i) held now free = refl
 free_ones pool commands.List held now free = refl
 free_ones pool (commands.ListObjects name) held now free = refl

@@ -1,5 +1,5 @@
 -- What commands make of a lawful pool is lawful.
-use Rattle.std.proofs.Common.{inl, inr, subst, ◌≡◌, ◌≢◌, ℕ, ◌+◌, ◌^◌, ◌<◌, ◌≤◌, true, false, List, [], ◌∷◌, ◌++◌, Some, IfSome, is_some, Result, Ok, refl, sym, ap, ◌∙◌, arith}
+use Rattle.std.proofs.Common.{inl, inr, subst, ◌≡◌, ◌≢◌, ℕ, ◌+◌, ◌^◌, ◌<◌, ◌≤◌, true, false, List, [], ◌∷◌, ◌++◌, length, Some, IfSome, is_some, Result, Ok, refl, sym, ap, ◌∙◌, arith}
 use Rattle.std.specs.List.{All, Contains}
 use Rattle.std.proofs.lemmas.List.Elements.{All-nil, All-weaker, All-contains}
 use Rattle.std.proofs.lemmas.Option.{IfSome_then}
@@ -8,19 +8,21 @@ use Rattle.zst_names.specs.Marks.{at_is_mark}
 use Rattle.zst_names.proofs.MarkedNames.{join_is_name}
 use Rattle.zst_model.specs.fields.Guids.{IsGuidSet}
 use Rattle.zst_model.specs.fields.Lists.{IsRunList}
-use Rattle.zst_model.specs.fields.Lists.{IsRunList}
 use Rattle.zst_model.specs.declared.pools.command.Command.TheVariants as commands
 use Rattle.zst_model.specs.declared.refusals.subjects.Name.TheVariants as names
 use Rattle.zst_model.specs.declared.refusals.refusal.Refusal.{Refusal}
 use Rattle.zst_model.specs.states.State.{IsState, no_objects}
 use Rattle.zst_model.specs.states.DatedState.{DatedState}
 use Rattle.zst_model.specs.pools.Pool.{Pool, Dataset, Snapshot, Bookmark, IsPool, IsKind, IsGuid, HasDataset, HasSnapshot, dataset_named, snapshot_named, bookmark_named, partial_of, dataset_of_snapshot, is_before, snapshot_is_before, inserted}
-use Rattle.zst_model.specs.pools.Step.{Stepped, committed, last_number, last_guid, next_guid, new_dataset, with_head_at, with_head, snapshot_of, clone_of, bookmark_of, with_dataset, on_head, with_snapshot, with_clone, with_bookmark, stepped}
+use Rattle.zst_model.specs.pools.RedSet.{objects_of, red_set}
+use Rattle.zst_model.specs.pools.Step.{Stepped, committed, last_number, last_guid, next_guid, new_dataset, with_head_at, with_head, snapshot_of, clone_of, bookmark_of, with_dataset, on_head, with_snapshot, with_clone, with_bookmark, IsRedact, guids_of, redaction_of, with_redaction, stepped}
 use Rattle.zst_model.proofs.InsertedLaws.{All-from_contains, contains-map, contains-inserted, inserted_has_rest, All-inserted, AllPairs-map}
+use Rattle.zst_model.proofs.RunsOf.{runs_list}
 use Rattle.zst_model.proofs.OrderLaws.{names_differ-inserted, names_rise-inserted, rows_rise-inserted}
 use Rattle.zst_laws.specs.StepInvariants.{StepsKeepPools}
 use Rattle.zst_laws.proofs.pools.Rows.{All-with_head, committed_ok, on_head_ok, named_found, none_named, name_under_head}
 use Rattle.zst_laws.proofs.pools.AcceptedCommands.{with_dataset_ok, with_snapshot_ok, with_clone_ok, with_bookmark_ok, read_keeps, list_keeps, list_objects_keeps}
+use Rattle.zst_laws.proofs.pools.AcceptedRedactions.{each_length, each_there, guid_of_one, guids_length, guids_rise, with_redaction_ok}
 use Rattle.zst_laws.proofs.pools.AcceptedRemovals.{with_rollback_ok, dataset_destroyed_ok, snapshot_destroyed_ok, bookmark_destroyed_ok, with_aborted_ok}
 use Rattle.zst_laws.proofs.pools.LawfulRest.{rolled_is_lawful, lawful_without_dataset, lawful_without_snapshot, lawful_without_bookmark, lawful_without_partial}
 use Rattle.zst_laws.proofs.pools.LawfulHeads.{object_is_lawful, write_is_lawful, punch_is_lawful, free_is_lawful}
@@ -49,7 +51,7 @@ numbered_pool pool number p below = record {
   partials = p.partials;
 }
 
-pub committed_pool : (pool : Pool) (after : Stepped) → IsPool pool → committed pool ≡ Ok after → IsPool after.pool
+committed_pool : (pool : Pool) (after : Stepped) → IsPool pool → committed pool ≡ Ok after → IsPool after.pool
 committed_pool pool after p h =
     let made = committed_ok pool after h in
     subst (λ s. IsPool s.pool) made.1 (numbered_pool pool (pool.number + 1) p made.0)
@@ -212,7 +214,7 @@ snapshot_added now name pool dataset fits p is_name there free absent guids =
     }
 
 -- a lawful pool with a lawful bookmark
-pub bookmark_added : (row : Bookmark) (pool : Pool) → IsPool pool → IsBookmark row.name → IsGuid row.guid × IsGuidSet row.redact × IsRunList row.runs × (row.time < 2 ^ 64)
+bookmark_added : (row : Bookmark) (pool : Pool) → IsPool pool → IsBookmark row.name → IsGuid row.guid × IsGuidSet row.redact × IsRunList row.runs × (row.time < 2 ^ 64)
     → is_some (bookmark_named row.name pool) ≡ false
     → IsPool (record pool { bookmarks = inserted (λ a b. is_before a.name b.name) row pool.bookmarks })
 bookmark_added row pool p is_name lawful absent =
@@ -270,6 +272,29 @@ bookmark_steps of name pool after p is_name h =
     let lawful = All-contains (λ s. IsGuid s.guid × IsGuidSet s.redact × IsState s.objects.state × (s.time < 2 ^ 64)) pool.snapshots new.snapshot p.snapshots there in
     committed_pool _ after (bookmark_added (bookmark_of name new.snapshot) pool p is_name (lawful.0, no_guids, no_runs, lawful.3) new.absent) new.made
 
+-- the guids of at most sixteen snapshots are a set
+redaction_guids : (redactions : List Snapshot) → length redactions ≤ 16 → ((snapshot : Snapshot) → Contains redactions snapshot → IsGuid snapshot.guid) → IsGuidSet (guids_of redactions)
+redaction_guids redactions few fit = record {
+  few = let l = guids_length redactions in omega arith;
+  rising = guids_rise redactions;
+  fit = All-from_contains (λ guid. guid < 2 ^ 64) (guids_of redactions) (λ guid there.
+      let one = guid_of_one redactions guid there in subst (λ g. g < 2 ^ 64) one.2 (fit one.0 one.1).1);
+}
+
+redaction_steps : (of name : List ℕ) (kept : List (List ℕ)) (pool : Pool) (after : Stepped) → IsPool pool → IsRedact of name kept
+    → with_redaction of name kept pool ≡ Ok after → IsPool after.pool
+redaction_steps of name kept pool after p words h =
+    let new = with_redaction_ok of name kept pool after h in
+    let lawful : (s : Snapshot) → Contains pool.snapshots s → IsGuid s.guid × IsGuidSet s.redact × IsState s.objects.state × (s.time < 2 ^ 64) =
+    λ s there. All-contains (λ s. IsGuid s.guid × IsGuidSet s.redact × IsState s.objects.state × (s.time < 2 ^ 64)) pool.snapshots s p.snapshots there in
+    let own = lawful new.snapshot (named_found (λ s. s.name) of pool.snapshots new.snapshot new.there).0 in
+    let as_many = each_length kept pool new.redactions new.found in
+    let most : length kept ≤ 16 = words.4 in
+    let few : length new.redactions ≤ 16 = omega (arith, as_many, most) in
+    let set = redaction_guids new.redactions few (λ s there. (lawful s (each_there kept pool new.redactions new.found s there)).0) in
+    let runs = (runs_list (red_set new.snapshot.objects.state new.snapshot.number (objects_of new.redactions))).lawful in
+    committed_pool _ after (bookmark_added (redaction_of name new.snapshot new.redactions) pool p words.1 (own.0, set, runs, own.3) new.absent) new.made
+
 head_steps : (name : List ℕ) (pool : Pool) (change : DatedState → Result DatedState Refusal) (after : Stepped) → IsPool pool
     → ((old new : DatedState) → IsState old.state → change old ≡ Ok new → IsState new.state)
     → on_head name pool change ≡ Ok after → IsPool after.pool
@@ -300,6 +325,7 @@ steps_keep_lawful held now (commands.Free name first count) pool after c fits p 
 steps_keep_lawful held now (commands.Snapshot name) pool after c fits p h = snapshot_steps now name pool after fits p c h
 steps_keep_lawful held now (commands.Clone origin name) pool after c fits p h = clone_steps origin name pool after p c.1 h
 steps_keep_lawful held now (commands.Bookmark of name) pool after c fits p h = bookmark_steps of name pool after p c.1 h
+steps_keep_lawful held now (commands.Redact of name kept) pool after c fits p h = redaction_steps of name kept pool after p c h
 steps_keep_lawful held now (commands.Rollback destroys name) pool after c fits p h =
     let rolled = with_rollback_ok held destroys name pool after h in committed_pool _ after (rolled_is_lawful name pool rolled.snapshot p rolled.there rolled.unused) rolled.made
 steps_keep_lawful held now (commands.Destroy (names.Dataset name)) pool after c fits p h =

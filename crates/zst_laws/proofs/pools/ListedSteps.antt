@@ -15,14 +15,13 @@ use Rattle.zst_model.specs.pools.Pool.{Pool, Snapshot, Bookmark, HasDataset, IsL
 use Rattle.zst_model.specs.pools.Soundness.{IsBookmarkOf, Sound}
 use Rattle.zst_model.proofs.FilteredLists.{filter_contains}
 use Rattle.zst_laws.specs.RedactionLists.{AreListed, AreRedactions, HaveNewGuids, HaveOwnGuids, Lists}
-use Rattle.zst_laws.specs.RedactionSteps.{HasNoNewLists, ListsAreKept, OnlyAddsTo, StepsKeepLists}
+use Rattle.zst_laws.specs.RedactionSteps.{HasNoNewLists, ListsAreKept, OnlyAddsTo}
 use Rattle.zst_laws.specs.RememberedStates.{IsOwn}
 use Rattle.zst_laws.proofs.pools.AcceptedCommands.{with_dataset_ok, with_snapshot_ok, with_clone_ok, with_bookmark_ok, read_keeps, list_keeps, list_objects_keeps}
 use Rattle.zst_laws.proofs.pools.AcceptedRemovals.{with_rollback_ok, dataset_destroyed_ok, snapshot_destroyed_ok, bookmark_destroyed_ok, with_aborted_ok}
 use Rattle.zst_laws.proofs.pools.Ancestry.{stood_before}
 use Rattle.zst_laws.proofs.pools.Rows.{committed_ok, on_head_ok}
 use Rattle.zst_laws.proofs.pools.Descent.{IsNext}
-use Rattle.zst_laws.proofs.pools.SoundSteps.{steps_follow}
 
 module _ (pool other : Pool) (linked : IsLinked pool) (sound : Sound pool) (next : OnlyAddsTo pool other) (guids : HaveOwnGuids pool) (new : HaveNewGuids pool other) where
   -- an old bookmark's own snapshot is an old one: a new one has a greater number
@@ -113,7 +112,12 @@ marked_old of name pool after h =
       | inr old ↦ inl old
     ])
 
-steps_bookmarks : (held : List Held) (now : ℕ) (command : Command) (pool : Pool) (after : Stepped) → stepped held now command pool ≡ Ok after → OldOrPlain pool after.pool
+-- so do all commands but a redaction, which makes a redaction bookmark
+abbrev LeavesOld : Command → Pool → Pool → Type 0
+LeavesOld (commands.Redact of name kept) pool after = Unit {0}
+LeavesOld _ pool after = OldOrPlain pool after
+
+pub steps_bookmarks : (held : List Held) (now : ℕ) (command : Command) (pool : Pool) (after : Stepped) → stepped held now command pool ≡ Ok after → LeavesOld command pool after.pool
 unfolding stepped
 steps_bookmarks held now (commands.Fs name) pool after h = made_of pool _ after (with_dataset_ok (new_dataset 2 name) pool after h).made (all_old pool)
 steps_bookmarks held now (commands.Volume name) pool after h = made_of pool _ after (with_dataset_ok (new_dataset 3 name) pool after h).made (all_old pool)
@@ -124,6 +128,7 @@ steps_bookmarks held now (commands.Free name first count) pool after h = head_ol
 steps_bookmarks held now (commands.Snapshot name) pool after h = made_of pool _ after (with_snapshot_ok now name pool after h).made (all_old pool)
 steps_bookmarks held now (commands.Clone origin name) pool after h = made_of pool _ after (with_clone_ok origin name pool after h).new.made (all_old pool)
 steps_bookmarks held now (commands.Bookmark of name) pool after h = marked_old of name pool after h
+steps_bookmarks held now (commands.Redact of name kept) pool after h = tt
 steps_bookmarks held now (commands.Rollback destroys name) pool after h =
     let rolled = with_rollback_ok held destroys name pool after h in made_of pool _ after rolled.made (left_old pool (λ b. not (is_newer_bookmark rolled.snapshot b)))
 steps_bookmarks held now (commands.Destroy name) pool after h = destroyed_old held name pool after h
@@ -131,9 +136,3 @@ steps_bookmarks held now (commands.Abort target) pool after h = made_of pool _ a
 steps_bookmarks held now (commands.Read name k i) pool after h = subst (OldOrPlain pool) (sym (read_keeps held now name k i pool after h)) (all_old pool)
 steps_bookmarks held now commands.List pool after h = subst (OldOrPlain pool) (sym (list_keeps held now pool after h)) (all_old pool)
 steps_bookmarks held now (commands.ListObjects name) pool after h = subst (OldOrPlain pool) (sym (list_objects_keeps held now name pool after h)) (all_old pool)
-
-pub steps_listed : StepsKeepLists
-steps_listed held now command pool after words is sound guids listed h new = elim (steps_follow held now command pool after words is sound h) [
-  | inl same ↦ subst AreListed (sym same) listed
-  | inr follows ↦ next_listed pool after.pool is.linked sound (adds_to pool after.pool follows.next) guids new (steps_bookmarks held now command pool after h) listed
-]

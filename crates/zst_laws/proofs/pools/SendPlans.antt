@@ -29,7 +29,7 @@ use Rattle.zst_laws.specs.SendPlans.{AncestorIsWanted, BeforeIsTested, IsPlanned
 use Rattle.zst_laws.proofs.pools.Rows.{named_found}
 
 -- one that passes alone is found
-found_alone : {A : Type 0} (p : A → Bool) (xs : List A) (one : A) → Contains xs one → p one ≡ true → ((x : A) → Contains xs x → p x ≡ true → x ≡ one) → find p xs ≡ Some one
+pub found_alone : {A : Type 0} (p : A → Bool) (xs : List A) (one : A) → Contains xs one → p one ≡ true → ((x : A) → Contains xs x → p x ≡ true → x ≡ one) → find p xs ≡ Some one
 found_alone {A = A} p xs one there passes alone = go (find p xs) refl
   where
     go : (o : Option A) → find p xs ≡ o → find p xs ≡ Some one
@@ -52,7 +52,7 @@ module _ (pool : Pool) (lawful : IsPool pool) where
       (λ before. not_before_itself b.name (subst (λ n. is_before n b.name ≡ true) same before))
       (λ before. not_before_itself b.name (subst (λ n. is_before b.name n ≡ true) same before))
 
-  snapshot_found : (s : Snapshot) (name : List ℕ) → Contains pool.snapshots s → s.name ≡ name → snapshot_named name pool ≡ Some s
+  pub snapshot_found : (s : Snapshot) (name : List ℕ) → Contains pool.snapshots s → s.name ≡ name → snapshot_named name pool ≡ Some s
   snapshot_found s name there named =
       found_alone (λ x. bytes_eq x.name name) pool.snapshots s there (bytes_same s.name name named)
       (λ x here passes. one_snapshot x s here there (same_bytes x.name name passes ∙ sym named))
@@ -235,11 +235,10 @@ redaction_passed pool s (Some bookmark) rest sent there h =
     let yes_it = not-false (redacts_snapshot bookmark s) ok.0 in
     (record { there = there; guid = grind (yes_it, nat_tests, arith); guids = grind (yes_it, nat_tests, arith) }, ok.1)
 
-relay_passed : (s : Snapshot) (source : Option Source) (rest : Result Sent PlanFault) (sent : Sent) → if_no_relay s source rest ≡ Ok sent
-    → (s.redact ≡ []) × IfSome source IsWhole × (rest ≡ Ok sent)
-relay_passed s source rest sent h =
-    let ok = unless_ok (has_guids s.redact || is_redacted source) (plans.Unsupported lacks.Relay) rest sent h in
-    (no_guids s.redact (neither (has_guids s.redact) (is_redacted source) ok.0).0, whole source (neither (has_guids s.redact) (is_redacted source) ok.0).1, ok.1)
+-- what isn't told as redacted isn't
+pub unrelayed : (s : Snapshot) (source : Option Source) → (has_guids s.redact || is_redacted source) ≡ false → (s.redact ≡ []) × IfSome source IsWhole
+unrelayed s source h =
+    let passed = neither (has_guids s.redact) (is_redacted source) h in (no_guids s.redact passed.0, whole source passed.1)
   where
     neither : (a b : Bool) → (a || b) ≡ false → (a ≡ false) × (b ≡ false)
     neither true b h = absurd (cc)
@@ -249,6 +248,12 @@ relay_passed s source rest sent h =
     whole None h = tt
     whole (Some (OfSnapshot x)) h = no_guids x.redact h
     whole (Some (OfBookmark x)) h = tt
+
+relay_passed : (s : Snapshot) (source : Option Source) (rest : Result Sent PlanFault) (sent : Sent) → if_no_relay s source rest ≡ Ok sent
+    → (s.redact ≡ []) × IfSome source IsWhole × (rest ≡ Ok sent)
+relay_passed s source rest sent h =
+    let ok = unless_ok (has_guids s.redact || is_redacted source) (plans.Unsupported lacks.Relay) rest sent h in
+    let free = unrelayed s source ok.0 in (free.0, free.1, ok.1)
 
 -- a source that passed the test stands before
 sources_stand : (pool : Pool) → IsPool pool → (s : Snapshot) (o : Option Source) → IfSome o (IsIn pool) → IfSome o (λ x. comes_before pool x s ≡ true)
@@ -290,7 +295,7 @@ planned_of_pool ask pool sent lawful h =
     })
 
 -- what is left once all is found
-all_left : (ask : SendAsk) (pool : Pool) (snapshot : Snapshot) (source : Option Source) (list : Option Bookmark) → find_snapshot ask.snap pool ≡ Ok snapshot
+pub all_left : (ask : SendAsk) (pool : Pool) (snapshot : Snapshot) (source : Option Source) (list : Option Bookmark) → find_snapshot ask.snap pool ≡ Ok snapshot
     → find_source ask.from pool ≡ Ok source → find_redaction ask.redact pool ≡ Ok list → send_plan ask pool ≡ sent_of pool snapshot source list
 unfolding send_plan
 all_left ask pool snapshot source list has_snapshot has_source has_list =
@@ -298,7 +303,7 @@ all_left ask pool snapshot source list has_snapshot has_source has_list =
     ∙ ap (λ r. r >>= (λ source. find_redaction ask.redact pool >>= (λ redaction. sent_of pool snapshot source redaction))) has_source
     ∙ ap (λ r. r >>= (λ redaction. sent_of pool snapshot source redaction)) has_list
 
-negated : (b : Bool) → (b ≡ true → ⊥) → not b ≡ true
+pub negated : (b : Bool) → (b ≡ true → ⊥) → not b ≡ true
 negated true h = absurd (h refl)
 negated false h = refl
 

@@ -20,7 +20,7 @@ use Rattle.zst_model.specs.states.DatedState.{DatedState, size_at, apply_all_dat
 use Rattle.zst_model.specs.pools.Sessions.{Held}
 use Rattle.zst_model.specs.pools.Pool.{Pool, Dataset, Snapshot, Bookmark, Partial, HasDataset, IsKind, IsPool}
 use Rattle.zst_model.specs.pools.Soundness.{Sound}
-use Rattle.zst_model.specs.pools.Step.{Stepped, stepped, IsCommand, committed, with_head, in_numbers, in_indices, applied, filled, written, punched, on_head, new_dataset, with_dataset, with_snapshot, snapshot_of, clone_of, with_clone, bookmark_of, with_bookmark, with_rollback, with_destroyed, with_aborted}
+use Rattle.zst_model.specs.pools.Step.{Stepped, stepped, IsCommand, committed, with_head, in_numbers, in_indices, applied, filled, written, punched, on_head, new_dataset, with_dataset, with_snapshot, snapshot_of, clone_of, with_clone, bookmark_of, with_bookmark, redaction_of, with_redaction, with_rollback, with_destroyed, with_aborted}
 use Rattle.zst_model.proofs.FilteredLists.{filter_contains}
 use Rattle.zst_model.proofs.ObjectNumbers.{number_from}
 use Rattle.zst_model.proofs.Results.{ok_parts, bind_ok}
@@ -36,6 +36,7 @@ use Rattle.zst_laws.proofs.pools.SoundHeads.{head_keeps}
 use Rattle.zst_laws.proofs.pools.SoundDatasets.{with_new, dataset_keeps, new_is_first, clone_comes}
 use Rattle.zst_laws.proofs.pools.SoundBookmarks.{bookmark_next, bookmark_sound}
 use Rattle.zst_laws.proofs.pools.SoundRest.{fewer_next, fewer_sound, left_next, left_sound, rolled_next, rolled_sound, aborted_next, aborted_sound}
+use Rattle.zst_laws.proofs.pools.AcceptedRedactions.{with_redaction_ok}
 use Rattle.zst_laws.proofs.pools.AcceptedRemovals.{with_rollback_ok, dataset_destroyed_ok, snapshot_destroyed_ok, bookmark_destroyed_ok, with_aborted_ok}
 use Rattle.zst_laws.proofs.pools.SoundSnapshots.{IsNew, snapshot_next, snapshot_sound}
 
@@ -80,6 +81,18 @@ marked_follows of name pool after is sound h =
     subst (λ s. IsSoundNext pool s.pool) (committed_ok _ after new.made).1 (record {
       next = bookmark_next pool (bookmark_of name new.snapshot) new.snapshot is.linked sound there refl refl new.same;
       sound = bookmark_sound pool (bookmark_of name new.snapshot) new.snapshot is.linked sound there refl refl new.same;
+    })
+
+-- a redaction bookmark
+redacted_follows : (of name : List ℕ) (kept : List (List ℕ)) (pool : Pool) (after : Stepped) → IsPool pool → Sound pool
+    → with_redaction of name kept pool ≡ Ok after → IsSoundNext pool after.pool
+redacted_follows of name kept pool after is sound h =
+    let new = with_redaction_ok of name kept pool after h in
+    let row = redaction_of name new.snapshot new.redactions in
+    let there = (named_found (λ s. s.name) of pool.snapshots new.snapshot new.there).0 in
+    subst (λ s. IsSoundNext pool s.pool) (committed_ok _ after new.made).1 (record {
+      next = bookmark_next pool row new.snapshot is.linked sound there refl refl new.same;
+      sound = bookmark_sound pool row new.snapshot is.linked sound there refl refl new.same;
     })
 
 -- a rollback
@@ -209,6 +222,7 @@ steps_follow held now (commands.Free name first count) pool after command is sou
 steps_follow held now (commands.Snapshot name) pool after command is sound h = inr (taken_follows now name pool after is sound h)
 steps_follow held now (commands.Clone origin name) pool after command is sound h = inr (cloned_follows origin name pool after is sound h)
 steps_follow held now (commands.Bookmark of name) pool after command is sound h = inr (marked_follows of name pool after is sound h)
+steps_follow held now (commands.Redact of name kept) pool after command is sound h = inr (redacted_follows of name kept pool after is sound h)
 steps_follow held now (commands.Rollback destroys name) pool after command is sound h = inr (rolled_follows held destroys name pool after is sound h)
 steps_follow held now (commands.Destroy name) pool after command is sound h = inr (destroyed_follows held name pool after is sound h)
 steps_follow held now (commands.Abort target) pool after command is sound h = inr (aborted_follows held target pool after is sound h)

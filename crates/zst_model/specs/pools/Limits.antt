@@ -17,6 +17,10 @@ most_snapshots = 1024
 unfoldable pub most_bookmarks : ℕ
 most_bookmarks = 1024
 
+-- the list of a redaction bookmark has at most so many runs
+unfoldable pub most_runs : ℕ
+most_runs = 65536
+
 -- and its partial states at most this
 unfoldable pub most_partials : ℕ
 most_partials = 16

@@ -1,9 +1,14 @@
 -- Which pairs a redaction bookmark lists (zfs-redact(8)): the blocks that no redaction snapshot has kept.
-use Rattle.std.specs.Prelude.{ℕ, Bool, true, false, List, Option, Some, None, nat_lt, ◌&&◌}
+use Rattle.std.specs.Prelude.{ℕ, Bool, true, false, List, Option, Some, None, map, nat_lt, ◌&&◌}
 use Rattle.std.specs.List.{list_all}
 use Rattle.zst_model.specs.states.State.{Block, Hole, Redacted, Data, Object, State, is_user_data}
 use Rattle.zst_model.specs.states.DatedState.{DatedState}
+use Rattle.zst_model.specs.pools.Pool.{Snapshot}
 use Rattle.zst_model.specs.sends.Inclusion.{Pairs}
+
+-- the dated states of snapshots
+abbrev pub objects_of : List Snapshot → List DatedState
+objects_of snapshots = map (λ snapshot. snapshot.objects) snapshots
 
 -- whether a block has data
 abbrev pub is_data : Block → Bool

@@ -36,7 +36,8 @@ pub record IsBookmarkOf (pool : Pool) (bookmark : Bookmark) : Type 0 where
   pub number : bookmark.number ≤ pool.number
   pub guid : (snapshot : Snapshot) → Contains pool.snapshots snapshot → dataset_of_snapshot snapshot ≡ dataset_of_bookmark bookmark → snapshot.number ≡ bookmark.number → bookmark.guid ≡ snapshot.guid
 
--- a sound pool, as far as it has no redaction list: what a list has is said where redaction is
+-- A sound pool, by three of its four parts, which each event keeps. Part 4, on what redaction bookmarks list, is AreListed of zst_laws, beside
+-- what sources remember: it stays so only as long as no two snapshots have one guid.
 pub record Sound (pool : Pool) : Type 0 where
   pub agree : Agree pool
   pub dated : Dated pool

@@ -1,5 +1,5 @@
 -- What a command makes of a pool, or its first refusal: where several come, the outermost one is the first.
-use Rattle.std.specs.Prelude.{◌<◌, ◌≤◌, IfSome, ℕ, ◌+◌, ◌*◌, ◌-◌, ◌^◌, Bool, true, false, ◌&&◌, ◌||◌, List, [], ◌∷◌, ◌++◌, length, map, filter, find, count_by, replicate, Option, Some, None, is_some, option_map, Result, Ok, Err, if◌then◌else◌, nat_lt, bytes_eq, not, codes}
+use Rattle.std.specs.Prelude.{◌<◌, ◌≤◌, IfSome, All, ℕ, ◌+◌, ◌*◌, ◌-◌, ◌^◌, ◌==◌, Bool, true, false, ◌&&◌, ◌||◌, List, [], ◌∷◌, ◌++◌, length, map, filter, find, count_by, replicate, Option, Some, None, is_some, option_map, Result, Ok, Err, if◌then◌else◌, nat_lt, bytes_eq, not, codes}
 use Rattle.std.specs.List.{list_any}
 use Rattle.zst_names.specs.Names.{IsDataset, IsSnapshot, IsBookmark, dataset_of}
 use Rattle.zst_model.specs.declared.refusals.apply_fault.ApplyFault.{ApplyFault}
@@ -9,6 +9,7 @@ use Rattle.zst_model.specs.declared.states.item.Item.{Item}
 use Rattle.zst_model.specs.declared.states.item.Item.TheVariants.{FreeObjects, At}
 use Rattle.zst_model.specs.declared.pools.command.Command.{Command}
 use Rattle.zst_model.specs.declared.pools.command.Command.TheVariants as commands
+use Rattle.zst_model.specs.declared.refusals.faults.Lack.TheVariants as lacks
 use Rattle.zst_model.specs.declared.refusals.faults.Quantity.{Quantity}
 use Rattle.zst_model.specs.declared.refusals.faults.Quantity.TheVariants as quantities
 use Rattle.zst_model.specs.declared.refusals.subjects.Name.{Name}
@@ -21,11 +22,15 @@ use Rattle.zst_model.specs.declared.refusals.refusal.Refusal.{Refusal}
 use Rattle.zst_model.specs.declared.refusals.refusal.Refusal.TheVariants as refusals
 use Rattle.zst_model.specs.states.State.{Block, Hole, Redacted, Data, number_bound, index_bound, IsHead, IsBonus, IsSpill}
 use Rattle.zst_model.specs.states.AppliedItems.{unless, ◌>>=◌}
+use Rattle.zst_model.specs.fields.RunsOf.{runs_of}
 use Rattle.zst_model.specs.sends.Items.{spill_change}
+use Rattle.zst_model.specs.sends.SendPlan.{comes_before, has_guids}
 use Rattle.zst_model.specs.states.DatedState.{DatedState, size_at, apply_all_dated}
+use Rattle.zst_model.specs.pools.Ancestry.{OfSnapshot}
+use Rattle.zst_model.specs.pools.RedSet.{objects_of, red_set}
 use Rattle.zst_model.specs.pools.Sessions.{Held, has_named, least_id, session_with, session_into, unless_busy}
 use Rattle.zst_model.specs.pools.Pool.{Pool, Dataset, Snapshot, Bookmark, Partial, dataset_of_snapshot, dataset_of_bookmark, dataset_named, snapshot_named, bookmark_named, partial_of, is_before, snapshot_is_before, inserted, untouched}
-unfoldable pub use Rattle.zst_model.specs.pools.Limits.{last_number, last_guid, most_datasets, most_snapshots, most_bookmarks}
+unfoldable pub use Rattle.zst_model.specs.pools.Limits.{last_number, last_guid, most_datasets, most_snapshots, most_bookmarks, most_runs}
 use Rattle.zst_model.specs.pools.Limits.{largest_write}
 use Rattle.zst_model.specs.pools.AnswerLines.{ok_line, pool_lines, object_lines, data_line}
 
@@ -41,6 +46,10 @@ IsName (names.Dataset name) = IsDataset name
 IsName (names.Snapshot name) = IsSnapshot name
 IsName (names.Bookmark name) = IsBookmark name
 
+-- the words of `redact` are in their ranges: from one redaction snapshot to sixteen
+abbrev pub IsRedact : List ℕ → List ℕ → List (List ℕ) → Type 0
+IsRedact of_snapshot name kept = IsSnapshot of_snapshot × IsBookmark name × All IsSnapshot kept × (0 < length kept) × (length kept ≤ 16)
+
 -- a command whose words are in their ranges
 abbrev pub IsCommand : Command → Type 0
 IsCommand (commands.Fs dataset) = IsDataset dataset
@@ -53,6 +62,7 @@ IsCommand (commands.Free dataset first count) = IsDataset dataset × (0 < first)
 IsCommand (commands.Snapshot name) = IsSnapshot name
 IsCommand (commands.Clone origin dataset) = IsSnapshot origin × IsDataset dataset
 IsCommand (commands.Bookmark snapshot bookmark) = IsSnapshot snapshot × IsBookmark bookmark
+IsCommand (commands.Redact snapshot bookmark redactions) = IsRedact snapshot bookmark redactions
 IsCommand (commands.Rollback destroys snapshot) = IsSnapshot snapshot
 IsCommand (commands.Destroy name) = IsName name
 IsCommand (commands.Abort dataset) = IsDataset dataset
@@ -228,6 +238,57 @@ with_bookmark of_snapshot name pool =
     (limited quantities.Bookmarks most_bookmarks (length pool.bookmarks + 1)
     (committed (record pool { bookmarks = inserted (λ a b. is_before a.name b.name) (bookmark_of name snapshot) pool.bookmarks })))))
 
+-- ---- redaction
+
+-- a guid among rising ones, in its place, once
+abbrev pub with_guid : ℕ → List ℕ → List ℕ
+with_guid guid [] = guid ∷ []
+with_guid guid (next ∷ rest) = if nat_lt guid next then guid ∷ next ∷ rest else (if guid == next then next ∷ rest else next ∷ with_guid guid rest)
+
+-- the guids of some snapshots, rising; equal ones count once
+abbrev pub guids_of : List Snapshot → List ℕ
+guids_of [] = []
+guids_of (snapshot ∷ rest) = with_guid snapshot.guid (guids_of rest)
+
+-- the snapshots of these names: E3 of the first that is absent
+abbrev pub find_each : List (List ℕ) → Pool → Result (List Snapshot) Refusal
+find_each [] pool = Ok []
+find_each (name ∷ rest) pool =
+    or_else (no_such (names.Snapshot name)) (snapshot_named name pool) (λ snapshot. find_each rest pool >>= λ others. Ok (snapshot ∷ others))
+
+-- E8: the snapshot doesn't stand before this one
+abbrev pub not_descendant : Snapshot → Refusal
+not_descendant redaction = refusals.Plan (plans.NotDescendant redaction.name)
+
+-- E19: what is redacted already isn't redacted once more
+abbrev pub relayed : Refusal
+relayed = refusals.Plan (plans.Unsupported lacks.Relay)
+
+-- a redaction bookmark: a snapshot's guid, time and number, the guids of the redaction snapshots, and what they leave of it
+abbrev pub redaction_of : List ℕ → Snapshot → List Snapshot → Bookmark
+redaction_of name snapshot redactions = record {
+  name = name;
+  guid = snapshot.guid;
+  time = snapshot.time;
+  number = snapshot.number;
+  redact = guids_of redactions;
+  runs = runs_of (red_set snapshot.objects.state snapshot.number (objects_of redactions));
+}
+
+-- redact (zfs-redact(8)): E3 of the snapshot, then of the first redaction snapshot that is absent, E6, E4, E19, E8 of the first that doesn't come of the snapshot, E23 of bookmarks, then of runs
+abbrev pub with_redaction : List ℕ → List ℕ → List (List ℕ) → Pool → Result Stepped Refusal
+with_redaction of_snapshot name kept pool =
+    or_else (no_such (names.Snapshot of_snapshot)) (snapshot_named of_snapshot pool) (λ snapshot.
+    find_each kept pool >>= λ redactions.
+    unless (not (bytes_eq (dataset_of_snapshot snapshot) (dataset_of 35 name))) (not_ancestor (names.Bookmark name) (names.Snapshot of_snapshot))
+    (unless (is_some (bookmark_named name pool)) (exists_already (names.Bookmark name))
+    (unless (has_guids snapshot.redact) relayed
+    (unless_there not_descendant (find (λ redaction. not (comes_before pool (OfSnapshot snapshot) redaction)) redactions)
+    (limited quantities.Bookmarks most_bookmarks (length pool.bookmarks + 1)
+    (let row = redaction_of name snapshot redactions in
+    limited quantities.Runs most_runs (length row.runs)
+    (committed (record pool { bookmarks = inserted (λ a b. is_before a.name b.name) row pool.bookmarks }))))))))
+
 -- ---- what goes, and what holds it
 
 -- whether a name that may be none is that of one of these snapshots
@@ -376,6 +437,7 @@ stepped held now (commands.Free dataset first count) pool =
 stepped held now (commands.Snapshot name) pool = with_snapshot now name pool
 stepped held now (commands.Clone origin dataset) pool = with_clone origin dataset pool
 stepped held now (commands.Bookmark snapshot bookmark) pool = with_bookmark snapshot bookmark pool
+stepped held now (commands.Redact snapshot bookmark redactions) pool = with_redaction snapshot bookmark redactions pool
 stepped held now (commands.Rollback destroys snapshot) pool = with_rollback held destroys snapshot pool
 stepped held now (commands.Destroy name) pool = with_destroyed held name pool
 stepped held now (commands.Abort dataset) pool = with_aborted held dataset pool
@@ -397,6 +459,7 @@ commits (commands.Free dataset first count) = true
 commits (commands.Snapshot name) = true
 commits (commands.Clone origin dataset) = true
 commits (commands.Bookmark snapshot bookmark) = true
+commits (commands.Redact snapshot bookmark redactions) = true
 commits (commands.Rollback destroys snapshot) = true
 commits (commands.Destroy name) = true
 commits (commands.Abort dataset) = true

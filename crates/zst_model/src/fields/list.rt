@@ -1,9 +1,12 @@
-ghost use Rattle.std.specs.Prelude.{◌≡◌, ◌↔◌, [], true, not, find, IsSome, IsNone, IfSome};
+ghost use Rattle.std.specs.Prelude.{◌≡◌, ◌↔◌, ◌≤◌, ◌<◌, [], true, not, find, length, IsSome, IsNone, IfSome, IfOk};
 ghost use Rattle.zst_model.specs.fields.Lists.{Runs, IsRunList, IsLeastFrom, HasNoneFrom, ends_by, has_pair, is_run, is_run_list, stands_before};
+ghost use Rattle.zst_model.specs.fields.PushedPairs.{PushesPair, ends_at, last_ends_at};
+ghost use Rattle.zst_model.specs.pools.Limits.{most_runs};
+ghost use Rattle.zst_model.specs.states.State.{index_bound, is_number};
 
-use crate::limits::{INDEX_BOUND, NUMBER_BOUND};
+use crate::limits::{INDEX_BOUND, MOST_RUNS, NUMBER_BOUND};
 use crate::states::cell::Run;
-use std::alloc::Global;
+use std::alloc::{AllocError, Global};
 use std::marker::Model;
 
 /// The redacted blocks of a redaction bookmark (zfs-redact(8)): pairs of an object's number and an index, in blocks.
@@ -59,6 +62,37 @@ impl List {
         self.runs
     }
 
+    /// Puts in a pair that stands behind all others: into the last run where that ends at it, and else as
+    /// a run of its own, unless the list has as many as it may. Tells whether it did.
+    #[tactic(auto, using(std::proofs::lemmas::Bool::Decides::nat_tests), unfolding(crate::specs::pools::Limits::most_runs))]
+    pub fn push_pair(&mut self, object: u64, block: u64) -> Result<bool, AllocError>
+        requires object { is_number object ≡ true }
+        requires block { block < index_bound }
+        requires behind { HasNoneFrom (has_pair self.old) object block }
+        ensures pushed { IfOk result (PushesPair self.old self.new object block) }
+        ensures short { length self.old ≤ most_runs → length self.new ≤ most_runs }
+        ensures lawful { IsRunList self.new }
+    {
+        let count = self.runs.len();
+        if last_ends_at(self.runs.as_slice(), object, block) {
+            let last = self.runs[count - 1];
+            self.runs[count - 1] = Run {
+                count: last.count + 1,
+                ..last
+            };
+            return Ok(true);
+        }
+        if count >= MOST_RUNS {
+            return Ok(false);
+        }
+        self.runs.push(Run {
+            object,
+            first: block,
+            count: 1,
+        })?;
+        Ok(true)
+    }
+
     /// Whether this pair is in the list.
     pub fn has(&self, object: u64, block: u64) -> bool
         ensures { result ≡ has_pair self.now object block }
@@ -102,6 +136,23 @@ fn ends_by(run: &Run, object: u64, block: u64) -> bool
     // A difference, since the sum of the run's numbers may not fit.
     run.object < object
         || run.object == object && run.first <= block && run.count <= block - run.first
+}
+
+/// Whether a pair stands at the end of a run, behind its last.
+fn ends_at(run: &Run, object: u64, block: u64) -> bool
+    ensures { result ≡ ends_at run.now object block }
+{
+    run.object == object && run.first <= block && run.count == block - run.first
+}
+
+/// Whether the last of some runs ends at a pair.
+fn last_ends_at(runs: &[Run], object: u64, block: u64) -> bool
+    ensures { result ≡ last_ends_at runs.now object block }
+{
+    match runs.split_last() {
+        Some((last, _)) => ends_at(last, object, block),
+        None => false,
+    }
 }
 
 /// Whether a list may have this run.

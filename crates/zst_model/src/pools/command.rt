@@ -1,4 +1,5 @@
 use crate::fields::bytes::Bytes;
+use crate::pools::snapshots::Snapshots;
 use crate::refusals::subjects::Name;
 use crate::states::attr::ObjectHead;
 use zst_names::{BookName, DatasetName, SnapName};
@@ -56,6 +57,12 @@ pub enum Command {
     Bookmark {
         snapshot: SnapName,
         bookmark: BookName,
+    },
+    /// Lists the blocks of a snapshot that none of these has kept, and makes a redaction bookmark of it (zfs-redact(8)).
+    Redact {
+        snapshot: SnapName,
+        bookmark: BookName,
+        redactions: Snapshots,
     },
     /// Takes a dataset's head back to a snapshot (zfs-rollback(8)).
     Rollback {

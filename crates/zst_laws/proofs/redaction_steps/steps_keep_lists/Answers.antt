@@ -1,4 +1,4 @@
-use Rattle.zst_laws.proofs.pools.ListedSteps.{steps_listed}
+use Rattle.zst_laws.proofs.pools.RedactionSteps.{steps_listed}
 use Rattle.zst_laws.proofs.redaction_steps.steps_keep_lists.Goals as goal
 
 pub returns : goal.returns

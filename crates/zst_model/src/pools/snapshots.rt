@@ -3,7 +3,7 @@ ghost use Rattle.std.specs.Prelude.{◌≡◌};
 use std::marker::Model;
 use zst_names::SnapName;
 
-/// The snapshots that a redaction keeps, in the order of their words.
+/// The names of redaction snapshots, in the order of their words.
 #[derive(Drop)]
 pub struct Snapshots {
     names: Vec<SnapName>,
@@ -19,7 +19,7 @@ impl Model for Snapshots {
 
 impl Snapshots {
     /// These snapshots.
-    pub(crate) fn new(names: Vec<SnapName>) -> Snapshots
+    pub fn new(names: Vec<SnapName>) -> Snapshots
         ensures { result ≡ names.items }
     {
         Snapshots { names }
