@@ -25,5 +25,6 @@ pub use fault::ObjFault;
 pub use laws::sets_hold_states;
 pub use leaves::load_slots;
 pub use objects::Objects;
+pub use slot_reads::slot_at;
 pub use slots::date_in;
 pub use trees::tree_of;

@@ -22,11 +22,7 @@ use zst_outside::Disk;
 use zst_tree::ObjSet;
 
 /// The slot of a number.
-pub(crate) fn slot_at<D: Disk>(
-    set: &ObjSet,
-    io: &mut Io<'_, D>,
-    object: u64,
-) -> Result<Slot, BlockFault>
+pub fn slot_at<D: Disk>(set: &ObjSet, io: &mut Io<'_, D>, object: u64) -> Result<Slot, BlockFault>
     requires object { (0 < object) × (object < 2 ^ 48) }
     ensures found { (snap : DatedState) → IsHonest io.new → SetHolds (blocks_of io.old) set.now snap
         → Delivers (SlotIs (blocks_of io.new) snap object) result }
