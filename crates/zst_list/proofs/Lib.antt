@@ -4,3 +4,4 @@ pub mod Loops
 pub mod OneList
 pub mod Sizes
 pub mod ReadRefusals
+pub mod WrittenLists

@@ -4,7 +4,9 @@
 mod coding;
 mod laws;
 mod reads;
+mod writes;
 
 pub use coding::{decode_list, encode_list};
 pub use laws::root_has_one_list;
 pub use reads::read_list;
+pub use writes::write_list;

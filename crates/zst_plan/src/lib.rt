@@ -12,11 +12,13 @@ mod resume;
 mod send;
 mod source;
 
+pub use checks::has_guids;
 pub use laws::{
     based_streams_are_refused, contained_is_covered, new_targets_are_refused, partials_are_refused,
     resumed_streams_are_accepted, sends_have_tokens, stated_names_are_refused,
     streams_are_accepted, targets_are_refused, tokens_are_accepted,
 };
+pub use origin_walk::snapshot_comes_before;
 pub use plan::SendPlan;
 pub use receive::{RecvAsk, RecvPlan, recv_plan};
 pub use resume::resume_plan;

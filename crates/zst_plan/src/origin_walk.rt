@@ -43,3 +43,15 @@ pub fn comes_before(dir: &Dir, source: &Source<'_>, snapshot: &Snapshot) -> bool
     }
     source.is_earlier(later)
 }
+
+/// Whether a snapshot stands before another.
+pub fn snapshot_comes_before(dir: &Dir, snapshot: &Snapshot, later: &Snapshot) -> bool
+    ensures { (pool : Pool) (from to : Plain) → AreNamed dir.now pool → NamesSnapshot snapshot.now from → NamesSnapshot later.now to → result ≡ comes_before pool (plain.OfSnapshot from) to }
+{
+    // What is looked at is the row alone, not where it stands.
+    let source = Source::Snapshot {
+        place: 0,
+        row: snapshot,
+    };
+    comes_before(dir, &source, later)
+}

@@ -1,6 +1,6 @@
 -- What the rows of a directory say of the pool that they stand for.
 use Rattle.std.proofs.Common.{◌≡◌, ℕ, ◌+◌, ◌≤◌, ◌<◌, ◌^◌, ◌-◌, get_or, true, false, List, length, Some, is_some, Result, Ok, Err, refl, sym, ap, ◌∙◌, subst, arith}
-use Rattle.std.specs.Prelude.{IfErr, IsErrAnd}
+use Rattle.std.specs.Prelude.{IfErr, IsErrAnd, OnOk}
 use Rattle.std.specs.List.{position, list_any}
 use Rattle.std.specs.Str.{bytes_eq}
 use Rattle.zst_model.specs.declared.refusals.faults.Quantity.TheVariants as quantities
@@ -16,13 +16,17 @@ use Rattle.zst_pool.specs.Checks.{next_of, with_new, if_new_snapshot, if_guid_le
 use Rattle.zst_dir.specs.Rows.{Rows}
 use Rattle.zst_dir.specs.RowNames.{AreNamed, NamesDataset, NamesSnapshot, NamesPartial, StandAlike}
 use Rattle.zst_dir.specs.declared.rows.Dataset.{Dataset}
-use Rattle.zst_dir.specs.declared.rows.Snapshot.{Snapshot}
 use Rattle.zst_dir.proofs.Matches.{length-Match, list_any-Match, find-Match}
 use Rattle.zst_dir.proofs.NamedRows.{partials_are_counted}
 
 pub err_has : {T F : Type 0} (P : F → Type 0) (result : Result T F) (fault : F) → IsErrAnd result (λ e. e ≡ fault) → P fault → IfErr result P
 err_has P (Ok value) fault is holds = tt
 err_has P (Err e) fault is holds = subst P (sym is) holds
+
+-- what holds does so after each answer that isn't refused
+pub ok_holds : {T F : Type 0} (result : Result T F) (P : Type 0) → P → OnOk result P
+ok_holds (Ok value) P holds = holds
+ok_holds (Err fault) P holds = tt
 
 pub at_last_number : (pool : Pool) → 2 ^ 63 ≤ pool.number → committed pool ≡ Err (refusals.Limit quantities.Number (2 ^ 63))
 unfolding last_number

@@ -9,7 +9,7 @@ use Rattle.zst_block.specs.IoCalls as blocks
 use Rattle.zst_block.specs.IoStates.{IoState}
 use Rattle.zst_block.specs.declared.fault.BlockFault.{BlockFault}
 use Rattle.zst_block.proofs.BlocksLaws.{FillsFree-then, KeepsBlocks-fills}
-use Rattle.zst_block.proofs.IoCallLemmas.{Looks-none, Works-looks}
+use Rattle.zst_block.proofs.IoCallLemmas.{Looks-none, Works-looks, Works-more}
 use Rattle.zst_model.specs.declared.refusals.refusal.Refusal.{Refusal}
 use Rattle.zst_model.specs.states.DatedState.{DatedState}
 use Rattle.zst_model.specs.states.AppliedItems.{◌>>=◌}
@@ -53,13 +53,18 @@ use Rattle.zst_pool.proofs.CommitAnswers.{committed_cause, committed_err, commit
 use Rattle.zst_dir.proofs.Matches.{Match-alike}
 use Rattle.zst_pool.proofs.NamedPools.{rows_named}
 use Rattle.zst_pool.proofs.CommandParts.{disk_fault_same, failed_then}
-use Rattle.zst_pool.proofs.Room.{spends_fell, spends_full, spends_grows}
+use Rattle.zst_pool.proofs.Room.{TakesSo, spends_fell, spends_full, spends_grows}
 
 -- what a command wrote before it fell or came to its commit: at most so much, and in a pool as much as it costs there
 abbrev pub Wrote : PoolState → Cost → (old new : IoState) → Option BlockFault → Type 0
 Wrote kept cost old new stop =
-    ((block : ℕ) × (block ≤ cost.most) × Works cost.cells block (rested old.disk old.failed old.checksum_errors old.reference kept) new stop)
-    × ((running : Pool) → new.disk.honest → IsAtRest false old.disk kept running → Works cost.cells (cost.block running) (rested old.disk old.failed old.checksum_errors old.reference kept) new stop)
+    ((block : ℕ) × (block ≤ cost.most) × TakesSo cost.cells block cost.most_list (rested old.disk old.failed old.checksum_errors old.reference kept) new stop)
+    × ((running : Pool) → new.disk.honest → IsAtRest false old.disk kept running → TakesSo cost.cells (cost.block running) (cost.list running) (rested old.disk old.failed old.checksum_errors old.reference kept) new stop)
+
+-- what changes a head takes as much of no list
+pub wrote_head : (kept : PoolState) (cost : Cost) (old new : IoState) (stop : Option BlockFault) → ((block : ℕ) × (block ≤ cost.most) × Works cost.cells block (rested old.disk old.failed old.checksum_errors old.reference kept) new stop)
+    → ((running : Pool) → new.disk.honest → IsAtRest false old.disk kept running → Works cost.cells (cost.block running) (rested old.disk old.failed old.checksum_errors old.reference kept) new stop) → Wrote kept cost old new stop
+wrote_head kept cost old new stop works exact = ((works.0, works.1, Works-more (omega arith) works.2), λ running told rests. Works-more (omega arith) (exact running told rests))
 
 module _ (definition : Pool → Result Stepped Refusal) (cost : Cost) (kept : PoolState) where
   -- a command that fell once it had written into free sectors alone
@@ -71,8 +76,8 @@ module _ (definition : Pool → Result Stepped Refusal) (cost : Cost) (kept : Po
       let fell_so : Ran definition cost kept old new (Err fault) = record {
         did = λ tight running told rests. fell old.disk new.disk new.space kept running (record { rested = rests; fills = works.fills }) (definition running) fault (refused running told (rest_plain old.disk kept running rests));
         open_still = λ is. stops.open_still (cc);
-        spends = (one.0, one.1, spends_fell kept cost.cells one.0 fault stops works);
-        exact = λ running told rests. spends_fell kept cost.cells (cost.block running) fault stops (wrote.1 running told rests);
+        spends = (one.0, one.1, spends_fell kept cost.cells one.0 cost.most_list fault stops works);
+        exact = λ running told rests. spends_fell kept cost.cells (cost.block running) (cost.list running) fault stops (wrote.1 running told rests);
         short = λ running told rests need largest same.
             let worked = wrote.1 running told rests in
             let full = worked.full need largest (stops.full need largest same) in
@@ -111,8 +116,8 @@ module _ (definition : Pool → Result Stepped Refusal) (cost : Cost) (kept : Po
       let runs : Ran definition cost kept old new answer = record {
         did = did;
         open_still = committed_open made;
-        spends = (one.0, one.1, spends made done takes refused one.0 works);
-        exact = λ running told rests. spends made done takes refused (cost.block running) (wrote.1 running (keeps.honest told) rests);
+        spends = (one.0, one.1, spends made done takes refused one.0 cost.most_list works);
+        exact = λ running told rests. spends made done takes refused (cost.block running) (cost.list running) (wrote.1 running (keeps.honest told) rests);
         short = λ running told rests. finds_less made takes running (makes running told rests) (wrote.1 running (keeps.honest told) rests);
         spares = λ apart. spares made works.fills refused apart;
         commits = record {
@@ -134,24 +139,24 @@ module _ (definition : Pool → Result Stepped Refusal) (cost : Cost) (kept : Po
       subst (Ran definition cost kept old new) (sym is) runs
     where
       spends : (r : Result PoolState CommitFault) → IfOk r (CommittedDir kept.body dir mid new) → TakesForDir dir mid.space new.space r → RefusedDir kept.body mid new r
-          → (block : ℕ) → Works cost.cells block (rested old.disk old.failed old.checksum_errors old.reference kept) mid None → Spends cost.cells block kept new.space as_kept (of_committed r)
-      spends (Ok next) done takes refused block works =
-          record { full = tt; grows = spends_grows kept cost.cells block dir works takes.takes grows next old_ready.in_range.end.1 done.ready.in_range.end.1 done.ends.0 done.ends.1 }
-      spends (Err (commits.Full need largest)) done takes refused block works =
+          → (block list : ℕ) → TakesSo cost.cells block list (rested old.disk old.failed old.checksum_errors old.reference kept) mid None → Spends cost.cells block list kept new.space as_kept (of_committed r)
+      spends (Ok next) done takes refused block list works =
+          record { full = tt; grows = spends_grows kept cost.cells block list dir works takes.takes grows next old_ready.in_range.end.1 done.ready.in_range.end.1 done.ends.0 done.ends.1 }
+      spends (Err (commits.Full need largest)) done takes refused block list works =
           let apart : ¬ (◌≡◌ {A = Result PoolState CommitFault} (Err (commits.Full need largest)) (Err commits.DiskFault)) = λ is. cc in
-          let told = spends_full kept cost.cells block dir works takes.takes grows need largest (refused.fills apart) (takes.full need largest refl) in
+          let told = spends_full kept cost.cells block list dir works takes.takes grows need largest (refused.fills apart) (takes.full need largest refl) in
           record {
             full = λ n l same.
                 let needed : need ≡ n = cc in
                 let left : largest ≡ l = cc in
-                subst (λ (m : ℕ). HasNoRoom cost.cells block kept.body kept.dir new.space m l) needed (subst (λ (m : ℕ). HasNoRoom cost.cells block kept.body kept.dir new.space need m) left told);
+                subst (λ (m : ℕ). HasNoRoom cost.cells block list kept.body kept.dir new.space m l) needed (subst (λ (m : ℕ). HasNoRoom cost.cells block list kept.body kept.dir new.space need m) left told);
             grows = tt;
           }
-      spends (Err commits.DiskFault) done takes refused block works = record { full = λ n l same. absurd (cc); grows = tt }
-      spends (Err commits.OutOfMemory) done takes refused block works = record { full = λ n l same. absurd (cc); grows = tt }
+      spends (Err commits.DiskFault) done takes refused block list works = record { full = λ n l same. absurd (cc); grows = tt }
+      spends (Err commits.OutOfMemory) done takes refused block list works = record { full = λ n l same. absurd (cc); grows = tt }
 
       finds_less : (r : Result PoolState CommitFault) → TakesForDir dir mid.space new.space r → (running : Pool) → MakesNamed (definition running) dir
-          → Works cost.cells (cost.block running) (rested old.disk old.failed old.checksum_errors old.reference kept) mid None → IfErr (of_committed r) (FindsLess cost.cells (cost.block running) kept.body (definition running))
+          → TakesSo cost.cells (cost.block running) (cost.list running) (rested old.disk old.failed old.checksum_errors old.reference kept) mid None → IfErr (of_committed r) (FindsLess cost.cells (cost.block running) (cost.list running) kept.body (definition running))
       finds_less (Ok next) takes running named works = tt
       finds_less (Err (commits.Full need largest)) takes running named works = λ n l same.
           let told = takes.full need largest refl in inr (dir, named, omega (arith, told.before, works.takes.longest))
@@ -169,9 +174,9 @@ module _ (definition : Pool → Result Stepped Refusal) (cost : Cost) (kept : Po
 pub idle_wrote : (kept : PoolState) (cost : Cost) (io : IoState) (stop : Option BlockFault) → stop ≡ None → io.space ≡ free_by kept.body → Wrote kept cost io io stop
 idle_wrote kept cost io stop none free =
     let start = rested io.disk io.failed io.checksum_errors io.reference kept in
-    let idle = λ (block : ℕ). subst (Works cost.cells block start io) (sym none)
-    (subst (λ (space : FreeSectors). Works cost.cells block start (record io { space = space }) None) (sym free) (Works-looks (Looks-none start))) in
-    ((0, omega arith, idle 0), λ running told rests. idle (cost.block running))
+    let idle = λ (block list : ℕ). subst (TakesSo cost.cells block list start io) (sym none)
+    (subst (λ (space : FreeSectors). TakesSo cost.cells block list start (record io { space = space }) None) (sym free) (Works-looks (Looks-none start))) in
+    ((0, omega arith, idle 0 cost.most_list), λ running told rests. idle (cost.block running) (cost.list running))
 
 module _ (definition : Pool → Result Stepped Refusal) (cost : Cost) (kept : PoolState) where
   -- one that fell before it did anything

@@ -29,6 +29,11 @@ pub mod CommandParts
 pub mod PlanLemmas
 pub mod Replies
 pub mod PoolsAtRest
+pub mod BuiltLists
+pub mod WrittenRuns
+pub mod RedactionRows
+pub mod RedactionGuids
+pub mod RedactionRuns
 pub mod RollbackRows
 pub mod Room
 pub mod CommandRuns

@@ -1,6 +1,6 @@
 -- Which refusals the directory tells, and which it doesn't.
 use Rattle.std.specs.Prelude.{Result, Ok, Err, IfErr}
-use Rattle.std.proofs.Common.{◌≡◌, ◌⊎◌, inl, inr, ℕ, ◌+◌, ◌*◌, ◌<◌, Bool, true, false, List, [], ◌∷◌, map, Option, nat_lt, refl, sym, ap, ◌∙◌, subst}
+use Rattle.std.proofs.Common.{◌≡◌, ◌⊎◌, inl, inr, ℕ, ◌+◌, ◌*◌, ◌<◌, Bool, true, false, List, [], ◌∷◌, length, map, Option, nat_lt, refl, sym, ap, ◌∙◌, subst}
 use Rattle.std.proofs.lemmas.Bool.{true≢false}
 use Rattle.zst_uber.specs.declared.uber.Uber.{Uber}
 use Rattle.zst_model.specs.declared.refusals.apply_fault.ApplyFault.{ApplyFault}
@@ -19,7 +19,9 @@ use Rattle.zst_model.specs.sends.Items.{spill_change}
 use Rattle.zst_model.specs.states.AppliedItems.{unless, ◌>>=◌}
 use Rattle.zst_model.specs.states.DatedState.{DatedState, apply_all_dated, size_at}
 use Rattle.zst_model.specs.states.State.{index_bound, number_bound}
+use Rattle.zst_model.specs.pools.Limits.{most_runs}
 use Rattle.zst_model.specs.pools.Pool.{Pool}
+use Rattle.zst_model.specs.pools.Pool as plain
 use Rattle.zst_model.specs.pools.Step.{Stepped, applied, committed, filled, in_indices, in_numbers, last_number, of_applying, on_head, punched, written}
 use Rattle.zst_model.proofs.PlanFaults.{plan_cases, same_plan}
 use Rattle.zst_tree.specs.declared.tree.ObjSet.{ObjSet}
@@ -31,7 +33,9 @@ use Rattle.zst_objset.specs.declared.fault.ObjFault.TheVariants as sets
 use Rattle.zst_pool.specs.Checks.{FindsHead, freed, next_of, put_in, with_head_of}
 use Rattle.zst_pool.specs.Faults.{of_committed, of_set}
 use Rattle.zst_pool.specs.Heads.{of_call, of_change}
+use Rattle.zst_pool.specs.Lineage.{with_marked}
 use Rattle.zst_pool.specs.Plans.{IsLast, IsLimitOf, IsPast, Plans, is_by_rows, is_counted}
+use Rattle.zst_pool.specs.Redactions.{if_short}
 use Rattle.zst_image.specs.Reads.{IsNamedBy}
 use Rattle.zst_pool.specs.declared.fault.PoolFault.{PoolFault}
 use Rattle.zst_pool.specs.declared.fault.PoolFault.TheVariants.{OutOfMemory, Plan}
@@ -55,53 +59,54 @@ unfolding is_told
 told_of = plan_cases (λ fault refusal. is_told refusal ≡ is_by_rows fault) (λ fault. refl) (λ which number. refl)
 
 -- what passes a limit isn't told by the directory
-limit_apart : (numbers indices : ℕ) (uber : Uber) (fault : PlanFault) → IsLimitOf numbers indices uber fault → is_by_rows fault ≡ false
-limit_apart numbers indices uber fault (inl (inl past)) = ap is_by_rows past.0
-limit_apart numbers indices uber fault (inl (inr past)) = ap is_by_rows past.0
-limit_apart numbers indices uber fault (inr last) = ap is_by_rows last.0
+limit_apart : (numbers indices : ℕ) (lists : Bool) (uber : Uber) (fault : PlanFault) → IsLimitOf numbers indices lists uber fault → is_by_rows fault ≡ false
+limit_apart numbers indices lists uber fault (inl (inl past)) = ap is_by_rows past.0
+limit_apart numbers indices lists uber fault (inl (inr past)) = ap is_by_rows past.0
+limit_apart numbers indices lists uber fault (inr (inl long)) = ap is_by_rows long.0
+limit_apart numbers indices lists uber fault (inr (inr last)) = ap is_by_rows last.0
 
-module _ {T : Type 0} (definition : Pool → Result Stepped Refusal) (numbers indices : ℕ) (kept : PoolState) where
+module _ {T : Type 0} (definition : Pool → Result Stepped Refusal) (numbers indices : ℕ) (lists : Bool) (kept : PoolState) where
   -- a command that its plan refuses
-  pub plans_refused : (fault : PlanFault) {result : Result T PoolFault} → result ≡ Err (Plan fault) → (is_by_rows fault ≡ true) ⊎ IsLimitOf numbers indices kept.body fault
-      → ((pool : Pool) → IsNamedBy kept.body kept.dir pool → definition pool ≡ Err (refusal_of fault)) → Plans definition numbers indices kept result
+  pub plans_refused : (fault : PlanFault) {result : Result T PoolFault} → result ≡ Err (Plan fault) → (is_by_rows fault ≡ true) ⊎ IsLimitOf numbers indices lists kept.body fault
+      → ((pool : Pool) → IsNamedBy kept.body kept.dir pool → definition pool ≡ Err (refusal_of fault)) → Plans definition numbers indices lists kept result
   plans_refused fault {result = result} answered told refuses =
-      let made : Plans {T = T} definition numbers indices kept (Err (Plan fault)) = record {
+      let made : Plans {T = T} definition numbers indices lists kept (Err (Plan fault)) = record {
         exact = λ pool other named is. (
           λ refused. let same : refusal_of fault ≡ refusal_of other = cc (refuses pool named, refused) in ap (λ f. Err (Plan f)) (same_plan fault other same),
           λ was. let same : fault ≡ other = cc in refuses pool named ∙ ap (λ f. Err (refusal_of f)) same,
         );
-        limits = λ other was. let same : fault ≡ other = cc in subst (λ (f : PlanFault). (is_by_rows f ≡ true) ⊎ IsLimitOf numbers indices kept.body f) same told;
+        limits = λ other was. let same : fault ≡ other = cc in subst (λ (f : PlanFault). (is_by_rows f ≡ true) ⊎ IsLimitOf numbers indices lists kept.body f) same told;
       } in
-      subst (Plans definition numbers indices kept) (sym answered) made
+      subst (Plans definition numbers indices lists kept) (sym answered) made
 
   -- one that the directory doesn't refuse, by its definition and by its answer
   pub plans_apart : (result : Result T PoolFault) → ((pool : Pool) → IsNamedBy kept.body kept.dir pool → gives_told (definition pool) ≡ false)
-      → ((fault : PlanFault) → result ≡ Err (Plan fault) → IsLimitOf numbers indices kept.body fault) → Plans definition numbers indices kept result
+      → ((fault : PlanFault) → result ≡ Err (Plan fault) → IsLimitOf numbers indices lists kept.body fault) → Plans definition numbers indices lists kept result
   plans_apart result apart limits = record {
     exact = λ pool fault named is. (
       λ refused. absurd (true≢false (sym is ∙ sym (told_of fault) ∙ ap gives_told (sym refused) ∙ apart pool named)),
-      λ was. absurd (true≢false (sym is ∙ limit_apart numbers indices kept.body fault (limits fault was))),
+      λ was. absurd (true≢false (sym is ∙ limit_apart numbers indices lists kept.body fault (limits fault was))),
     );
     limits = λ fault was. inr (limits fault was);
   }
 
   -- one that falls for want of memory, where the directory doesn't refuse it
-  pub plans_starved : (result : Result T PoolFault) → result ≡ Err OutOfMemory → ((pool : Pool) → IsNamedBy kept.body kept.dir pool → gives_told (definition pool) ≡ false) → Plans definition numbers indices kept result
+  pub plans_starved : (result : Result T PoolFault) → result ≡ Err OutOfMemory → ((pool : Pool) → IsNamedBy kept.body kept.dir pool → gives_told (definition pool) ≡ false) → Plans definition numbers indices lists kept result
   plans_starved result answered apart = plans_apart result apart (λ fault is. absurd (cc (answered, is)))
 
   -- the same answer of another call
-  pub plans_err : {U : Type 0} (fault : PoolFault) {result : Result U PoolFault} → result ≡ Err fault → Plans {T = T} definition numbers indices kept (Err fault) → Plans {T = U} definition numbers indices kept result
+  pub plans_err : {U : Type 0} (fault : PoolFault) {result : Result U PoolFault} → result ≡ Err fault → Plans {T = T} definition numbers indices lists kept (Err fault) → Plans {T = U} definition numbers indices lists kept result
   plans_err {U = U} fault {result = result} answered is =
-      let again : Plans {T = U} definition numbers indices kept (Err fault) = record {
+      let again : Plans {T = U} definition numbers indices lists kept (Err fault) = record {
         exact = λ pool plan named told. (
           λ refused. let was = (is.exact pool plan named told).0 refused in let same : fault ≡ Plan plan = cc in ap (λ f. Err f) same,
           λ was. let same : fault ≡ Plan plan = cc in (is.exact pool plan named told).1 (ap (λ f. Err f) same),
         );
         limits = λ plan was. let same : fault ≡ Plan plan = cc in is.limits plan (ap (λ f. Err f) same);
       } in
-      subst (Plans definition numbers indices kept) (sym answered) again
+      subst (Plans definition numbers indices lists kept) (sym answered) again
 
-  pub plans_ok : {U : Type 0} (value : T) (other : U) → Plans {T = T} definition numbers indices kept (Ok value) → Plans {T = U} definition numbers indices kept (Ok other)
+  pub plans_ok : {U : Type 0} (value : T) (other : U) → Plans {T = T} definition numbers indices lists kept (Ok value) → Plans {T = U} definition numbers indices lists kept (Ok other)
   plans_ok value other is = record {
     exact = λ pool plan named told. (
       λ refused. let was = (is.exact pool plan named told).0 refused in absurd (cc),
@@ -165,6 +170,11 @@ head_apart rows name pool set make apart found =
     ap gives_told (found.4 make)
     ∙ apart_then (make dataset.head) (λ after. committed (with_head_of name after pool)) (apart dataset.head) (λ after. apart_committed (with_head_of name after pool))
 
+-- a list is never refused for what the directory tells
+pub short_apart : (bookmark : plain.Bookmark) (pool : Pool) → gives_told (if_short bookmark pool) ≡ false
+unfolding is_told
+short_apart bookmark pool = apart_unless (nat_lt most_runs (length bookmark.runs)) (refusals.Limit quantities.Runs most_runs) (committed (with_marked bookmark pool)) refl (apart_committed (with_marked bookmark pool))
+
 -- a commit that is made isn't refused
 pub made_apart : (definition : Result Stepped Refusal) (done : Stepped) → definition ≡ Ok done → gives_told definition ≡ false
 made_apart definition done is = ap gives_told is
@@ -225,12 +235,12 @@ no_plan-commit made same fault is = not_planned made fault (sym same ∙ is)
     not_planned (Err commits.OutOfMemory) fault is = absurd (cc)
 
 -- what a command on a head is refused for once it was opened
-pub head_limits : (numbers indices : ℕ) (uber : Uber) (changed : Result (Unit {0}) (OrMemory ObjFault)) → ((fault : PlanFault) → of_change changed ≡ Err (Plan fault) → IsPast numbers indices fault)
-    → (fault : PlanFault) → (of_change changed ≡ Err (Plan fault)) ⊎ IsLast uber.number fault → IsLimitOf numbers indices uber fault
-head_limits numbers indices uber changed past fault (inl was) = inl (past fault was)
-head_limits numbers indices uber changed past fault (inr last) = inr last
+pub head_limits : (numbers indices : ℕ) (lists : Bool) (uber : Uber) (changed : Result (Unit {0}) (OrMemory ObjFault)) → ((fault : PlanFault) → of_change changed ≡ Err (Plan fault) → IsPast numbers indices fault)
+    → (fault : PlanFault) → (of_change changed ≡ Err (Plan fault)) ⊎ IsLast uber.number fault → IsLimitOf numbers indices lists uber fault
+head_limits numbers indices lists uber changed past fault (inl was) = inl (past fault was)
+head_limits numbers indices lists uber changed past fault (inr last) = inr (inr last)
 
 -- what the plan of a snapshot is refused for
-pub told_or_last : (numbers indices : ℕ) (uber : Uber) (fault : PlanFault) → (is_by_rows fault ≡ true) ⊎ IsLast uber.number fault → (is_by_rows fault ≡ true) ⊎ IsLimitOf numbers indices uber fault
-told_or_last numbers indices uber fault (inl told) = inl told
-told_or_last numbers indices uber fault (inr last) = inr (inr last)
+pub told_or_last : (numbers indices : ℕ) (lists : Bool) (uber : Uber) (fault : PlanFault) → (is_by_rows fault ≡ true) ⊎ IsLast uber.number fault → (is_by_rows fault ≡ true) ⊎ IsLimitOf numbers indices lists uber fault
+told_or_last numbers indices lists uber fault (inl told) = inl told
+told_or_last numbers indices lists uber fault (inr last) = inr (inr (inr last))

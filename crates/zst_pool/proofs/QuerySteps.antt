@@ -57,16 +57,16 @@ on_err (Ok value) is = tt
 on_err (Err fault) is = is
 
 -- it takes no sectors
-pub spends_none : (cells block : ℕ) (kept : PoolState) (left : FreeSectors) (result : Result (List (List ℕ)) PoolFault) → ((need largest : ℕ) → ¬ (stop_of result ≡ Some (blocks.Full need largest)))
-    → Spends cells block kept left (λ reply. kept) result
-spends_none cells block kept left (Ok reply) never = record { full = tt; grows = record { sectors = refl; end = omega arith } }
-spends_none cells block kept left (Err fault) never = record { full = λ need largest is. absurd (never need largest (ap (λ (f : PoolFault). stop_of {T = List (List ℕ)} (Err f)) is)); grows = tt }
+pub spends_none : (cells block list : ℕ) (kept : PoolState) (left : FreeSectors) (result : Result (List (List ℕ)) PoolFault) → ((need largest : ℕ) → ¬ (stop_of result ≡ Some (blocks.Full need largest)))
+    → Spends cells block list kept left (λ reply. kept) result
+spends_none cells block list kept left (Ok reply) never = record { full = tt; grows = record { sectors = refl; end = omega arith } }
+spends_none cells block list kept left (Err fault) never = record { full = λ need largest is. absurd (never need largest (ap (λ (f : PoolFault). stop_of {T = List (List ℕ)} (Err f)) is)); grows = tt }
 
 -- and finds room for all that it takes
-pub finds_none : (cells block : ℕ) (uber : Uber) (definition : Result Stepped Refusal) (result : Result (List (List ℕ)) PoolFault) → ((need largest : ℕ) → ¬ (stop_of result ≡ Some (blocks.Full need largest)))
-    → IfErr result (FindsLess cells block uber definition)
-finds_none cells block uber definition (Ok reply) never = tt
-finds_none cells block uber definition (Err fault) never = λ need largest is. absurd (never need largest (ap (λ (f : PoolFault). stop_of {T = List (List ℕ)} (Err f)) is))
+pub finds_none : (cells block list : ℕ) (uber : Uber) (definition : Result Stepped Refusal) (result : Result (List (List ℕ)) PoolFault) → ((need largest : ℕ) → ¬ (stop_of result ≡ Some (blocks.Full need largest)))
+    → IfErr result (FindsLess cells block list uber definition)
+finds_none cells block list uber definition (Ok reply) never = tt
+finds_none cells block list uber definition (Err fault) never = λ need largest is. absurd (never need largest (ap (λ (f : PoolFault). stop_of {T = List (List ℕ)} (Err f)) is))
 
 -- it stops at a fault of the disk where it answers one
 pub fails_told : (result : Result (List (List ℕ)) PoolFault) → fails (stop_of result) ≡ is_disk_fault result

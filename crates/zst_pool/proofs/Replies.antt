@@ -15,9 +15,13 @@ use Rattle.zst_names.specs.Names.{dataset_of}
 use Rattle.zst_model.specs.declared.refusals.subjects.Name.{Name}
 use Rattle.zst_model.specs.declared.refusals.subjects.Name.TheVariants as names
 use Rattle.zst_model.specs.pools.Pool.{Pool, Bookmark, Dataset, Partial, Snapshot, bookmark_named, dataset_named, partial_of, snapshot_named}
-use Rattle.zst_model.specs.pools.Step.{Stepped, bookmark_of, busy_bookmark, busy_clone, busy_partial, busy_snapshot, clone_of, commits, committed, count_datasets, destroyed_by, exists_already, is_newer_bookmark, is_of, is_one_of, last_guid, last_number, least_name, limited, most_bookmarks, most_datasets, most_snapshots, new_dataset, newer_snapshots, no_partial, no_such, not_ancestor, on_head, or_else, punched, rolled_back, stepped, unless_newer, unless_there, unless_used, with_aborted, with_bookmark, with_clone, with_dataset, with_destroyed, with_rollback, with_snapshot, without_bookmark, without_dataset, without_partial, without_snapshot, written}
+use Rattle.zst_model.specs.pools.Step.{Stepped, bookmark_of, busy_bookmark, busy_clone, busy_partial, busy_snapshot, clone_of, commits, committed, count_datasets, destroyed_by, exists_already, is_newer_bookmark, is_of, is_one_of, last_guid, last_number, least_name, limited, most_bookmarks, most_datasets, most_snapshots, new_dataset, newer_snapshots, no_partial, no_such, not_ancestor, on_head, or_else, punched, rolled_back, stepped, unless_newer, unless_there, unless_used, with_aborted, with_bookmark, with_clone, with_dataset, with_destroyed, with_rollback, with_snapshot, without_bookmark, without_dataset, without_partial, without_snapshot, written, find_each, not_descendant, redaction_of, relayed, with_redaction}
 use Rattle.zst_pool.specs.Checks.{freed, put_in, if_guid_left, if_new_snapshot, next_of, with_head_of, with_new, with_taken}
-use Rattle.zst_pool.specs.Lineage.{if_new_bookmark, with_marked}
+use Rattle.zst_model.specs.pools.Ancestry.{OfSnapshot}
+use Rattle.zst_model.specs.pools.Limits.{most_runs}
+use Rattle.zst_model.specs.sends.SendPlan.{comes_before, has_guids}
+use Rattle.zst_pool.specs.Lineage.{if_few_bookmarks, if_free_bookmark, if_new_bookmark, with_marked}
+use Rattle.zst_pool.specs.Redactions.{if_descend, if_short, if_whole}
 
 -- where it is accepted, its answer is the next number, and that isn't past the last one
 pub record IsReply (number : ℕ) (done : Stepped) : Type 0 where
@@ -131,6 +135,27 @@ of_newer false snapshot pool rest is =
     on_unless_there pool.number (λ (bookmark : Bookmark). busy_bookmark bookmark.name) (find (is_newer_bookmark snapshot) pool.bookmarks) (unless_there busy_snapshot least rest)
     (on_unless_there pool.number busy_snapshot least rest is)
 
+of_redaction : (snapshot name : List ℕ) (words : List (List ℕ)) (pool : Pool) → IfOk (with_redaction snapshot name words pool) (IsReply pool.number)
+of_redaction snapshot name words pool =
+    let row = λ (taken : Snapshot) (redactions : List Snapshot). redaction_of name taken redactions in
+    let short = λ (taken : Snapshot) (redactions : List Snapshot). if_short (row taken redactions) pool in
+    let few = λ (taken : Snapshot) (redactions : List Snapshot). if_few_bookmarks pool (short taken redactions) in
+    let descend = λ (taken : Snapshot) (redactions : List Snapshot). if_descend pool taken redactions (few taken redactions) in
+    let whole = λ (taken : Snapshot) (redactions : List Snapshot). if_whole taken.redact (descend taken redactions) in
+    let free = λ (taken : Snapshot) (redactions : List Snapshot). if_free_bookmark name pool (whole taken redactions) in
+    let other = not_ancestor (names.Bookmark name) (names.Snapshot snapshot) in
+    let is_of_another = λ (taken : Snapshot). not (bytes_eq (dataset_of 64 taken.name) (dataset_of 35 name)) in
+    let checked = λ (taken : Snapshot) (redactions : List Snapshot). unless (is_of_another taken) other (free taken redactions) in
+    on_or_else pool.number (no_such (names.Snapshot snapshot)) (snapshot_named snapshot pool) (λ taken. find_each words pool >>= λ redactions. checked taken redactions) (λ taken.
+    on_bind pool.number (find_each words pool) (λ redactions. checked taken redactions) (λ redactions.
+    on_unless pool.number (is_of_another taken) other (free taken redactions)
+    (on_unless pool.number (is_some (bookmark_named name pool)) (exists_already (names.Bookmark name)) (whole taken redactions)
+    (on_unless pool.number (has_guids taken.redact) relayed (descend taken redactions)
+    (on_unless_there pool.number not_descendant (find (λ redaction. not (comes_before pool (OfSnapshot taken) redaction)) redactions) (few taken redactions)
+    (on_unless pool.number (nat_lt most_bookmarks (length pool.bookmarks + 1)) (refusals.Limit quantities.Bookmarks most_bookmarks) (short taken redactions)
+    (on_unless pool.number (nat_lt most_runs (length (row taken redactions).runs)) (refusals.Limit quantities.Runs most_runs) (committed (with_marked (row taken redactions) pool))
+    (on_committed pool.number (with_marked (row taken redactions) pool) refl))))))))
+
 of_rollback : (destroys : Bool) (name : List ℕ) (pool : Pool) → IfOk (with_rollback [] destroys name pool) (IsReply pool.number)
 of_rollback destroys name pool =
     let rest = λ (snapshot : Snapshot). unless_newer destroys snapshot pool (committed (rolled_back snapshot pool)) in
@@ -155,6 +180,7 @@ of_step now (commands.Free dataset first count) pool commit = of_head dataset po
 of_step now (commands.Snapshot name) pool commit = of_snapshot now name pool
 of_step now (commands.Clone origin dataset) pool commit = of_clone origin dataset pool
 of_step now (commands.Bookmark snapshot bookmark) pool commit = of_bookmark snapshot bookmark pool
+of_step now (commands.Redact snapshot bookmark redactions) pool commit = of_redaction snapshot bookmark redactions pool
 of_step now (commands.Rollback destroys snapshot) pool commit = of_rollback destroys snapshot pool
 of_step now (commands.Destroy name) pool commit = of_destroyed name pool
 of_step now (commands.Abort dataset) pool commit = of_aborted dataset pool

@@ -4,6 +4,7 @@ use Rattle.std.proofs.Common.{◌≡◌, inl, ℕ, ◌+◌, ◌*◌, ◌/◌, �
 use Rattle.zst_outside.specs.Images.{DiskState}
 use Rattle.zst_space.specs.FreeSectors.{FreeSectors}
 use Rattle.zst_block.specs.Blocks.{FillsFree}
+use Rattle.zst_block.specs.IoCalls as blocks
 use Rattle.zst_block.specs.IoCalls.{TakesAtMost}
 use Rattle.zst_block.specs.IoStates.{IoState}
 use Rattle.zst_block.specs.declared.fault.BlockFault.{BlockFault}
@@ -13,7 +14,7 @@ use Rattle.zst_dir.specs.Rows.{Rows}
 use Rattle.zst_dir.specs.Spelling.{dir_bytes}
 use Rattle.zst_pool.specs.Calls.{IsCallFull}
 use Rattle.zst_pool.specs.Cost.{Grows, HasNoRoom, Spends, most_sectors}
-use Rattle.zst_pool.specs.Heads.{Stops, Works, rested}
+use Rattle.zst_pool.specs.Heads.{Stops, rested}
 use Rattle.zst_image.specs.Reads.{dir_sectors, free_by}
 use Rattle.zst_image.specs.Commits.{IsDirFull}
 use Rattle.zst_pool.specs.CommandRuns.{as_kept}
@@ -43,31 +44,35 @@ call_full space left dir rows need largest longer takes full =
       before = omega (arith, full.before, more);
     }
 
-module _ (kept : PoolState) (cells block : ℕ) {disk : DiskState} {failed : Bool} {checksum_errors reference : ℕ} {new : IoState} where
+-- a command that wrote so much: 640 sectors at most for each cell, one block of so many, and so many in blocks of a list
+abbrev pub TakesSo : (cells block list : ℕ) → (old new : IoState) → Option BlockFault → Type 0
+TakesSo cells block list old new stop = blocks.Works (block + list + 640 * cells) block old new stop
+
+module _ (kept : PoolState) (cells block list : ℕ) {disk : DiskState} {failed : Bool} {checksum_errors reference : ℕ} {new : IoState} where
   -- what a command spends that stopped at a block's fault, or at none
-  pub spends_fell : {stop : Option BlockFault} (fault : PoolFault) → Stops stop fault → Works cells block (rested disk failed checksum_errors reference kept) new stop
-      → Spends cells block kept new.space as_kept (Err fault)
+  pub spends_fell : {stop : Option BlockFault} (fault : PoolFault) → Stops stop fault → TakesSo cells block list (rested disk failed checksum_errors reference kept) new stop
+      → Spends cells block list kept new.space as_kept (Err fault)
   spends_fell {stop = stop} fault stops works = record {
     full = λ need largest same.
         let full = works.full need largest (stops.full need largest same) in
         let was = was_free kept.body new.space works.takes works.fills.fewer in
-        let taken_more = takes_more (block + 640 * cells) (most_sectors cells block kept.dir) (free_by kept.body) new.space (omega arith) works.takes in
+        let taken_more = takes_more (block + list + 640 * cells) (most_sectors cells block list kept.dir) (free_by kept.body) new.space (omega arith) works.takes in
         record { taken = taken_more; shorter = full.shorter; needed = full.needed; is_longest = full.is_longest; was_free = omega (arith, full.is_longest, was); room = omega (arith, full.before) };
     grows = tt;
   }
 
   -- what a command spends that came to its commit
-  module _ {least : FreeSectors} (dir : Rows) (works : Works cells block (rested disk failed checksum_errors reference kept) new None)
+  module _ {least : FreeSectors} (dir : Rows) (works : TakesSo cells block list (rested disk failed checksum_errors reference kept) new None)
       (takes : TakesAtMost (dir_sectors (length (dir_bytes dir))) new.space least) (grows : length (dir_bytes dir) ≤ length (dir_bytes kept.dir) + 1024) where
-    pub spends_full : {last : DiskState} (need largest : ℕ) → FillsFree new.disk new.space last least → IsDirFull new.space least dir need largest → HasNoRoom cells block kept.body kept.dir least need largest
+    pub spends_full : {last : DiskState} (need largest : ℕ) → FillsFree new.disk new.space last least → IsDirFull new.space least dir need largest → HasNoRoom cells block list kept.body kept.dir least need largest
     spends_full need largest fills told =
         let more = dir-more (length (dir_bytes dir)) (length (dir_bytes kept.dir) + 1024) grows in
         let was = was_free kept.body least (takes_then (free_by kept.body) new.space least works.takes takes) (λ sector free. works.fills.fewer sector (fills.fewer sector free)) in
-        let taken_more = takes_more (block + 640 * cells + dir_sectors (length (dir_bytes dir))) (most_sectors cells block kept.dir) (free_by kept.body) least (omega (arith, more)) (takes_then (free_by kept.body) new.space least works.takes takes) in
+        let taken_more = takes_more (block + list + 640 * cells + dir_sectors (length (dir_bytes dir))) (most_sectors cells block list kept.dir) (free_by kept.body) least (omega (arith, more)) (takes_then (free_by kept.body) new.space least works.takes takes) in
         record { taken = taken_more; shorter = told.shorter; needed = inl told.needed; is_longest = told.is_longest; was_free = omega (arith, told.is_longest, was); room = omega (arith, told.before, works.takes.longest, more) }
 
     pub spends_grows : (next : PoolState) → kept.body.end ≤ kept.body.sectors → next.body.end ≤ next.body.sectors → next.body.end ≡ least.end → next.body.sectors ≡ kept.body.sectors
-        → Grows (most_sectors cells block kept.dir) kept.body next.body
+        → Grows (most_sectors cells block list kept.dir) kept.body next.body
     spends_grows next inside within end sectors =
         let more = dir-more (length (dir_bytes dir)) (length (dir_bytes kept.dir) + 1024) grows in
         let later = ends_later kept.body least (takes_then (free_by kept.body) new.space least works.takes takes) inside (omega (arith, within, end, sectors)) in

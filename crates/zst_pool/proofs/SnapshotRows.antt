@@ -19,7 +19,7 @@ use Rattle.zst_dir.specs.Rows.{Rows}
 use Rattle.zst_dir.specs.declared.rows.Bookmark.{Bookmark}
 use Rattle.zst_dir.specs.declared.rows.Snapshot.{Snapshot}
 use Rattle.zst_dir.specs.RowNames.{AreNamed, NamesBookmark, NamesSnapshot, StandAlike}
-use Rattle.zst_pool.specs.Lineage.{if_new_bookmark}
+use Rattle.zst_pool.specs.Lineage.{if_few_bookmarks, if_free_bookmark}
 use Rattle.zst_pool.proofs.DestroyedRows.{bookmark_is_there}
 use Rattle.zst_dir.proofs.Matches.{find-Match, is_some-position, length-Match, none_named}
 
@@ -34,21 +34,21 @@ module _ (rows : Rows) (pool : Pool) (are : AreNamed rows pool) where
 
   -- what a new bookmark is refused for
   module _ (name : List ℕ) (rest : Result Stepped Refusal) where
-    pub bookmark_is_taken : is_some (position (λ bookmark. bytes_eq bookmark.name name) rows.bookmarks) ≡ true → if_new_bookmark name pool rest ≡ Err (exists_already (names.Bookmark name))
+    pub bookmark_is_taken : is_some (position (λ bookmark. bytes_eq bookmark.name name) rows.bookmarks) ≡ true → if_free_bookmark name pool rest ≡ Err (exists_already (names.Bookmark name))
     bookmark_is_taken there = let is = sym (bookmark_is_there rows pool are name) ∙ there in rw is refl
 
-    pub bookmarks_are_many : is_some (position (λ bookmark. bytes_eq bookmark.name name) rows.bookmarks) ≡ false → 1024 ≤ length rows.bookmarks
-        → if_new_bookmark name pool rest ≡ Err (refusals.Limit quantities.Bookmarks 1024)
-    unfolding most_bookmarks
-    bookmarks_are_many absent many =
-        let is = sym (bookmark_is_there rows pool are name) ∙ absent in
-        rw is (over quantities.Bookmarks 1024 (length pool.bookmarks + 1) rest (omega (arith, many, length-Match NamesBookmark rows.bookmarks pool.bookmarks are.bookmarks)))
+    pub bookmark_is_free : is_some (position (λ bookmark. bytes_eq bookmark.name name) rows.bookmarks) ≡ false → if_free_bookmark name pool rest ≡ rest
+    bookmark_is_free absent = let is = sym (bookmark_is_there rows pool are name) ∙ absent in rw is refl
 
-    pub bookmark_is_new : is_some (position (λ bookmark. bytes_eq bookmark.name name) rows.bookmarks) ≡ false → length rows.bookmarks < 1024 → if_new_bookmark name pool rest ≡ rest
+  -- and what one bookmark more is
+  module _ (rest : Result Stepped Refusal) where
+    pub bookmarks_are_many : 1024 ≤ length rows.bookmarks → if_few_bookmarks pool rest ≡ Err (refusals.Limit quantities.Bookmarks 1024)
     unfolding most_bookmarks
-    bookmark_is_new absent few =
-        let is = sym (bookmark_is_there rows pool are name) ∙ absent in
-        rw is (within_limit quantities.Bookmarks 1024 (length pool.bookmarks + 1) rest (omega (arith, few, length-Match NamesBookmark rows.bookmarks pool.bookmarks are.bookmarks)))
+    bookmarks_are_many many = over quantities.Bookmarks 1024 (length pool.bookmarks + 1) rest (omega (arith, many, length-Match NamesBookmark rows.bookmarks pool.bookmarks are.bookmarks))
+
+    pub bookmarks_are_few : length rows.bookmarks < 1024 → if_few_bookmarks pool rest ≡ rest
+    unfolding most_bookmarks
+    bookmarks_are_few few = within_limit quantities.Bookmarks 1024 (length pool.bookmarks + 1) rest (omega (arith, few, length-Match NamesBookmark rows.bookmarks pool.bookmarks are.bookmarks))
 
 -- a name that isn't found is new
 pub no_bookmark : (rows : Rows) (name : List ℕ) → is_some (position (λ bookmark. bytes_eq bookmark.name name) rows.bookmarks) ≡ false → All (λ bookmark. bookmark.name ≡ name → ⊥) rows.bookmarks

@@ -13,24 +13,24 @@ use Rattle.zst_pool.specs.declared.fault.PoolFault.{PoolFault}
 use Rattle.zst_pool.specs.declared.fault.PoolFault.TheVariants.{DiskFault, Full}
 use Rattle.zst_image.specs.declared.pool_state.PoolState.{PoolState}
 
-module _ {T : Type 0} (cells block : ℕ) (kept : PoolState) (left : FreeSectors) where
+module _ {T : Type 0} (cells block list : ℕ) (kept : PoolState) (left : FreeSectors) where
   -- a step that went well
-  pub spends_ok : (next : PoolState) (reply : T) (later : FreeSectors) → Spends cells block kept left as_kept (Ok next) → Spends cells block kept later (λ value. next) (Ok reply)
+  pub spends_ok : (next : PoolState) (reply : T) (later : FreeSectors) → Spends cells block list kept left as_kept (Ok next) → Spends cells block list kept later (λ value. next) (Ok reply)
   spends_ok next reply later spends = record { full = tt; grows = spends.grows }
 
   -- one that fell as its run did, whose sectors stay where the disk was full
   pub spends_err : (next : PoolState) (fault : PoolFault) (r : Result T PoolFault) (later : FreeSectors) → r ≡ Err fault → (tells_full fault ≡ true → later ≡ left)
-      → Spends cells block kept left as_kept (Err fault) → Spends cells block kept later (λ value. next) r
+      → Spends cells block list kept left as_kept (Err fault) → Spends cells block list kept later (λ value. next) r
   spends_err next fault r later same stays spends =
-      let found : FindsNoRoom cells block kept later fault = λ need largest is. subst (λ (space : FreeSectors). HasNoRoom cells block kept.body kept.dir space need largest) (sym (stays (ap tells_full is))) (spends.full need largest is) in
-      let fell : Spends {T = T} cells block kept later (λ value. next) (Err fault) = record { full = found; grows = tt } in
-      subst (Spends cells block kept later (λ value. next)) (sym same) fell
+      let found : FindsNoRoom cells block list kept later fault = λ need largest is. subst (λ (space : FreeSectors). HasNoRoom cells block list kept.body kept.dir space need largest) (sym (stays (ap tells_full is))) (spends.full need largest is) in
+      let fell : Spends {T = T} cells block list kept later (λ value. next) (Err fault) = record { full = found; grows = tt } in
+      subst (Spends cells block list kept later (λ value. next)) (sym same) fell
 
   -- one that fell apart from E24
-  pub spends_apart : (next : PoolState) (fault : PoolFault) (r : Result T PoolFault) → r ≡ Err fault → ((need largest : ℕ) → ¬ (fault ≡ Full need largest)) → Spends cells block kept left (λ value. next) r
+  pub spends_apart : (next : PoolState) (fault : PoolFault) (r : Result T PoolFault) → r ≡ Err fault → ((need largest : ℕ) → ¬ (fault ≡ Full need largest)) → Spends cells block list kept left (λ value. next) r
   spends_apart next fault r same apart =
-      let fell : Spends {T = T} cells block kept left (λ value. next) (Err fault) = record { full = λ need largest is. absurd (apart need largest is); grows = tt } in
-      subst (Spends cells block kept left (λ value. next)) (sym same) fell
+      let fell : Spends {T = T} cells block list kept left (λ value. next) (Err fault) = record { full = λ need largest is. absurd (apart need largest is); grows = tt } in
+      subst (Spends cells block list kept left (λ value. next)) (sym same) fell
 
 -- what holds unless the disk failed does so of each answer with that fault
 pub spares_err : {T : Type 0} (P : Type 0) (fault : PoolFault) (r : Result T PoolFault) → r ≡ Err fault → (¬ (◌≡◌ {A = Result PoolState PoolFault} (Err fault) (Err DiskFault)) → P) → ¬ (r ≡ Err DiskFault) → OnErr r P

@@ -1,5 +1,5 @@
 -- What the parts of a change take of the free sectors.
-use Rattle.std.proofs.Common.{◌≡◌, ◌⊎◌, inr, ⊎_elim, ℕ, ◌+◌, ◌-◌, ◌≤◌, List, [], refl, ap, arith}
+use Rattle.std.proofs.Common.{◌≡◌, inr, ⊎_elim, ℕ, ◌+◌, ◌-◌, ◌≤◌, List, [], refl, ap, arith}
 use Rattle.zst_space.specs.FreeSectors.{FreeSectors, IsFree, greatest, largest_of, total}
 use Rattle.zst_space.specs.declared.space.Extent.{Extent}
 use Rattle.zst_block.specs.IoCalls.{TakesAtMost}

@@ -23,7 +23,9 @@ use Rattle.zst_dir.specs.Rows.{HasSnapshot, Rows}
 use Rattle.zst_dir.specs.declared.rows.Dataset.{Dataset}
 use Rattle.zst_dir.specs.RowNames.{AreNamed, StandAlike}
 use Rattle.zst_image.specs.declared.pool_state.PoolState.{PoolState}
+use Rattle.zst_pool.specs.Faults.{StepFault}
 use Rattle.zst_pool.specs.Plans.{IsLast, is_by_rows}
+use Rattle.zst_pool.specs.declared.fault.PoolFault.{PoolFault}
 
 -- a check that passes leaves what comes next of the definition, and one that refuses gives the definition's refusal
 abbrev pub Judges : {T : Type 0} → Result Stepped Refusal → Result Stepped Refusal → Result T PlanFault → Type 0
@@ -59,6 +61,11 @@ if_guid_left guids rest = limited quantities.Guids last_guid (guids + 1) rest
 -- the pool of the next commit, and its answer
 abbrev pub next_of : Pool → Stepped
 next_of pool = record { reply = ok_line (pool.number + 1) ∷ []; pool = record pool { number = pool.number + 1 } }
+
+-- the next commit can be made, or what a command is refused for that accepts so far
+abbrev pub JudgesCommit : {T : Type 0} → Pool → Result T PoolFault → Type 0
+JudgesCommit pool (Ok value) = committed pool ≡ Ok (next_of pool)
+JudgesCommit pool (Err fault) = StepFault (Unit {0}) (committed pool) fault
 
 -- a pool with a new dataset
 abbrev pub with_new : plain.Dataset → Pool → Pool

@@ -39,10 +39,10 @@ pub record Ran (definition : Pool → Result Stepped Refusal) (cost : Cost) (kep
   pub did : (tight : Bool) (running : Pool) → new.disk.honest → IsAtRest tight old.disk kept running → Did tight old.disk new.disk kept running (definition running) result
   pub open_still : ¬ (result ≡ Err Failed)
   -- it takes no more than the cost at most, and no more than the cost in the pool
-  pub spends : (block : ℕ) × (block ≤ cost.most) × Spends cost.cells block kept new.space as_kept result
-  pub exact : (running : Pool) → new.disk.honest → IsAtRest false old.disk kept running → Spends cost.cells (cost.block running) kept new.space as_kept result
+  pub spends : (block : ℕ) × (block ≤ cost.most) × Spends cost.cells block cost.most_list kept new.space as_kept result
+  pub exact : (running : Pool) → new.disk.honest → IsAtRest false old.disk kept running → Spends cost.cells (cost.block running) (cost.list running) kept new.space as_kept result
   -- and where it finds no room there, fewer sectors were free than it takes with the directory that it would leave
-  pub short : (running : Pool) → new.disk.honest → IsAtRest false old.disk kept running → IfErr result (FindsLess cost.cells (cost.block running) kept.body (definition running))
+  pub short : (running : Pool) → new.disk.honest → IsAtRest false old.disk kept running → IfErr result (FindsLess cost.cells (cost.block running) (cost.list running) kept.body (definition running))
   -- where it is refused, unless the disk failed, free sectors alone were written
   pub spares : ¬ (result ≡ Err DiskFault) → OnErr result (SparesTaken (free_by kept.body) old.disk.seen new.disk.seen)
   pub commits : EndsCommit kept old new result
@@ -60,6 +60,6 @@ pub record CanBegin (now : IoState) (kept : PoolState) : Type 0 where
   pub ready : Ready now.disk kept.body
 
 -- what a command that commits did and told, and what its plan refuses
-pub record RunsByPlan (definition : Pool → Result Stepped Refusal) (cost : Cost) (damage : DamageFact) (numbers indices : ℕ) (kept : PoolState) (old new : IoState) (result : Result PoolState PoolFault) : Type 0 where
+pub record RunsByPlan (definition : Pool → Result Stepped Refusal) (cost : Cost) (damage : DamageFact) (numbers indices : ℕ) (lists : Bool) (kept : PoolState) (old new : IoState) (result : Result PoolState PoolFault) : Type 0 where
   pub runs : Runs definition cost damage kept old new result
-  pub plans : Plans definition numbers indices kept result
+  pub plans : Plans definition numbers indices lists kept result

@@ -1,32 +1,41 @@
 -- What a command costs of the free sectors, and where it finds no room.
-use Rattle.std.specs.Prelude.{◌≡◌, ◌⊎◌, ◌+◌, ◌*◌, ◌-◌, ◌/◌, ◌<◌, ◌≤◌, ℕ, List, length, Option, Some, None, Result, Ok, IfErr, IfOk}
+use Rattle.std.specs.Prelude.{◌≡◌, ◌⊎◌, ◌+◌, ◌*◌, ◌-◌, ◌/◌, ◌<◌, ◌≤◌, ℕ, List, length, Option, Some, None, Result, Ok, Err, IfErr, IfOk}
 use Rattle.zst_space.specs.FreeSectors.{FreeSectors, largest_of}
 use Rattle.zst_uber.specs.declared.uber.Uber.{Uber}
 use Rattle.zst_model.specs.declared.pools.command.Command.{Command}
 use Rattle.zst_model.specs.declared.pools.command.Command.TheVariants as commands
 use Rattle.zst_model.specs.states.DatedState.{size_at}
-use Rattle.zst_model.specs.pools.Pool.{Pool, dataset_named}
+use Rattle.zst_model.specs.pools.Limits.{most_runs}
+use Rattle.zst_model.specs.pools.Pool.{Pool, dataset_named, snapshot_named}
 use Rattle.zst_model.specs.pools.Pool as plain
-use Rattle.zst_model.specs.pools.Step.{Stepped}
+use Rattle.zst_model.specs.pools.Step.{Stepped, find_each}
 use Rattle.zst_model.specs.declared.refusals.refusal.Refusal.{Refusal}
 use Rattle.zst_dir.specs.RowNames.{AreNamed}
 use Rattle.zst_dir.specs.Rows.{Rows}
 use Rattle.zst_dir.specs.Spelling.{dir_bytes}
 use Rattle.zst_block.specs.IoCalls.{TakesAtMost}
+use Rattle.zst_list.specs.StoredLists.{list_sectors}
 use Rattle.zst_image.specs.Reads.{dir_sectors, free_by}
+use Rattle.zst_pool.specs.Redactions.{left_of}
 use Rattle.zst_pool.specs.declared.fault.PoolFault.{PoolFault}
 use Rattle.zst_pool.specs.declared.fault.PoolFault.TheVariants.{Full}
 use Rattle.zst_image.specs.declared.pool_state.PoolState.{PoolState}
 
--- what a change of an object set costs: so many cells that it touches, and so many sectors of data or of a spill block, in a pool, and at most whatever is there
+-- what a command costs: so many cells that it touches, so many sectors of data or of a spill block, which stand in one extent, and so many of a list, which stand in blocks of a tree: in a pool, and at most whatever is there
 pub record Cost : Type 0 where
   pub cells : ℕ
   pub block : Pool → ℕ
+  pub list : Pool → ℕ
   pub most : ℕ
+  pub most_list : ℕ
+
+-- a change that writes data in no list, of a block that has so many sectors at most
+abbrev pub data_cost : ℕ → (Pool → ℕ) → ℕ → Cost
+data_cost cells block most = record { cells = cells; block = block; list = λ pool. 0; most = most; most_list = 0 }
 
 -- a change that writes no data
 abbrev pub cells_only : ℕ → Cost
-cells_only cells = record { cells = cells; block = λ pool. 0; most = 0 }
+cells_only cells = data_cost cells (λ pool. 0) 0
 
 -- an object is one cell, and its spill block another
 abbrev pub object_cells : Option (List ℕ) → ℕ
@@ -38,7 +47,7 @@ spill_sectors None = 0
 spill_sectors (Some spill) = length spill / 512
 
 abbrev pub object_cost : Option (List ℕ) → Cost
-object_cost spill = record { cells = object_cells spill; block = λ pool. spill_sectors spill; most = spill_sectors spill }
+object_cost spill = data_cost (object_cells spill) (λ pool. spill_sectors spill) (spill_sectors spill)
 
 -- the sectors of a block of an object of a dataset's head
 abbrev pub block_sectors : ℕ → Option plain.Dataset → ℕ
@@ -47,7 +56,23 @@ block_sectors k (Some dataset) = size_at (dataset.head.state k) / 512
 
 -- a written block is one cell; it has 256 sectors at most
 abbrev pub write_cost : List ℕ → ℕ → Cost
-write_cost name k = record { cells = 1; block = λ pool. block_sectors k (dataset_named name pool); most = 256 }
+write_cost name k = data_cost 1 (λ pool. block_sectors k (dataset_named name pool)) 256
+
+-- the sectors of the list of a redaction, of what is found of its snapshot and of what that is redacted by
+abbrev pub redaction_sectors : Option plain.Snapshot → Result (List plain.Snapshot) Refusal → ℕ
+redaction_sectors None found = 0
+redaction_sectors (Some snapshot) (Err refusal) = 0
+redaction_sectors (Some snapshot) (Ok redactions) = list_sectors (length (left_of snapshot redactions))
+
+-- a redaction touches no cell, and writes its list
+abbrev pub redact_cost : List ℕ → List (List ℕ) → Cost
+redact_cost of redactions = record {
+  cells = 0;
+  block = λ pool. 0;
+  list = λ pool. redaction_sectors (snapshot_named of pool) (find_each redactions pool);
+  most = 0;
+  most_list = list_sectors most_runs;
+}
 
 -- what a command costs; a range is 2 cells
 abbrev pub cost_of : Command → Cost
@@ -60,6 +85,7 @@ cost_of (commands.Free dataset first count) = cells_only 2
 cost_of (commands.Snapshot name) = cells_only 0
 cost_of (commands.Clone origin dataset) = cells_only 0
 cost_of (commands.Bookmark snapshot bookmark) = cells_only 0
+cost_of (commands.Redact snapshot bookmark redactions) = redact_cost snapshot redactions
 cost_of (commands.Rollback destroys snapshot) = cells_only 0
 cost_of (commands.Destroy name) = cells_only 0
 cost_of (commands.Abort dataset) = cells_only 0
@@ -67,22 +93,22 @@ cost_of (commands.Read name k i) = cells_only 0
 cost_of commands.List = cells_only 0
 cost_of (commands.ListObjects name) = cells_only 0
 
--- so many sectors an event takes at most that touches so many cells and writes so many sectors of data: for each cell 640, and those of a directory that has 1,024 bytes more than this one
-abbrev pub most_sectors : ℕ → ℕ → Rows → ℕ
-most_sectors cells block rows = block + 640 * cells + dir_sectors (length (dir_bytes rows) + 1024)
+-- so many sectors an event takes at most that touches so many cells and writes so many sectors of data and of a list: for each cell 640, and those of a directory that has 1,024 bytes more than this one
+abbrev pub most_sectors : (cells block list : ℕ) → Rows → ℕ
+most_sectors cells block list rows = block + list + 640 * cells + dir_sectors (length (dir_bytes rows) + 1024)
 
--- E24: what is to be written, a block of a tree or the data, is longer than the longest extent of the sectors that are left then, which were free before; and before, fewer sectors were free than the event takes at most
-pub record HasNoRoom (cells block : ℕ) (uber : Uber) (rows : Rows) (left : FreeSectors) (need largest : ℕ) : Type 0 where
-  pub taken : TakesAtMost (most_sectors cells block rows) (free_by uber) left
+-- E24: what is to be written, a block of a tree or of a list, or the data, is longer than the longest extent of the sectors that are left then, which were free before; and before, fewer sectors were free than the event takes at most
+pub record HasNoRoom (cells block list : ℕ) (uber : Uber) (rows : Rows) (left : FreeSectors) (need largest : ℕ) : Type 0 where
+  pub taken : TakesAtMost (most_sectors cells block list rows) (free_by uber) left
   pub shorter : largest < need
   pub needed : (need ≡ 16) ⊎ (need ≡ block)
   pub is_longest : largest ≡ largest_of left
   pub was_free : largest ≤ uber.sectors - uber.end
-  pub room : uber.sectors - uber.end < most_sectors cells block rows
+  pub room : uber.sectors - uber.end < most_sectors cells block list rows
 
 -- E24 comes only so
-abbrev pub FindsNoRoom : ℕ → ℕ → PoolState → FreeSectors → PoolFault → Type 0
-FindsNoRoom cells block kept left fault = (need largest : ℕ) → fault ≡ Full need largest → HasNoRoom cells block kept.body kept.dir left need largest
+abbrev pub FindsNoRoom : (cells block list : ℕ) → PoolState → FreeSectors → PoolFault → Type 0
+FindsNoRoom cells block list kept left fault = (need largest : ℕ) → fault ≡ Full need largest → HasNoRoom cells block list kept.body kept.dir left need largest
 
 -- these rows name the pool that a definition makes
 pub record MakesNamed (definition : Result Stepped Refusal) (rows : Rows) : Type 0 where
@@ -90,15 +116,15 @@ pub record MakesNamed (definition : Result Stepped Refusal) (rows : Rows) : Type
   pub made : definition ≡ Ok done
   pub named : AreNamed rows done.pool
 
--- fewer sectors are free by a body than an event takes: those for its cells and its data alone, or with them those of a directory of rows that name the pool that the definition makes
-abbrev pub CostsMore : ℕ → ℕ → Uber → Result Stepped Refusal → Type 0
-CostsMore cells block uber definition =
-    (uber.sectors - uber.end < block + 640 * cells)
-    ⊎ ((rows : Rows) × MakesNamed definition rows × (uber.sectors - uber.end < block + 640 * cells + dir_sectors (length (dir_bytes rows))))
+-- fewer sectors are free by a body than an event takes: those for its cells, its data and its list alone, or with them those of a directory of rows that name the pool that the definition makes
+abbrev pub CostsMore : (cells block list : ℕ) → Uber → Result Stepped Refusal → Type 0
+CostsMore cells block list uber definition =
+    (uber.sectors - uber.end < block + list + 640 * cells)
+    ⊎ ((rows : Rows) × MakesNamed definition rows × (uber.sectors - uber.end < block + list + 640 * cells + dir_sectors (length (dir_bytes rows))))
 
 -- E24 comes only so
-abbrev pub FindsLess : ℕ → ℕ → Uber → Result Stepped Refusal → PoolFault → Type 0
-FindsLess cells block uber definition fault = (need largest : ℕ) → fault ≡ Full need largest → CostsMore cells block uber definition
+abbrev pub FindsLess : (cells block list : ℕ) → Uber → Result Stepped Refusal → PoolFault → Type 0
+FindsLess cells block list uber definition fault = (need largest : ℕ) → fault ≡ Full need largest → CostsMore cells block list uber definition
 
 -- a body of as many sectors, in which so many more are taken at most
 pub record Grows (most : ℕ) (before after : Uber) : Type 0 where
@@ -106,6 +132,6 @@ pub record Grows (most : ℕ) (before after : Uber) : Type 0 where
   pub end : after.end ≤ before.end + most
 
 -- what an event takes of the sectors, at Ok and where it finds no room
-pub record Spends {T : Type 0} (cells block : ℕ) (kept : PoolState) (left : FreeSectors) (after : T → PoolState) (result : Result T PoolFault) : Type 0 where
-  pub full : IfErr result (FindsNoRoom cells block kept left)
-  pub grows : IfOk result (λ value. let next = after value in Grows (most_sectors cells block kept.dir) kept.body next.body)
+pub record Spends {T : Type 0} (cells block list : ℕ) (kept : PoolState) (left : FreeSectors) (after : T → PoolState) (result : Result T PoolFault) : Type 0 where
+  pub full : IfErr result (FindsNoRoom cells block list kept left)
+  pub grows : IfOk result (λ value. let next = after value in Grows (most_sectors cells block list kept.dir) kept.body next.body)

@@ -1,5 +1,5 @@
 -- Which block a command tells as damaged.
-use Rattle.std.specs.Prelude.{◌≡◌, ◌⊎◌, ℕ, List, Contains, Some}
+use Rattle.std.specs.Prelude.{◌≡◌, ◌⊎◌, ℕ, List, ◌∷◌, Contains, Some}
 use Rattle.zst_outside.specs.Images.{DiskState}
 use Rattle.zst_space.specs.FreeSectors.{FreeSectors}
 use Rattle.zst_block.specs.Blocks.{SparesTaken}
@@ -11,7 +11,9 @@ use Rattle.zst_model.specs.declared.pools.command.Command.TheVariants as command
 use Rattle.zst_model.specs.declared.refusals.subjects.Name.{Name}
 use Rattle.zst_dir.specs.Rows.{Rows}
 use Rattle.zst_dir.specs.declared.rows.Dataset.{Dataset}
+use Rattle.zst_redact.specs.Damage.{IsDamagedAmong}
 use Rattle.zst_pool.specs.Lookups.{set_named}
+use Rattle.zst_pool.specs.Redactions.{rows_of, sets_of}
 use Rattle.zst_pool.specs.declared.fault.PoolFault.{PoolFault}
 use Rattle.zst_pool.specs.declared.fault.PoolFault.TheVariants.{Damaged}
 
@@ -56,7 +58,11 @@ read_damage disk set sector stated found = (count : ℕ) × IsDamagedBlock (IsSe
 abbrev pub NoDamage : DamageFact
 NoDamage sector stated found = ⊥
 
--- what a command may tell: of the object set of its dataset or its snapshot, as the disk had it when the command began, with these sectors free
+-- what a redaction may tell: of a walk over the object set of one of the snapshots that it names
+abbrev pub redact_damage : DiskState → List (List ℕ) → Rows → DamageFact
+redact_damage disk names rows = IsDamagedAmong (IsSeen disk.seen) disk.size (sets_of (rows_of names rows))
+
+-- what a command may tell: of the object set of its dataset or of its snapshots, as the disk had it when the command began, with these sectors free
 abbrev pub TellsDamage : Command → Rows → DiskState → FreeSectors → DamageFact
 TellsDamage (commands.Fs dataset) rows disk space = NoDamage
 TellsDamage (commands.Volume dataset) rows disk space = NoDamage
@@ -67,6 +73,7 @@ TellsDamage (commands.Free dataset first count) rows disk space = OfHead rows da
 TellsDamage (commands.Snapshot name) rows disk space = NoDamage
 TellsDamage (commands.Clone origin dataset) rows disk space = NoDamage
 TellsDamage (commands.Bookmark snapshot bookmark) rows disk space = NoDamage
+TellsDamage (commands.Redact snapshot bookmark redactions) rows disk space = redact_damage disk (snapshot ∷ redactions) rows
 TellsDamage (commands.Rollback destroys snapshot) rows disk space = NoDamage
 TellsDamage (commands.Destroy name) rows disk space = NoDamage
 TellsDamage (commands.Abort dataset) rows disk space = NoDamage

@@ -130,13 +130,13 @@ module _ {D : Type 0} {g : Ghosts D} where
         → StepAnswer tight (disk_of new.io) new.kept running (stepped [] now command running) result
     pub open_still : old.io.failed ≡ false → ¬ (result ≡ Err Failed)
     -- whatever the image is, no more is taken than the command costs at most, and E24 comes only where that isn't there
-    pub spends : old.io.failed ≡ false → (block : ℕ) × (block ≤ (cost_of command).most) × Spends (cost_of command).cells block old.kept new.io.space (λ reply. new.kept) result
+    pub spends : old.io.failed ≡ false → (block : ℕ) × (block ≤ (cost_of command).most) × Spends (cost_of command).cells block (cost_of command).most_list old.kept new.io.space (λ reply. new.kept) result
     -- where a pool was at rest, no more is taken than the command costs there
     pub exact : (running : Plain) → IsHonest new.io → old.io.failed ≡ false → IsAtRest false (disk_of old.io) old.kept running
-        → Spends (cost_of command).cells ((cost_of command).block running) old.kept new.io.space (λ reply. new.kept) result
+        → Spends (cost_of command).cells ((cost_of command).block running) ((cost_of command).list running) old.kept new.io.space (λ reply. new.kept) result
     -- and E24 comes there only where fewer sectors were free than it takes with the directory that it would leave
     pub short : (running : Plain) → IsHonest new.io → old.io.failed ≡ false → IsAtRest false (disk_of old.io) old.kept running
-        → IfErr result (FindsLess (cost_of command).cells ((cost_of command).block running) old.kept.body (stepped [] now command running))
+        → IfErr result (FindsLess (cost_of command).cells ((cost_of command).block running) ((cost_of command).list running) old.kept.body (stepped [] now command running))
     -- what is refused wrote free sectors alone, unless the disk failed
     pub spares : ¬ (result ≡ Err DiskFault) → OnErr result (SparesTaken (free_by old.kept.body) (disk_of old.io).seen (disk_of new.io).seen)
     -- E25 tells a damage of the object set of the command's dataset, also where the image reads as no pool

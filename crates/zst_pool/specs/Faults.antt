@@ -7,11 +7,15 @@ use Rattle.zst_model.specs.declared.refusals.refusal.Refusal.{Refusal}
 use Rattle.zst_model.specs.declared.refusals.refusal.Refusal.TheVariants as refusals
 use Rattle.zst_model.specs.refusals.Refusal.{refusal_of}
 use Rattle.zst_model.specs.pools.Step.{Stepped}
+use Rattle.zst_model.specs.declared.refusals.faults.Quantity.TheVariants as quantities
 use Rattle.zst_model.specs.declared.refusals.plan_fault.PlanFault.TheVariants as plans
+use Rattle.zst_model.specs.pools.Limits.{most_runs}
 use Rattle.zst_objset.specs.declared.fault.ObjFault.{ObjFault}
 use Rattle.zst_objset.specs.declared.fault.ObjFault.TheVariants as sets
 use Rattle.zst_tree.specs.declared.or_memory.OrMemory.{OrMemory}
 use Rattle.zst_tree.specs.declared.or_memory.OrMemory.TheVariants.{Fault, Memory}
+use Rattle.zst_redact.specs.declared.fault.RedactFault.{RedactFault}
+use Rattle.zst_redact.specs.declared.fault.RedactFault.TheVariants as redacts
 use Rattle.zst_image.specs.declared.commit_fault.CommitFault.{CommitFault}
 use Rattle.zst_image.specs.declared.commit_fault.CommitFault.TheVariants as commits
 use Rattle.zst_pool.specs.declared.fault.PoolFault.{PoolFault}
@@ -45,6 +49,16 @@ of_set (sets.Block fault) = of_block fault
 abbrev pub or_memory : {F : Type 0} → (F → PoolFault) → OrMemory F → PoolFault
 or_memory as_pool (Fault fault) = as_pool fault
 or_memory as_pool Memory = faults.OutOfMemory
+
+-- a fault of building a list as a pool's: E23 where it is too long
+abbrev pub of_redact : RedactFault → PoolFault
+of_redact redacts.Limit = faults.Plan (plans.Limit quantities.Runs most_runs)
+of_redact (redacts.Block fault) = of_block fault
+
+-- what the building of a list answers, as a pool's answer
+abbrev pub of_built : {T : Type 0} → Result T (OrMemory RedactFault) → Result T PoolFault
+of_built (Ok value) = Ok value
+of_built (Err fault) = Err (or_memory of_redact fault)
 
 -- a commit's fault as a pool's
 abbrev pub of_commit : CommitFault → PoolFault

@@ -8,6 +8,7 @@ pub mod FinishedRows
 pub mod Heads
 pub mod Lineage
 pub mod Lists
+pub mod Redactions
 pub mod RowChanges
 pub mod PartialRows
 pub mod Partials

@@ -114,11 +114,17 @@ bookmark_row name snapshot = record { name = name; guid = snapshot.guid; time = 
 abbrev pub with_marked : plain.Bookmark → Pool → Pool
 with_marked bookmark pool = record pool { bookmarks = inserted (λ a b. is_before a.name b.name) bookmark pool.bookmarks }
 
--- what comes next, where a bookmark's name is free and one more bookmark has room
+-- what comes next, where a bookmark's name is free
+abbrev pub if_free_bookmark : List ℕ → Pool → Result Stepped Refusal → Result Stepped Refusal
+if_free_bookmark name pool rest = unless (is_some (bookmark_named name pool)) (exists_already (names.Bookmark name)) rest
+
+-- where one more bookmark has room
+abbrev pub if_few_bookmarks : Pool → Result Stepped Refusal → Result Stepped Refusal
+if_few_bookmarks pool rest = limited quantities.Bookmarks most_bookmarks (length pool.bookmarks + 1) rest
+
+-- and where both are so
 abbrev pub if_new_bookmark : List ℕ → Pool → Result Stepped Refusal → Result Stepped Refusal
-if_new_bookmark name pool rest =
-    unless (is_some (bookmark_named name pool)) (exists_already (names.Bookmark name))
-    (limited quantities.Bookmarks most_bookmarks (length pool.bookmarks + 1) rest)
+if_new_bookmark name pool rest = if_free_bookmark name pool (if_few_bookmarks pool rest)
 
 -- and where it is of the snapshot's dataset
 abbrev pub if_of_dataset : List ℕ → List ℕ → Result Stepped Refusal → Result Stepped Refusal

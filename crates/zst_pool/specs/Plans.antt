@@ -30,13 +30,15 @@ is_counted quantities.Guids = true
 is_counted quantities.Bookmarks = true
 is_counted which = false
 
--- whether the directory and the latest body alone tell a refusal: E3 to E6, E14, and E23 of what is counted there
+-- whether the directory and the latest body alone tell a refusal: E3 to E6, E8, E14, E19, and E23 of what is counted there
 abbrev pub is_by_rows : PlanFault → Bool
 is_by_rows (plans.NoSuch missing) = true
 is_by_rows (plans.Exists present) = true
 is_by_rows (plans.Busy holder) = true
 is_by_rows (plans.NotAncestor to from) = true
+is_by_rows (plans.NotDescendant snapshot) = true
 is_by_rows (plans.NoPartial dataset) = true
+is_by_rows (plans.Unsupported lack) = true
 is_by_rows (plans.Limit which number) = is_counted which
 is_by_rows fault = false
 
@@ -52,6 +54,11 @@ indices_end (commands.Punch dataset k first count) = first + count
 indices_end (commands.Read name k i) = i + 1
 indices_end command = 0
 
+-- whether a command makes a list of redacted blocks
+abbrev pub makes_list : Command → Bool
+makes_list (commands.Redact snapshot bookmark redactions) = true
+makes_list command = false
+
 -- E23 of a number or an index: those that a command names end past 2^48, or past 2^43, and the limit is told
 abbrev pub IsPast : (numbers indices : ℕ) → PlanFault → Type 0
 IsPast numbers indices fault =
@@ -62,14 +69,18 @@ IsPast numbers indices fault =
 abbrev pub IsLast : (number : ℕ) → PlanFault → Type 0
 IsLast number fault = (fault ≡ plans.Limit quantities.Number (2 ^ 63)) × (2 ^ 63 ≤ number)
 
+-- E23 of the runs of a list: only of a command that makes one; that the list is longer the definition tells of the pool at rest
+abbrev pub IsLong : (lists : Bool) → PlanFault → Type 0
+IsLong lists fault = (fault ≡ plans.Limit quantities.Runs 65536) × (lists ≡ true)
+
 -- E23 of what isn't counted
-abbrev pub IsLimitOf : (numbers indices : ℕ) → Uber → PlanFault → Type 0
-IsLimitOf numbers indices uber fault = IsPast numbers indices fault ⊎ IsLast uber.number fault
+abbrev pub IsLimitOf : (numbers indices : ℕ) → (lists : Bool) → Uber → PlanFault → Type 0
+IsLimitOf numbers indices lists uber fault = IsPast numbers indices fault ⊎ (IsLong lists fault ⊎ IsLast uber.number fault)
 
 -- what a command's plan refuses: what the directory and the body tell exactly where the definition says so, of each pool that they name; and else only what passes a limit
-pub record Plans {T : Type 0} (definition : Pool → Result Stepped Refusal) (numbers indices : ℕ) (kept : PoolState) (result : Result T PoolFault) : Type 0 where
+pub record Plans {T : Type 0} (definition : Pool → Result Stepped Refusal) (numbers indices : ℕ) (lists : Bool) (kept : PoolState) (result : Result T PoolFault) : Type 0 where
   pub exact : (pool : Pool) (fault : PlanFault) → IsNamedBy kept.body kept.dir pool → is_by_rows fault ≡ true → (definition pool ≡ Err (refusal_of fault)) ↔ (result ≡ Err (Plan fault))
-  pub limits : (fault : PlanFault) → result ≡ Err (Plan fault) → (is_by_rows fault ≡ true) ⊎ IsLimitOf numbers indices kept.body fault
+  pub limits : (fault : PlanFault) → result ≡ Err (Plan fault) → (is_by_rows fault ≡ true) ⊎ IsLimitOf numbers indices lists kept.body fault
 
 -- the pool that a body and its rows name, whose objects nothing touched yet
 abbrev pub bare_dataset : Dataset → plain.Dataset

@@ -1,5 +1,5 @@
 -- What a command that only answers does: it reads, and changes neither the disk nor what is kept.
-use Rattle.std.specs.Prelude.{◌≡◌, ℕ, List, Option, Some, None, Result, Ok, Err, IfErr}
+use Rattle.std.specs.Prelude.{◌≡◌, ℕ, Bool, List, Option, Some, None, Result, Ok, Err, IfErr}
 use Rattle.zst_block.specs.Blocks.{Has}
 use Rattle.zst_block.specs.IoCalls.{Looks}
 use Rattle.zst_block.specs.IoStates.{IoState}
@@ -51,9 +51,9 @@ pub record Tells (definition : Pool → Result Stepped Refusal) (damage : Damage
   pub damaged : new.disk.honest → IfErr result (IsOf damage)
 
 -- what a command that only answers tells, and what its plan refuses
-pub record TellsByPlan (definition : Pool → Result Stepped Refusal) (damage : DamageFact) (numbers indices : ℕ) (kept : PoolState) (old new : IoState) (result : Result (List (List ℕ)) PoolFault) : Type 0 where
+pub record TellsByPlan (definition : Pool → Result Stepped Refusal) (damage : DamageFact) (numbers indices : ℕ) (lists : Bool) (kept : PoolState) (old new : IoState) (result : Result (List (List ℕ)) PoolFault) : Type 0 where
   pub tells : Tells definition damage kept old new result
-  pub plans : Plans definition numbers indices kept result
+  pub plans : Plans definition numbers indices lists kept result
 
 -- a set holds the state of this name
 pub record HoldsNamed (has : Blocks) (name : Name) (pool : Pool) (set : ObjSet) : Type 0 where

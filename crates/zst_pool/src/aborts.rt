@@ -1,5 +1,5 @@
 // The command that gives up a partial state.
-ghost use Rattle.std.specs.Prelude.{◌≡◌, ◌<◌, [], true, Result, Ok, OnOk, bytes_eq};
+ghost use Rattle.std.specs.Prelude.{◌≡◌, ◌<◌, [], true, Result, Ok, OnOk, bytes_eq, false};
 ghost use Rattle.zst_block.specs.IoStates.{io_of};
 ghost use Rattle.std.specs.List.{list_any};
 ghost use Rattle.zst_model.specs.pools.Step.{with_aborted, without_partial};
@@ -59,7 +59,7 @@ pub fn abort<D: Disk>(
     dataset: &DatasetName,
 ) -> Result<PoolState, PoolFault>
     requires begins { CanBegin (io_of io.old) kept.now }
-    ensures does { RunsByPlan (with_aborted [] dataset.now) (cells_only 0) NoDamage 0 0 kept.now (io_of io.old) (io_of io.new) result }
+    ensures does { RunsByPlan (with_aborted [] dataset.now) (cells_only 0) NoDamage 0 0 false kept.now (io_of io.old) (io_of io.new) result }
 {
     plan_abort(kept, dataset)?;
     let dir = dir_aborted(alloc, &kept.dir, dataset)?;

@@ -1,5 +1,5 @@
 //! The command that reads a block: it only answers.
-ghost use Rattle.std.specs.Prelude.{◌≡◌, ◌+◌, ◌<◌, ℕ, List, [], Result, Ok, Err, IfErr, IfOk, OnOk, None, Some, is_some, true};
+ghost use Rattle.std.specs.Prelude.{◌≡◌, ◌+◌, ◌<◌, ℕ, List, [], Result, Ok, Err, IfErr, IfOk, OnOk, None, Some, is_some, true, false};
 ghost use Rattle.zst_space.specs.FreeSectors.{FreeSectors};
 ghost use Rattle.zst_block.specs.Blocks.{Has};
 ghost use Rattle.zst_block.specs.IoStates.{IsHonest, blocks_of, disk_of, io_of};
@@ -98,7 +98,7 @@ pub fn read_block<D: Disk>(
     index: u64,
 ) -> Result<Reply, PoolFault>
     requires object { 0 < object }
-    ensures does { (now : ℕ) → TellsByPlan (λ pool. stepped [] now (Command.Read name object index) pool) (OfSet kept.now.dir name (read_damage (disk_of io.old))) 0 (index + 1) kept.now (io_of io.old) (io_of io.new) result }
+    ensures does { (now : ℕ) → TellsByPlan (λ pool. stepped [] now (Command.Read name object index) pool) (OfSet kept.now.dir name (read_damage (disk_of io.old))) 0 (index + 1) false kept.now (io_of io.old) (io_of io.new) result }
 {
     reads_are_commands();
     let set = open_set(&kept.dir, name)?;

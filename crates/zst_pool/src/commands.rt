@@ -1,5 +1,5 @@
 // The commands that commit, each over the Io of a pool that hasn't failed.
-ghost use Rattle.std.specs.Prelude.{◌≡◌, ◌⊎◌, ◌+◌, ◌*◌, ◌<◌, ◌≤◌, ◌^◌, [], None, Result, Err, length};
+ghost use Rattle.std.specs.Prelude.{◌≡◌, ◌⊎◌, ◌+◌, ◌*◌, ◌<◌, ◌≤◌, ◌^◌, [], None, Result, Err, length, false};
 ghost use Rattle.zst_block.specs.IoStates.{io_of};
 ghost use Rattle.zst_names.specs.Names.{dataset_of};
 ghost use Rattle.zst_model.specs.pools.Pool.{inserted};
@@ -72,7 +72,7 @@ pub fn make_dataset<D: Disk>(
 ) -> Result<PoolState, PoolFault>
     requires kind { (kind ≡ 2) ⊎ (kind ≡ 3) }
     requires begins { CanBegin (io_of io.old) kept.now }
-    ensures does { RunsByPlan (with_dataset (new_dataset kind name.now)) (cells_only 0) NoDamage 0 0 kept.now (io_of io.old) (io_of io.new) result }
+    ensures does { RunsByPlan (with_dataset (new_dataset kind name.now)) (cells_only 0) NoDamage 0 0 false kept.now (io_of io.old) (io_of io.new) result }
 {
     check_new_dataset(&kept.dir, name)?;
     check_number(kept.body.number)?;
@@ -121,7 +121,7 @@ pub fn take_snapshot<D: Disk>(
     name: &SnapName,
 ) -> Result<PoolState, PoolFault>
     requires begins { CanBegin (io_of io.old) kept.now }
-    ensures does { RunsByPlan (with_snapshot now name.now) (cells_only 0) NoDamage 0 0 kept.now (io_of io.old) (io_of io.new) result }
+    ensures does { RunsByPlan (with_snapshot now name.now) (cells_only 0) NoDamage 0 0 false kept.now (io_of io.old) (io_of io.new) result }
 {
     let dataset = plan_snapshot(kept, name)?;
     let snapshot = new_snapshot(&kept.body, dataset, now, name);

@@ -1,11 +1,13 @@
 ghost use Rattle.std.specs.Prelude.{◌≡◌};
-ghost use Rattle.zst_pool.specs.Faults.{of_committed};
+ghost use Rattle.zst_pool.specs.Faults.{of_built, of_committed};
 
 use std::alloc::AllocError;
 use zst_block::BlockFault;
 use zst_image::{CommitFault, PoolState};
-use zst_model::{ApplyFault, PlanFault, Refusal};
+use zst_model::limits::MOST_RUNS;
+use zst_model::{ApplyFault, List, PlanFault, Quantity, Refusal};
 use zst_objset::ObjFault;
+use zst_redact::RedactFault;
 use zst_tree::OrMemory;
 
 /// Why a pool isn't stepped.
@@ -143,6 +145,22 @@ impl From<CommitFault> for PoolFault {
             CommitFault::DiskFault => PoolFault::DiskFault,
             CommitFault::OutOfMemory => PoolFault::OutOfMemory,
         }
+    }
+}
+
+/// What the building of a list answers, as a pool's answer.
+#[tactic(auto, unfolding(zst_model::specs::pools::Limits::most_runs))]
+pub(crate) fn of_built(built: Result<List, OrMemory<RedactFault>>) -> Result<List, PoolFault>
+    ensures { result ≡ of_built built }
+{
+    match built {
+        Ok(list) => Ok(list),
+        Err(OrMemory::Fault(RedactFault::Limit)) => Err(PoolFault::Plan(PlanFault::Limit {
+            which: Quantity::Runs,
+            number: MOST_RUNS as u64,
+        })),
+        Err(OrMemory::Fault(RedactFault::Block(fault))) => Err(PoolFault::from(fault)),
+        Err(OrMemory::Memory) => Err(PoolFault::OutOfMemory),
     }
 }
 

@@ -1,5 +1,5 @@
 // The commands on a dataset's head, each over the Io of a pool that hasn't failed.
-ghost use Rattle.std.specs.Prelude.{◌≡◌, ◌+◌, ◌<◌, ◌≤◌, ◌^◌, ℕ, Bool, true, List, Option, Result, Err, length, IfErr, OnOk, IfOk, is_ok};
+ghost use Rattle.std.specs.Prelude.{◌≡◌, ◌+◌, ◌<◌, ◌≤◌, ◌^◌, ℕ, Bool, true, List, Option, Result, Err, length, IfErr, OnOk, IfOk, is_ok, false};
 ghost use Rattle.zst_space.specs.FreeSectors.{FreeSectors};
 ghost use Rattle.zst_block.specs.Blocks.{Has};
 ghost use Rattle.zst_block.specs.IoStates.{IsHonest, disk_of, io_of};
@@ -131,7 +131,7 @@ pub fn put_object<D: Disk>(
 ) -> Result<PoolState, PoolFault>
     requires can { CanPutObject object head bonus spill }
     requires begins { CanBegin (io_of io.old) kept.now }
-    ensures does { RunsByPlan (λ pool. on_head name.now pool (put_in pool object head bonus spill)) (object_cost spill) (OfHead kept.now.dir name.now (slots_damage (disk_of io.old) (free_by kept.now.body))) (object + 1) 0 kept.now (io_of io.old) (io_of io.new) result }
+    ensures does { RunsByPlan (λ pool. on_head name.now pool (put_in pool object head bonus spill)) (object_cost spill) (OfHead kept.now.dir name.now (slots_damage (disk_of io.old) (free_by kept.now.body))) (object + 1) 0 false kept.now (io_of io.old) (io_of io.new) result }
 {
     let mut set = open_head(&kept.dir, name)?;
     let number = next_number(&kept.body);
@@ -153,7 +153,7 @@ pub fn write_block<D: Disk>(
     requires some { 0 < length bytes.now }
     requires small { length bytes.now ≤ 2 ^ 20 }
     requires begins { CanBegin (io_of io.old) kept.now }
-    ensures does { RunsByPlan (λ pool. on_head name.now pool (written pool object index bytes.now)) (write_cost name.now object) (OfHead kept.now.dir name.now (block_damage (disk_of io.old) (free_by kept.now.body))) 0 (index + 1) kept.now (io_of io.old) (io_of io.new) result }
+    ensures does { RunsByPlan (λ pool. on_head name.now pool (written pool object index bytes.now)) (write_cost name.now object) (OfHead kept.now.dir name.now (block_damage (disk_of io.old) (free_by kept.now.body))) 0 (index + 1) false kept.now (io_of io.old) (io_of io.new) result }
 {
     let mut set = open_head(&kept.dir, name)?;
     let number = next_number(&kept.body);
@@ -174,7 +174,7 @@ pub fn punch<D: Disk>(
     requires object { 0 < object }
     requires some { 0 < count }
     requires begins { CanBegin (io_of io.old) kept.now }
-    ensures does { RunsByPlan (λ pool. on_head name.now pool (punched pool object first count)) (cells_only 2) (OfHead kept.now.dir name.now (range_damage (disk_of io.old) (free_by kept.now.body))) 0 (first + count) kept.now (io_of io.old) (io_of io.new) result }
+    ensures does { RunsByPlan (λ pool. on_head name.now pool (punched pool object first count)) (cells_only 2) (OfHead kept.now.dir name.now (range_damage (disk_of io.old) (free_by kept.now.body))) 0 (first + count) false kept.now (io_of io.old) (io_of io.new) result }
 {
     let mut set = open_head(&kept.dir, name)?;
     let number = next_number(&kept.body);
@@ -194,7 +194,7 @@ pub fn free_objects<D: Disk>(
     requires first { 0 < first }
     requires some { 0 < count }
     requires begins { CanBegin (io_of io.old) kept.now }
-    ensures does { RunsByPlan (λ pool. on_head name.now pool (freed pool first count)) (cells_only 2) (OfHead kept.now.dir name.now (slots_damage (disk_of io.old) (free_by kept.now.body))) (first + count) 0 kept.now (io_of io.old) (io_of io.new) result }
+    ensures does { RunsByPlan (λ pool. on_head name.now pool (freed pool first count)) (cells_only 2) (OfHead kept.now.dir name.now (slots_damage (disk_of io.old) (free_by kept.now.body))) (first + count) 0 false kept.now (io_of io.old) (io_of io.new) result }
 {
     let mut set = open_head(&kept.dir, name)?;
     let number = next_number(&kept.body);

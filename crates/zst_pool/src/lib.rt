@@ -18,6 +18,8 @@ mod partial_commits;
 mod partials;
 mod pool;
 mod queries;
+mod redactions;
+mod redacts;
 mod reopened_pools;
 mod rollbacks;
 

@@ -1,5 +1,5 @@
 // What clone, bookmark, rollback and destroy look up before they change anything.
-ghost use Rattle.std.specs.Prelude.{◌≡◌, ◌≢◌, ◌<◌, ◌&&◌, ◌||◌, List, true, All, Contains, Result, OnOk, IfErr, IfOk, bytes_eq, find, option_map};
+ghost use Rattle.std.specs.Prelude.{◌≡◌, ◌≢◌, ◌<◌, ◌&&◌, ◌||◌, List, true, All, Contains, Some, Result, OnOk, IfErr, IfOk, bytes_eq, find, option_map};
 ghost use Rattle.std.specs.List.{list_any};
 ghost use Rattle.zst_model.specs.pools.Pool as plain;
 ghost use Rattle.zst_model.specs.declared.refusals.refusal.Refusal.{Refusal};
@@ -7,8 +7,9 @@ ghost use Rattle.zst_model.specs.pools.Step.{Stepped, unless_used};
 ghost use Rattle.zst_dir.specs.Removal.{AreUnused, names_going, takes_snapshot};
 ghost use Rattle.zst_dir.specs.Rows.{IsBookmarkRow, IsDatasetRow, IsSnapshotRow};
 ghost use Rattle.zst_pool.specs.Checks.{Judges, ChecksRows, PlansCommit, JudgesNext};
-ghost use Rattle.zst_pool.specs.Lineage.{AreGoing, FindsGoing, FindsSnapshot, FindsSource, JudgesBookmark, JudgesClone, JudgesDestroyed, bookmark_row, clone_row, going_of, if_new_bookmark, if_of_dataset, is_on, is_there, may_go, IsNewDataset, IsNewBookmark};
+ghost use Rattle.zst_pool.specs.Lineage.{AreGoing, FindsGoing, FindsSnapshot, FindsSource, JudgesBookmark, JudgesClone, JudgesDestroyed, bookmark_row, clone_row, going_of, if_few_bookmarks, if_free_bookmark, if_new_bookmark, if_of_dataset, is_on, is_there, may_go, IsNewDataset, IsNewBookmark};
 ghost use Rattle.zst_pool.specs.Plans.{is_by_rows};
+ghost use Rattle.zst_pool.specs.Redactions.{snapshot_row};
 ghost use Rattle.zst_pool.specs.RowChanges.{MakesRow};
 
 use crate::checks::{check_new_dataset, check_number, no_such};
@@ -139,7 +140,8 @@ pub fn plan_destroy(kept: &PoolState, name: Name) -> Result<Removal, PlanFault>
     Ok(going)
 }
 
-fn no_snapshot(name: &SnapName) -> PlanFault
+/// E3 of a snapshot.
+pub fn no_snapshot(name: &SnapName) -> PlanFault
     ensures { result ≡ PlanFault.NoSuch (AbsentSubject.Named (Name.Snapshot name.now)) }
 {
     PlanFault::NoSuch(AbsentSubject::Named(Name::Snapshot(name.duplicate())))
@@ -149,6 +151,7 @@ fn no_snapshot(name: &SnapName) -> PlanFault
 pub fn find_snapshot<'a>(dir: &'a Dir, name: &SnapName) -> Result<&'a Snapshot, PlanFault>
     ensures there { IfOk result (λ row. Contains dir.now.snapshots row.now × (row.now.name ≡ name.now)) }
     ensures row { IfOk result (λ row. IsSnapshotRow row.now) }
+    ensures found { IfOk result (λ row. snapshot_row name.now dir.now ≡ Some row.now) }
     ensures finds { ChecksRows dir.now (FindsSnapshot dir.now name.now) result }
 {
     let _lawful = dir.datasets();
@@ -202,8 +205,8 @@ pub fn plan_clone(
     Ok(clone_row(name, source, snapshot))
 }
 
-// E6 where a bookmark is not of the snapshot's dataset.
-fn check_dataset(snapshot: &SnapName, name: &BookName) -> Result<(), PlanFault>
+/// E6 where a bookmark is not of the snapshot's dataset.
+pub fn check_dataset(snapshot: &SnapName, name: &BookName) -> Result<(), PlanFault>
     ensures rows { IfErr result (λ fault. is_by_rows fault ≡ true) }
     ensures judged { (rest : Result Stepped Refusal) → Judges (if_of_dataset snapshot.now name.now rest) rest result }
 {
@@ -216,14 +219,21 @@ fn check_dataset(snapshot: &SnapName, name: &BookName) -> Result<(), PlanFault>
     Ok(())
 }
 
-// E4 where the name is taken, and E23 where there are too many bookmarks.
-fn check_new_bookmark(dir: &Dir, name: &BookName) -> Result<(), PlanFault>
+/// E4 where a bookmark has the name.
+pub fn check_free_bookmark(dir: &Dir, name: &BookName) -> Result<(), PlanFault>
     ensures absent { OnOk result (All (λ other. other.name ≢ name.now) dir.now.bookmarks) }
-    ensures checks { ChecksRows dir.now (JudgesNext (if_new_bookmark name.now)) result }
+    ensures checks { ChecksRows dir.now (JudgesNext (if_free_bookmark name.now)) result }
 {
     if dir.bookmark(name).is_some() {
         return Err(PlanFault::Exists(PresentSubject::Named(Name::Bookmark(name.duplicate()))));
     }
+    Ok(())
+}
+
+/// E23 where there are too many bookmarks.
+pub fn check_few_bookmarks(dir: &Dir) -> Result<(), PlanFault>
+    ensures checks { ChecksRows dir.now (JudgesNext if_few_bookmarks) result }
+{
     if dir.bookmarks().len() >= MOST_BOOKMARKS {
         return Err(PlanFault::Limit {
             which: Quantity::Bookmarks,
@@ -231,6 +241,15 @@ fn check_new_bookmark(dir: &Dir, name: &BookName) -> Result<(), PlanFault>
         });
     }
     Ok(())
+}
+
+// E4 where the name is taken, and E23 where there are too many bookmarks.
+fn check_new_bookmark(dir: &Dir, name: &BookName) -> Result<(), PlanFault>
+    ensures absent { OnOk result (All (λ other. other.name ≢ name.now) dir.now.bookmarks) }
+    ensures checks { ChecksRows dir.now (JudgesNext (if_new_bookmark name.now)) result }
+{
+    check_free_bookmark(dir, name)?;
+    check_few_bookmarks(dir)
 }
 
 // The row of a bookmark of a snapshot: it has no list.

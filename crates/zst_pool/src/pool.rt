@@ -5,7 +5,7 @@ ghost use Rattle.zst_model.specs.pools.Pool.{Pool as Plain};
 ghost use Rattle.zst_model.specs.pools.Soundness.{Sound};
 ghost use Rattle.zst_model.specs.pools.Step.{Stepped, commits, stepped, IsCommand};
 ghost use Rattle.zst_pool.specs.Faults.{is_full};
-ghost use Rattle.zst_pool.specs.Plans.{Plans, indices_end, numbers_end};
+ghost use Rattle.zst_pool.specs.Plans.{Plans, indices_end, makes_list, numbers_end};
 ghost use Rattle.zst_image.specs.Reads.{free_by};
 ghost use Rattle.zst_pool.specs.Calls.{CanCommit, IsAtRest};
 ghost use Rattle.zst_pool.specs.Cost.{cost_of};
@@ -20,6 +20,7 @@ use crate::fault::PoolFault;
 use crate::heads::{free_objects, punch, put_object, write_block};
 use crate::lineage_commands::{destroy, make_bookmark, make_clone, roll_back};
 use crate::queries::tell;
+use crate::redacts::make_redaction;
 use std::alloc::{AllocError, Global};
 use zst_block::Io;
 use zst_image::PoolState;
@@ -73,9 +74,9 @@ impl<'d, D: Disk> Pool<'d, D> {
         requires ready { self.old.io.failed ≡ false → Ready (disk_of self.old.io) self.old.kept.body }
 
         ensures did { StepDid now command self.old self.new result }
-        // E3 to E6, E14 and E23 of datasets, snapshots, bookmarks and guids come exactly where the directory says so, whatever the object sets hold, unless no memory is left before; E23 of numbers only past them.
+        // E3 to E6, E8, E14, E19 and E23 of datasets, snapshots, bookmarks and guids come exactly where the directory says so, whatever the object sets hold, unless no memory is left before; E23 of numbers only past them, and of runs only of a list that is made.
         ensures planned { self.old.io.failed ≡ false → ¬ (result ≡ Err PoolFault.OutOfMemory)
-            → Plans (λ pool. stepped [] now command pool) (numbers_end command) (indices_end command) self.old.kept result }
+            → Plans (λ pool. stepped [] now command pool) (numbers_end command) (indices_end command) (makes_list command) self.old.kept result }
         // What later states haven't dated since stays as it was in each snapshot.
         ensures sound { (running : Plain) (done : Stepped) → IsAtRest false (disk_of self.old.io) self.old.kept running → Sound running
             → stepped [] now command running ≡ Ok done → Sound done.pool }
@@ -144,7 +145,7 @@ fn run<D: Disk>(
     requires command { IsCommand command }
     requires commits { commits command ≡ true }
     requires begins { CanBegin (io_of io.old) kept.now }
-    ensures does { RunsByPlan (λ pool. stepped [] now command pool) (cost_of command) (TellsDamage command kept.now.dir (disk_of io.old) (free_by kept.now.body)) (numbers_end command) (indices_end command) kept.now (io_of io.old) (io_of io.new) result }
+    ensures does { RunsByPlan (λ pool. stepped [] now command pool) (cost_of command) (TellsDamage command kept.now.dir (disk_of io.old) (free_by kept.now.body)) (numbers_end command) (indices_end command) (makes_list command) kept.now (io_of io.old) (io_of io.new) result }
 {
     match command {
         Command::Fs { dataset } => make_dataset(io, alloc, kept, 2, &dataset),
@@ -178,6 +179,11 @@ fn run<D: Disk>(
         Command::Bookmark { snapshot, bookmark } => {
             make_bookmark(io, alloc, kept, &snapshot, &bookmark)
         }
+        Command::Redact {
+            snapshot,
+            bookmark,
+            redactions,
+        } => make_redaction(io, alloc, kept, &snapshot, &bookmark, redactions.as_slice()),
         Command::Rollback { destroys, snapshot } => {
             roll_back(io, alloc, kept, destroys, &snapshot)
         }

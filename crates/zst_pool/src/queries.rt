@@ -4,7 +4,7 @@ ghost use Rattle.zst_block.specs.IoStates.{disk_of, io_of};
 ghost use Rattle.zst_image.specs.Reads.{free_by};
 ghost use Rattle.zst_model.specs.pools.Step.{IsCommand, commits, stepped};
 ghost use Rattle.zst_pool.specs.Damage.{OfSet, TellsDamage, look_damage};
-ghost use Rattle.zst_pool.specs.Plans.{indices_end, numbers_end};
+ghost use Rattle.zst_pool.specs.Plans.{indices_end, makes_list, numbers_end};
 ghost use Rattle.zst_pool.specs.Queries.{TellsByPlan};
 
 use crate::block_reads::{open_set, read_block};
@@ -24,7 +24,7 @@ fn list_named<D: Disk>(
     kept: &PoolState,
     name: Name,
 ) -> Result<Reply, PoolFault>
-    ensures does { (now : ℕ) → TellsByPlan (λ pool. stepped [] now (Command.ListObjects name) pool) (OfSet kept.now.dir name (look_damage (disk_of io.old))) 0 0 kept.now (io_of io.old) (io_of io.new) result }
+    ensures does { (now : ℕ) → TellsByPlan (λ pool. stepped [] now (Command.ListObjects name) pool) (OfSet kept.now.dir name (look_damage (disk_of io.old))) 0 0 false kept.now (io_of io.old) (io_of io.new) result }
 {
     let set = open_set(&kept.dir, name)?;
     Ok(list_objects(io, alloc, &set)?)
@@ -40,7 +40,7 @@ pub fn tell<D: Disk>(
 ) -> Result<Reply, PoolFault>
     requires command { IsCommand command }
     requires answers { commits command ≡ false }
-    ensures does { (now : ℕ) → TellsByPlan (λ pool. stepped [] now command pool) (TellsDamage command kept.now.dir (disk_of io.old) (free_by kept.now.body)) (numbers_end command) (indices_end command) kept.now (io_of io.old) (io_of io.new) result }
+    ensures does { (now : ℕ) → TellsByPlan (λ pool. stepped [] now command pool) (TellsDamage command kept.now.dir (disk_of io.old) (free_by kept.now.body)) (numbers_end command) (indices_end command) (makes_list command) kept.now (io_of io.old) (io_of io.new) result }
 {
     match command {
         Command::Read {
@@ -59,6 +59,7 @@ pub fn tell<D: Disk>(
         | Command::Snapshot { .. }
         | Command::Clone { .. }
         | Command::Bookmark { .. }
+        | Command::Redact { .. }
         | Command::Rollback { .. }
         | Command::Destroy { .. }
         | Command::Abort { .. } => unreachable!(),

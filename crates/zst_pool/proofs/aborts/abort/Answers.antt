@@ -1,4 +1,4 @@
-use Rattle.std.proofs.Common.{[], refl, sym, subst, ◌+◌, arith}
+use Rattle.std.proofs.Common.{[], refl, sym, subst, ◌+◌, arith, false}
 use Rattle.zst_block.specs.Blocks.{Has}
 use Rattle.zst_model.specs.pools.Step.{with_aborted, without_partial}
 use Rattle.zst_model.proofs.Results.{err_is}
@@ -25,7 +25,7 @@ returns-in_err-plan_abort g c = record {
     plans =
         let kept = c.args.kept.now in
         let fault = c.in_err-plan_abort.field-0.0 in
-        plans_refused (with_aborted [] c.args.dataset.now) 0 0 kept fault (err_is c.from_residual.result (Plan fault) c.from_residual.ensures.1) (told_or_last 0 0 kept.body fault c.in_err-plan_abort.ensures.plans.refused)
+        plans_refused (with_aborted [] c.args.dataset.now) 0 0 false kept fault (err_is c.from_residual.result (Plan fault) c.from_residual.ensures.1) (told_or_last 0 0 false kept.body fault c.in_err-plan_abort.ensures.plans.refused)
         (λ pool named. c.in_err-plan_abort.ensures.plans.judged pool named.are_named named.number);
   };
 }
@@ -51,7 +51,7 @@ returns g c = record {
               (subst (λ (r : Rows). RunsBy (bound_of tight running.number) has r next) (sym c.in_ok-dir.ensures.makes.made) (aborted_runs has kept.dir running target runs.runs_by));
         });
     plans =
-        plans_apart (with_aborted [] c.args.dataset.now) 0 0 c.args.kept.now c.commit_rows.result
+        plans_apart (with_aborted [] c.args.dataset.now) 0 0 false c.args.kept.now c.commit_rows.result
         (λ pool named. made_apart (with_aborted [] c.args.dataset.now pool) _ (c.in_ok-plan_abort.ensures.plans.judged pool named.are_named named.number))
         (λ fault is. absurd (c.commit_rows.ensures.unplanned fault is));
   };
@@ -65,7 +65,7 @@ returns-in_err-dir g c = record {
         runs_starved (with_aborted [] c.args.dataset.now) (cells_only 0) NoDamage c.args.kept.now (err_is fell.result OutOfMemory fell.ensures.1) c.requires.begins.space c.requires.begins.ready;
     plans =
         let fell = c.from_residual-in_err-dir in
-        plans_starved (with_aborted [] c.args.dataset.now) 0 0 c.args.kept.now fell.result (err_is fell.result OutOfMemory fell.ensures.1)
+        plans_starved (with_aborted [] c.args.dataset.now) 0 0 false c.args.kept.now fell.result (err_is fell.result OutOfMemory fell.ensures.1)
         (λ pool named. made_apart (with_aborted [] c.args.dataset.now pool) _ (c.in_ok-plan_abort.ensures.plans.judged pool named.are_named named.number));
   };
 }

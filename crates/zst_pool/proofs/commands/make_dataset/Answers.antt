@@ -1,4 +1,4 @@
-use Rattle.std.proofs.Common.{refl, sym, ap, ◌∙◌, subst, length, arith, inl, inr, ◌≡◌, ◌+◌}
+use Rattle.std.proofs.Common.{refl, sym, ap, ◌∙◌, subst, length, arith, inl, inr, ◌≡◌, ◌+◌, false}
 use Rattle.zst_block.specs.Blocks.{Has}
 use Rattle.zst_model.specs.pools.Pool.{is_before, inserted, Pool}
 use Rattle.zst_model.specs.pools.Step.{new_dataset, with_dataset}
@@ -58,7 +58,7 @@ returns g c = record {
     plans =
         let at = (goal.at.returns g c).In_ok-check_number in
         let dataset = new_dataset c.args.kind c.args.name.now in
-        plans_apart (with_dataset dataset) 0 0 c.args.kept.now c.commit_rows.result
+        plans_apart (with_dataset dataset) 0 0 false c.args.kept.now c.commit_rows.result
         (λ pool named. made_apart (with_dataset dataset pool) (next_of (with_new dataset pool)) (made g at pool named))
         (λ fault is. absurd (c.commit_rows.ensures.unplanned fault is));
   };
@@ -75,7 +75,7 @@ returns-in_err-add_dataset g c = record {
         let answered = err_is fell.result OutOfMemory fell.ensures.1 in
         let at = (goal.at.returns-in_err-add_dataset g c).In_ok-check_number in
         let dataset = new_dataset c.args.kind c.args.name.now in
-        plans_apart (with_dataset dataset) 0 0 c.args.kept.now fell.result
+        plans_apart (with_dataset dataset) 0 0 false c.args.kept.now fell.result
         (λ pool named. made_apart (with_dataset dataset pool) (next_of (with_new dataset pool)) (made g at pool named))
         (λ fault is. absurd (cc (answered, is)));
   };
@@ -92,7 +92,7 @@ returns-in_err-dir g c = record {
         let answered = err_is fell.result OutOfMemory fell.ensures.1 in
         let at = (goal.at.returns-in_err-dir g c).In_ok-check_number in
         let dataset = new_dataset c.args.kind c.args.name.now in
-        plans_apart (with_dataset dataset) 0 0 c.args.kept.now fell.result
+        plans_apart (with_dataset dataset) 0 0 false c.args.kept.now fell.result
         (λ pool named. made_apart (with_dataset dataset pool) (next_of (with_new dataset pool)) (made g at pool named))
         (λ fault is. absurd (cc (answered, is)));
   };
@@ -110,7 +110,7 @@ returns-in_err-check_new_dataset g c = record {
     plans =
         let fault = c.in_err-check_new_dataset.field-0.0 in
         let dataset = new_dataset c.args.kind c.args.name.now in
-        plans_refused (with_dataset dataset) 0 0 c.args.kept.now fault (err_is c.from_residual.result (Plan fault) c.from_residual.ensures.1) (inl c.in_err-check_new_dataset.ensures.checks.rows)
+        plans_refused (with_dataset dataset) 0 0 false c.args.kept.now fault (err_is c.from_residual.result (Plan fault) c.from_residual.ensures.1) (inl c.in_err-check_new_dataset.ensures.checks.rows)
         (λ pool named. c.in_err-check_new_dataset.ensures.checks.judged pool named.are_named dataset refl);
   };
 }
@@ -131,7 +131,7 @@ returns-in_err-check_number g c = record {
         let fault = c.in_err-check_number.field-0.0 in
         let fell = c.from_residual-in_err-check_number in
         let dataset = new_dataset c.args.kind c.args.name.now in
-        plans_refused (with_dataset dataset) 0 0 c.args.kept.now fault (err_is fell.result (Plan fault) fell.ensures.1) (inr (inr c.in_err-check_number.ensures.last))
+        plans_refused (with_dataset dataset) 0 0 false c.args.kept.now fault (err_is fell.result (Plan fault) fell.ensures.1) (inr (inr (inr c.in_err-check_number.ensures.last)))
         (λ pool named. c.in_ok-check_new_dataset.ensures.checks.judged pool named.are_named dataset refl ∙ c.in_err-check_number.ensures.judged (with_new dataset pool) named.number);
   };
 }

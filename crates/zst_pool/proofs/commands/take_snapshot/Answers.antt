@@ -74,7 +74,7 @@ returns g c = record {
     plans =
         let now = c.args.now in
         let name = c.args.name.now in
-        plans_apart (with_snapshot now name) 0 0 c.args.kept.now c.commit_rows.result
+        plans_apart (with_snapshot now name) 0 0 false c.args.kept.now c.commit_rows.result
         (λ pool named.
         let judged = c.in_ok-dataset.ensures.plans.judged pool named.are_named named.number now named.guids in
         made_apart (with_snapshot now name pool) (next_of (with_taken now name judged.0 pool)) judged.2)
@@ -95,8 +95,8 @@ returns-in_err-dataset g c = record {
     plans =
         let kept = c.args.kept.now in
         let fault = c.in_err-dataset.field-0.0 in
-        plans_refused (with_snapshot c.args.now c.args.name.now) 0 0 kept fault (err_is c.from_residual.result (Plan fault) c.from_residual.ensures.1)
-        (told_or_last 0 0 kept.body fault c.in_err-dataset.ensures.plans.refused)
+        plans_refused (with_snapshot c.args.now c.args.name.now) 0 0 false kept fault (err_is c.from_residual.result (Plan fault) c.from_residual.ensures.1)
+        (told_or_last 0 0 false kept.body fault c.in_err-dataset.ensures.plans.refused)
         (λ pool named. c.in_err-dataset.ensures.plans.judged pool named.are_named named.number c.args.now named.guids);
   };
 }
@@ -112,7 +112,7 @@ returns-in_err-dir g c = record {
         let name = c.args.name.now in
         let fell = c.from_residual-in_err-dir in
         let answered = err_is fell.result OutOfMemory fell.ensures.1 in
-        plans_apart (with_snapshot now name) 0 0 c.args.kept.now fell.result
+        plans_apart (with_snapshot now name) 0 0 false c.args.kept.now fell.result
         (λ pool named.
         let judged = c.in_ok-dataset.ensures.plans.judged pool named.are_named named.number now named.guids in
         made_apart (with_snapshot now name pool) (next_of (with_taken now name judged.0 pool)) judged.2)

@@ -27,7 +27,7 @@ use Rattle.zst_pool.proofs.NextPools.{head_runs}
 use Rattle.zst_pool.proofs.PoolsAtRest.{few_guids, way_runs}
 use Rattle.zst_pool.proofs.CommitAnswers.{committed_sound}
 use Rattle.zst_pool.proofs.HeadAnswers.{memory_stops, well_is}
-use Rattle.zst_pool.proofs.CommandRuns.{Wrote, runs_committed, runs_fell}
+use Rattle.zst_pool.proofs.CommandRuns.{Wrote, runs_committed, runs_fell, wrote_head}
 use Rattle.zst_pool.proofs.PlanLemmas.{no_plan-commit}
 use Rattle.zst_pool.proofs.heads.commit_head.Goals as goal
 
@@ -41,7 +41,7 @@ returns-in_err-judge-clause-ran g c = λ start failed checksum_errors reference 
     let name = c.args.name.now in
     let fault = c.in_err-judge.field-0.0 in
     runs_fell (λ pool. on_head name pool (make pool)) cost kept (rested (g.D.Disk.state start) failed checksum_errors reference kept) (io_of c.args.io.now) fault (err_is c.from_residual.result fault c.from_residual.ensures.1)
-    c.requires.ready c.in_err-judge.ensures.stops (changed.works, changed.exact)
+    c.requires.ready c.in_err-judge.ensures.stops (wrote_head kept cost (rested (g.D.Disk.state start) failed checksum_errors reference kept) (io_of c.args.io.now) (stop_of c.args.changed) changed.works changed.exact)
     (λ running told rests.
     let made = changed.made running told rests in
     subst (λ (r : Result Stepped Refusal). StepFault (Unit {0}) r fault) (sym made.2)
@@ -53,7 +53,7 @@ returns-in_err-dir-clause-ran g c = λ start failed checksum_errors reference ma
     let name = c.args.name.now in
     let fell = c.from_residual-in_err-dir in
     runs_fell (λ pool. on_head name pool (make pool)) cost kept (rested (g.D.Disk.state start) failed checksum_errors reference kept) (io_of c.args.io.now) OutOfMemory (err_is fell.result OutOfMemory fell.ensures.1) c.requires.ready
-    (memory_stops (stop_of c.args.changed) c.in_ok-judge.ensures.went_well) (changed.works, changed.exact) (λ running told rests. tt)
+    (memory_stops (stop_of c.args.changed) c.in_ok-judge.ensures.went_well) (wrote_head kept cost (rested (g.D.Disk.state start) failed checksum_errors reference kept) (io_of c.args.io.now) (stop_of c.args.changed) changed.works changed.exact) (λ running told rests. tt)
 
 pub returns-clause-ran : goal.returns-clause-ran
 returns-clause-ran g c = λ start failed checksum_errors reference make cost changed.
@@ -86,7 +86,7 @@ returns-clause-ran g c = λ start failed checksum_errors reference make cost cha
       runs_by = subst (λ (r : Rows). RunsBy (bound_of tight (running.number + 1)) (Has old.seen space) r (with_head_of name head.0 running)) (sym dir) (head_runs (Has old.seen space) kept.dir running name set head.0 (RunsBy-later tight running.number (running.number + 1) (omega arith) (Has old.seen space) kept.dir running runs.runs_by) head.2);
     } in
     runs_committed (λ pool. on_head name pool (make pool)) cost kept rest (io_of c.args.io.now) (io_of c.commit_dir.new.io) c.set_head.new.self c.commit_dir.result c.of_committed.ensures c.requires.ready
-    (subst (Wrote kept cost rest (io_of c.args.io.now)) c.in_ok-judge.ensures.went_well (changed.works, changed.exact))
+    (subst (Wrote kept cost rest (io_of c.args.io.now)) c.in_ok-judge.ensures.went_well (wrote_head kept cost rest (io_of c.args.io.now) (stop_of c.args.changed) changed.works changed.exact))
     (λ tight running told rests.
     let way : IsUnderWay tight from old space kept running = record { rested = rests; fills = fills } in
     did_rows from (io_of c.args.io.now) (io_of c.commit_dir.new.io) kept running (on_head name running (make running)) kept.body.guids c.set_head.new.self c.commit_dir.result way (makes tight running told rests) c.datasets-lawful.ensures.lawful c.in_ok-judge.ensures.below

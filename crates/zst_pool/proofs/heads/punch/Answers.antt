@@ -1,4 +1,4 @@
-use Rattle.std.proofs.Common.{arith, ◌+◌, inl}
+use Rattle.std.proofs.Common.{arith, ◌+◌, inl, false}
 use Rattle.zst_block.specs.IoStates.{io_of}
 use Rattle.zst_model.specs.pools.Pool.{Pool}
 use Rattle.zst_model.specs.pools.Step.{punched, on_head}
@@ -31,9 +31,9 @@ returns g c = record {
         let name = c.args.name.now in
         let make = λ (pool : Pool). punched pool c.args.object c.args.first c.args.count in
         let changed = c.change_holes-changed in
-        plans_apart (λ pool. on_head name pool (make pool)) 0 (c.args.first + c.args.count) kept c.commit_head.result
+        plans_apart (λ pool. on_head name pool (make pool)) 0 (c.args.first + c.args.count) false kept c.commit_head.result
         (λ pool named. head_apart kept.dir name pool c.in_ok-set.set (make pool) (punched_apart pool c.args.object c.args.first c.args.count) (c.in_ok-set.ensures.finds.judged pool named.are_named))
-        (λ fault is. head_limits 0 (c.args.first + c.args.count) kept.body changed.result changed.ensures.limits fault (c.commit_head.ensures.refuses.last fault is));
+        (λ fault is. head_limits 0 (c.args.first + c.args.count) false kept.body changed.result changed.ensures.limits fault (c.commit_head.ensures.refuses.last fault is));
   };
 }
 
@@ -51,7 +51,7 @@ returns-in_err-set g c = record {
     plans =
         let make = λ (pool : Pool). punched pool c.args.object c.args.first c.args.count in
         let fault = c.in_err-set.field-0.0 in
-        plans_refused (λ pool. on_head c.args.name.now pool (make pool)) 0 (c.args.first + c.args.count) c.args.kept.now fault (err_is c.from_residual.result (Plan fault) c.from_residual.ensures.1) (inl c.in_err-set.ensures.finds.rows)
+        plans_refused (λ pool. on_head c.args.name.now pool (make pool)) 0 (c.args.first + c.args.count) false c.args.kept.now fault (err_is c.from_residual.result (Plan fault) c.from_residual.ensures.1) (inl c.in_err-set.ensures.finds.rows)
         (λ pool named. c.in_err-set.ensures.finds.judged pool named.are_named (make pool));
   };
 }

@@ -1,4 +1,4 @@
-use Rattle.std.proofs.Common.{[], sym, ◌∙◌, subst, ◌+◌, arith}
+use Rattle.std.proofs.Common.{[], sym, ◌∙◌, subst, ◌+◌, arith, false}
 use Rattle.zst_block.specs.Blocks.{Has}
 use Rattle.zst_model.specs.pools.Step.{with_destroyed}
 use Rattle.zst_model.proofs.Results.{err_is}
@@ -26,7 +26,7 @@ returns-in_err-going g c = record {
     plans =
         let kept = c.args.kept.now in
         let fault = c.in_err-going.field-0.0 in
-        plans_refused (with_destroyed [] c.args.name) 0 0 kept fault (err_is c.from_residual.result (Plan fault) c.from_residual.ensures.1) (told_or_last 0 0 kept.body fault c.in_err-going.ensures.plans.refused)
+        plans_refused (with_destroyed [] c.args.name) 0 0 false kept fault (err_is c.from_residual.result (Plan fault) c.from_residual.ensures.1) (told_or_last 0 0 false kept.body fault c.in_err-going.ensures.plans.refused)
         (λ pool named. c.in_err-going.ensures.plans.judged pool named.are_named named.number);
   };
 }
@@ -51,7 +51,7 @@ returns g c = record {
               (subst (λ (r : Rows). RunsBy (bound_of tight running.number) has r (pool_without going running)) (sym c.in_ok-dir.ensures.makes.made) (left_runs has kept.dir running runs.runs_by going));
         });
     plans =
-        plans_apart (with_destroyed [] c.args.name) 0 0 c.args.kept.now c.commit_rows.result
+        plans_apart (with_destroyed [] c.args.name) 0 0 false c.args.kept.now c.commit_rows.result
         (λ pool named. made_apart (with_destroyed [] c.args.name pool) _ (c.in_ok-going.ensures.plans.judged pool named.are_named named.number))
         (λ fault is. absurd (c.commit_rows.ensures.unplanned fault is));
   };
@@ -65,7 +65,7 @@ returns-in_err-dir g c = record {
         runs_starved (with_destroyed [] c.args.name) (cells_only 0) NoDamage c.args.kept.now (err_is fell.result OutOfMemory fell.ensures.1) c.requires.begins.space c.requires.begins.ready;
     plans =
         let fell = c.from_residual-in_err-dir in
-        plans_starved (with_destroyed [] c.args.name) 0 0 c.args.kept.now fell.result (err_is fell.result OutOfMemory fell.ensures.1)
+        plans_starved (with_destroyed [] c.args.name) 0 0 false c.args.kept.now fell.result (err_is fell.result OutOfMemory fell.ensures.1)
         (λ pool named. made_apart (with_destroyed [] c.args.name pool) _ (c.in_ok-going.ensures.plans.judged pool named.are_named named.number));
   };
 }

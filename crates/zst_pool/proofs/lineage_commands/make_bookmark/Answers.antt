@@ -1,4 +1,4 @@
-use Rattle.std.proofs.Common.{◌≡◌, ℕ, List, refl, sym, ap, ◌∙◌, subst, ◌+◌, arith}
+use Rattle.std.proofs.Common.{◌≡◌, ℕ, List, refl, sym, ap, ◌∙◌, subst, ◌+◌, arith, false}
 use Rattle.std.specs.List.{All}
 use Rattle.zst_block.specs.Blocks.{Has}
 use Rattle.zst_model.specs.pools.Pool.{is_before, inserted}
@@ -38,7 +38,7 @@ returns-in_err-row g c = record {
     plans =
         let kept = c.args.kept.now in
         let fault = c.in_err-row.field-0.0 in
-        plans_refused (with_bookmark c.args.snapshot.now c.args.name.now) 0 0 kept fault (err_is c.from_residual.result (Plan fault) c.from_residual.ensures.1) (told_or_last 0 0 kept.body fault c.in_err-row.ensures.plans.refused)
+        plans_refused (with_bookmark c.args.snapshot.now c.args.name.now) 0 0 false kept fault (err_is c.from_residual.result (Plan fault) c.from_residual.ensures.1) (told_or_last 0 0 false kept.body fault c.in_err-row.ensures.plans.refused)
         (λ pool named. c.in_err-row.ensures.plans.judged pool named.are_named named.number);
   };
 }
@@ -51,7 +51,7 @@ returns-in_err-add_bookmark g c = record {
         runs_starved (with_bookmark c.args.snapshot.now c.args.name.now) (cells_only 0) NoDamage c.args.kept.now (err_is fell.result OutOfMemory fell.ensures.1) c.requires.begins.space c.requires.begins.ready;
     plans =
         let fell = c.from_residual-in_err-add_bookmark in
-        plans_starved (with_bookmark c.args.snapshot.now c.args.name.now) 0 0 c.args.kept.now fell.result (err_is fell.result OutOfMemory fell.ensures.1)
+        plans_starved (with_bookmark c.args.snapshot.now c.args.name.now) 0 0 false c.args.kept.now fell.result (err_is fell.result OutOfMemory fell.ensures.1)
         (λ pool named. made_apart (with_bookmark c.args.snapshot.now c.args.name.now pool) _ (c.in_ok-row.ensures.plans.judged pool named.are_named named.number).4);
   };
 }
@@ -81,7 +81,7 @@ returns g c = record {
               (subst (λ (r : Rows). RunsBy (bound_of tight running.number) has r next) (sym rows) (bookmark_runs has kept.dir running runs.runs_by name judged.0 judged.1 judged.2));
         });
     plans =
-        plans_apart (with_bookmark c.args.snapshot.now c.args.name.now) 0 0 c.args.kept.now c.commit_rows.result
+        plans_apart (with_bookmark c.args.snapshot.now c.args.name.now) 0 0 false c.args.kept.now c.commit_rows.result
         (λ pool named. made_apart (with_bookmark c.args.snapshot.now c.args.name.now pool) _ (c.in_ok-row.ensures.plans.judged pool named.are_named named.number).4)
         (λ fault is. absurd (c.commit_rows.ensures.unplanned fault is));
   };
@@ -95,7 +95,7 @@ returns-in_err-dir g c = record {
         runs_starved (with_bookmark c.args.snapshot.now c.args.name.now) (cells_only 0) NoDamage c.args.kept.now (err_is fell.result OutOfMemory fell.ensures.1) c.requires.begins.space c.requires.begins.ready;
     plans =
         let fell = c.from_residual-in_err-dir in
-        plans_starved (with_bookmark c.args.snapshot.now c.args.name.now) 0 0 c.args.kept.now fell.result (err_is fell.result OutOfMemory fell.ensures.1)
+        plans_starved (with_bookmark c.args.snapshot.now c.args.name.now) 0 0 false c.args.kept.now fell.result (err_is fell.result OutOfMemory fell.ensures.1)
         (λ pool named. made_apart (with_bookmark c.args.snapshot.now c.args.name.now pool) _ (c.in_ok-row.ensures.plans.judged pool named.are_named named.number).4);
   };
 }

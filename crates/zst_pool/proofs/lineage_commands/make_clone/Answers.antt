@@ -1,4 +1,4 @@
-use Rattle.std.proofs.Common.{ℕ, List, IfSome, refl, sym, ap, ◌∙◌, subst, ◌+◌, arith}
+use Rattle.std.proofs.Common.{ℕ, List, IfSome, refl, sym, ap, ◌∙◌, subst, ◌+◌, arith, false}
 use Rattle.zst_block.specs.Blocks.{Has}
 use Rattle.zst_model.specs.pools.Pool.{is_before, inserted}
 use Rattle.zst_model.specs.pools.Step.{clone_of, with_clone}
@@ -40,7 +40,7 @@ returns-in_err-row g c = record {
     plans =
         let kept = c.args.kept.now in
         let fault = c.in_err-row.field-0.0 in
-        plans_refused (with_clone c.args.origin.now c.args.name.now) 0 0 kept fault (err_is c.from_residual.result (Plan fault) c.from_residual.ensures.1) (told_or_last 0 0 kept.body fault c.in_err-row.ensures.plans.refused)
+        plans_refused (with_clone c.args.origin.now c.args.name.now) 0 0 false kept fault (err_is c.from_residual.result (Plan fault) c.from_residual.ensures.1) (told_or_last 0 0 false kept.body fault c.in_err-row.ensures.plans.refused)
         (λ pool named. c.in_err-row.ensures.plans.judged pool named.are_named named.number);
   };
 }
@@ -53,7 +53,7 @@ returns-in_err-dir g c = record {
         runs_starved (with_clone c.args.origin.now c.args.name.now) (cells_only 0) NoDamage c.args.kept.now (err_is fell.result OutOfMemory fell.ensures.1) c.requires.begins.space c.requires.begins.ready;
     plans =
         let fell = c.from_residual-in_err-dir in
-        plans_starved (with_clone c.args.origin.now c.args.name.now) 0 0 c.args.kept.now fell.result (err_is fell.result OutOfMemory fell.ensures.1)
+        plans_starved (with_clone c.args.origin.now c.args.name.now) 0 0 false c.args.kept.now fell.result (err_is fell.result OutOfMemory fell.ensures.1)
         (λ pool named. made_apart (with_clone c.args.origin.now c.args.name.now pool) _ (c.in_ok-row.ensures.plans.judged pool named.are_named named.number).7);
   };
 }
@@ -66,7 +66,7 @@ returns-in_err-add_dataset g c = record {
         runs_starved (with_clone c.args.origin.now c.args.name.now) (cells_only 0) NoDamage c.args.kept.now (err_is fell.result OutOfMemory fell.ensures.1) c.requires.begins.space c.requires.begins.ready;
     plans =
         let fell = c.from_residual-in_err-add_dataset in
-        plans_starved (with_clone c.args.origin.now c.args.name.now) 0 0 c.args.kept.now fell.result (err_is fell.result OutOfMemory fell.ensures.1)
+        plans_starved (with_clone c.args.origin.now c.args.name.now) 0 0 false c.args.kept.now fell.result (err_is fell.result OutOfMemory fell.ensures.1)
         (λ pool named. made_apart (with_clone c.args.origin.now c.args.name.now pool) _ (c.in_ok-row.ensures.plans.judged pool named.are_named named.number).7);
   };
 }
@@ -97,7 +97,7 @@ returns g c = record {
               (dataset_runs has kept.dir running row clone runs.runs_by (subst (λ (r : Dataset). DatasetIs (bound_of tight running.number) has r clone) (sym judged.6) is)));
         });
     plans =
-        plans_apart (with_clone c.args.origin.now c.args.name.now) 0 0 c.args.kept.now c.commit_rows.result
+        plans_apart (with_clone c.args.origin.now c.args.name.now) 0 0 false c.args.kept.now c.commit_rows.result
         (λ pool named. made_apart (with_clone c.args.origin.now c.args.name.now pool) _ (c.in_ok-row.ensures.plans.judged pool named.are_named named.number).7)
         (λ fault is. absurd (c.commit_rows.ensures.unplanned fault is));
   };

@@ -1,4 +1,4 @@
-use Rattle.std.proofs.Common.{[], refl, sym, subst, ◌+◌, arith}
+use Rattle.std.proofs.Common.{[], refl, sym, subst, ◌+◌, arith, false}
 use Rattle.zst_block.specs.Blocks.{Has}
 use Rattle.zst_model.specs.pools.Step.{rolled_back, with_rollback}
 use Rattle.zst_model.proofs.Results.{err_is}
@@ -25,7 +25,7 @@ returns-in_err-snapshot g c = record {
     plans =
         let kept = c.args.kept.now in
         let fault = c.in_err-snapshot.field-0.0 in
-        plans_refused (with_rollback [] c.args.destroys c.args.name.now) 0 0 kept fault (err_is c.from_residual.result (Plan fault) c.from_residual.ensures.1) (told_or_last 0 0 kept.body fault c.in_err-snapshot.ensures.plans.refused)
+        plans_refused (with_rollback [] c.args.destroys c.args.name.now) 0 0 false kept fault (err_is c.from_residual.result (Plan fault) c.from_residual.ensures.1) (told_or_last 0 0 false kept.body fault c.in_err-snapshot.ensures.plans.refused)
         (λ pool named. c.in_err-snapshot.ensures.plans.judged pool named.are_named named.number);
   };
 }
@@ -52,7 +52,7 @@ returns g c = record {
               (subst (λ (r : Rows). RunsBy (bound_of tight running.number) has r next) (sym c.in_ok-dir.ensures.makes.made) (rolled_runs has kept.dir running runs.runs_by row judged.0 judged.1));
         });
     plans =
-        plans_apart (with_rollback [] c.args.destroys c.args.name.now) 0 0 c.args.kept.now c.commit_rows.result
+        plans_apart (with_rollback [] c.args.destroys c.args.name.now) 0 0 false c.args.kept.now c.commit_rows.result
         (λ pool named. made_apart (with_rollback [] c.args.destroys c.args.name.now pool) _ (c.in_ok-snapshot.ensures.plans.judged pool named.are_named named.number).2)
         (λ fault is. absurd (c.commit_rows.ensures.unplanned fault is));
   };
@@ -66,7 +66,7 @@ returns-in_err-dir g c = record {
         runs_starved (with_rollback [] c.args.destroys c.args.name.now) (cells_only 0) NoDamage c.args.kept.now (err_is fell.result OutOfMemory fell.ensures.1) c.requires.begins.space c.requires.begins.ready;
     plans =
         let fell = c.from_residual-in_err-dir in
-        plans_starved (with_rollback [] c.args.destroys c.args.name.now) 0 0 c.args.kept.now fell.result (err_is fell.result OutOfMemory fell.ensures.1)
+        plans_starved (with_rollback [] c.args.destroys c.args.name.now) 0 0 false c.args.kept.now fell.result (err_is fell.result OutOfMemory fell.ensures.1)
         (λ pool named. made_apart (with_rollback [] c.args.destroys c.args.name.now pool) _ (c.in_ok-snapshot.ensures.plans.judged pool named.are_named named.number).2);
   };
 }

@@ -1,5 +1,5 @@
 use Rattle.std.specs.Prelude.{Err}
-use Rattle.std.proofs.Common.{◌≡◌, [], inl, sym, ap, ◌∙◌, subst}
+use Rattle.std.proofs.Common.{◌≡◌, [], inl, sym, ap, ◌∙◌, subst, false}
 use Rattle.std.proofs.lemmas.Result.{err_from_is_err_and}
 use Rattle.zst_block.specs.IoCalls.{Looks}
 use Rattle.zst_model.specs.declared.pools.command.Command.TheVariants as commands
@@ -28,7 +28,7 @@ returns-in_err-set g c = record {
     plans =
         let name = c.args.name in
         let fault = c.in_err-set.field-0.0 in
-        plans_refused (λ pool. stepped [] now (commands.ListObjects name) pool) 0 0 c.args.kept.now fault (err_is c.from_residual.result (Plan fault) c.from_residual.ensures.1) (inl (ap is_by_rows c.in_err-set.ensures.missing))
+        plans_refused (λ pool. stepped [] now (commands.ListObjects name) pool) 0 0 false c.args.kept.now fault (err_is c.from_residual.result (Plan fault) c.from_residual.ensures.1) (inl (ap is_by_rows c.in_err-set.ensures.missing))
         (λ pool named. list_missing now name pool (c.in_err-set.ensures.absent pool named.are_named) ∙ ap (λ (f : PlanFault). Err (refusal_of f)) (sym c.in_err-set.ensures.missing));
   };
 }
@@ -54,7 +54,7 @@ returns-in_err-list_objects g c = record {
         let fell = c.from_residual-in_err-list_objects in
         let called = c.in_err-list_objects.field-0.0 in
         let answered = err_is fell.result (or_memory of_set called) fell.ensures.1 in
-        plans_apart (λ pool. stepped [] now (commands.ListObjects name) pool) 0 0 c.args.kept.now fell.result (λ pool named. list_apart now name pool (c.in_ok-set.ensures.there pool named.are_named))
+        plans_apart (λ pool. stepped [] now (commands.ListObjects name) pool) 0 0 false c.args.kept.now fell.result (λ pool named. list_apart now name pool (c.in_ok-set.ensures.there pool named.are_named))
         (λ fault is. let same : or_memory of_set called ≡ Plan fault = cc (answered, is) in absurd (no_plan-list Reply called fault c.in_err-list_objects.ensures.known same));
   };
 }
@@ -72,6 +72,6 @@ returns g c = record {
     };
     plans =
         let name = c.args.name in
-        plans_apart (λ pool. stepped [] now (commands.ListObjects name) pool) 0 0 c.args.kept.now _ (λ pool named. list_apart now name pool (c.in_ok-set.ensures.there pool named.are_named)) (λ fault is. absurd (cc (is)));
+        plans_apart (λ pool. stepped [] now (commands.ListObjects name) pool) 0 0 false c.args.kept.now _ (λ pool named. list_apart now name pool (c.in_ok-set.ensures.there pool named.are_named)) (λ fault is. absurd (cc (is)));
   };
 }

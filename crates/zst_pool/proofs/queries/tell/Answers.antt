@@ -6,7 +6,7 @@ use Rattle.zst_model.specs.declared.pools.command.Command.{Command}
 use Rattle.zst_model.specs.declared.pools.command.Command.TheVariants as commands
 use Rattle.zst_model.specs.pools.Step.{answered, stepped}
 use Rattle.zst_pool.specs.Damage.{TellsDamage}
-use Rattle.zst_pool.specs.Plans.{Plans, indices_end, numbers_end}
+use Rattle.zst_pool.specs.Plans.{Plans, indices_end, makes_list, numbers_end}
 use Rattle.zst_pool.specs.Queries.{Tells}
 use Rattle.zst_pool.proofs.ListQueries.{list_pool, tells_no_memory, tells_rows}
 use Rattle.zst_pool.proofs.queries.tell.Goals as goal
@@ -19,7 +19,7 @@ returns-in-Read g c = record {
         subst (λ (command : Command). Tells (λ pool. stepped [] now command pool) (TellsDamage command c.args.kept.now.dir disk (free_by c.args.kept.now.body)) c.args.kept.now (io_of c.args.io.now) (io_of c.read_block.new.io) c.read_block.result)
         (sym c.in-Read.is) (c.read_block.ensures.does now).tells;
     plans =
-        subst (λ (command : Command). Plans (λ pool. stepped [] now command pool) (numbers_end command) (indices_end command) c.args.kept.now c.read_block.result) (sym c.in-Read.is) (c.read_block.ensures.does now).plans;
+        subst (λ (command : Command). Plans (λ pool. stepped [] now command pool) (numbers_end command) (indices_end command) (makes_list command) c.args.kept.now c.read_block.result) (sym c.in-Read.is) (c.read_block.ensures.does now).plans;
   };
 }
 
@@ -31,7 +31,7 @@ returns-in-ListObjects g c = record {
         subst (λ (command : Command). Tells (λ pool. stepped [] now command pool) (TellsDamage command c.args.kept.now.dir disk (free_by c.args.kept.now.body)) c.args.kept.now (io_of c.args.io.now) (io_of c.list_named.new.io) c.list_named.result)
         (sym c.in-ListObjects.is) (c.list_named.ensures.does now).tells;
     plans =
-        subst (λ (command : Command). Plans (λ pool. stepped [] now command pool) (numbers_end command) (indices_end command) c.args.kept.now c.list_named.result) (sym c.in-ListObjects.is) (c.list_named.ensures.does now).plans;
+        subst (λ (command : Command). Plans (λ pool. stepped [] now command pool) (numbers_end command) (indices_end command) (makes_list command) c.args.kept.now c.list_named.result) (sym c.in-ListObjects.is) (c.list_named.ensures.does now).plans;
   };
 }
 

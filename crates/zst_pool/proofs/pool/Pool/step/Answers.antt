@@ -11,7 +11,7 @@ use Rattle.zst_image.specs.Reads.{RunsBy, bound_of, free_by}
 use Rattle.zst_pool.specs.Cost.{FindsLess, cost_of}
 use Rattle.zst_pool.specs.Damage.{IsOf, TellsDamage}
 use Rattle.zst_pool.specs.Faults.{is_disk_fault, is_full, tells_full}
-use Rattle.zst_pool.specs.Plans.{Plans, indices_end, numbers_end}
+use Rattle.zst_pool.specs.Plans.{Plans, indices_end, makes_list, numbers_end}
 use Rattle.zst_pool.specs.StepAnswers.{StepAnswer}
 use Rattle.zst_pool.specs.declared.fault.PoolFault.{PoolFault}
 use Rattle.zst_pool.specs.declared.fault.PoolFault.TheVariants.{Failed, OutOfMemory}
@@ -42,7 +42,7 @@ returns g c =
     let settled = c.settle_command in
     let keeps = c.in_ok-settle_command.ensures.keeps.keeps in
     let runs = runs_settled c.run-ran.new.io settled.new.self.io c.run-ran.result (Ok settled.new.self.kept) settled.ensures.keeps.disk keeps.kept c.run-ran.ensures.does.runs in
-    let plans = λ (r : Result PoolState PoolFault). Plans (λ pool. stepped [] c.args.now c.args.command pool) (numbers_end c.args.command) (indices_end c.args.command) c.args.self.now.kept r in
+    let plans = λ (r : Result PoolState PoolFault). Plans (λ pool. stepped [] c.args.now c.args.command pool) (numbers_end c.args.command) (indices_end c.args.command) (makes_list c.args.command) c.args.self.now.kept r in
     let cost = cost_of c.args.command in
     let commits = sym c.commits.ensures ∙ c.if-not-commits.false in
     let settles = settles_committed pool settled.new.self c.run-ran.new.io c.run-ran.result (Ok 0) c.if-self.false keeps.kept settled.ensures.space settled.ensures.keeps.disk c.new-2.result c.run-ran.ensures.does.runs.ran.commits tt in
@@ -58,14 +58,14 @@ returns g c =
         open_still = λ standing is. cc (is);
         spends = λ standing.
             let spends = runs.ran.spends in
-            (spends.0, spends.1, spends_ok cost.cells spends.0 pool.kept c.run-ran.new.io.space settled.new.self.kept c.in_ok-reply.reply settled.new.self.io.space spends.2);
-        exact = λ running told standing rested. spends_ok cost.cells (cost.block running) pool.kept c.run-ran.new.io.space settled.new.self.kept c.in_ok-reply.reply settled.new.self.io.space (runs.ran.exact running told rested);
+            (spends.0, spends.1, spends_ok cost.cells spends.0 cost.most_list pool.kept c.run-ran.new.io.space settled.new.self.kept c.in_ok-reply.reply settled.new.self.io.space spends.2);
+        exact = λ running told standing rested. spends_ok cost.cells (cost.block running) (cost.list running) pool.kept c.run-ran.new.io.space settled.new.self.kept c.in_ok-reply.reply settled.new.self.io.space (runs.ran.exact running told rested);
         short = λ running told standing rested. tt;
         spares = λ apart. tt;
         damaged = λ told. tt;
         blocks = λ apart. runs.ran.blocks;
       };
-      planned = λ standing left. plans_ok (stepped [] c.args.now c.args.command) (numbers_end c.args.command) (indices_end c.args.command) pool.kept settled.new.self.kept c.in_ok-reply.reply (subst plans (sym keeps.kept) c.run-ran.ensures.does.plans);
+      planned = λ standing left. plans_ok (stepped [] c.args.now c.args.command) (numbers_end c.args.command) (indices_end c.args.command) (makes_list c.args.command) pool.kept settled.new.self.kept c.in_ok-reply.reply (subst plans (sym keeps.kept) c.run-ran.ensures.does.plans);
       sound = λ running done rested sound made. c.steps_keep_sound.ensures [] c.args.now c.args.command running done c.requires.command rested.lawful sound made;
       only_answers = λ idle. absurd (cc (commits, idle));
       settles = settles_ok pool settled.new.self 0 c.in_ok-reply.reply settles;
@@ -79,7 +79,7 @@ returns-in_err-settle_command g c =
     let keeps = c.in_err-settle_command.ensures.keeps.keeps in
     let fault = c.in_err-settle_command.field-0.0 in
     let runs = runs_settled c.run-ran.new.io settled.new.self.io c.run-ran.result (Err fault) settled.ensures.keeps.disk keeps.kept c.run-ran.ensures.does.runs in
-    let plans = λ (r : Result PoolState PoolFault). Plans (λ pool. stepped [] c.args.now c.args.command pool) (numbers_end c.args.command) (indices_end c.args.command) c.args.self.now.kept r in
+    let plans = λ (r : Result PoolState PoolFault). Plans (λ pool. stepped [] c.args.now c.args.command pool) (numbers_end c.args.command) (indices_end c.args.command) (makes_list c.args.command) c.args.self.now.kept r in
     let cost = cost_of c.args.command in
     let commits = sym c.commits.ensures ∙ c.if-not-commits.false in
     let fell = c.from_residual-in_err-settle_command in
@@ -96,16 +96,16 @@ returns-in_err-settle_command g c =
             subst (λ (k : PoolState). StepAnswer tight here k running (stepped [] c.args.now c.args.command running) fell.result) (sym keeps.stays)
             (subst (StepAnswer tight here pool.kept running (stepped [] c.args.now c.args.command running)) (sym same) did.answer);
         open_still = λ standing is. let failed : fault ≡ Failed = cc (same, is) in runs.ran.open_still (ap (λ (f : PoolFault). Err f) failed);
-        spends = λ standing. let spends = runs.ran.spends in (spends.0, spends.1, spends_err cost.cells spends.0 pool.kept c.run-ran.new.io.space settled.new.self.kept fault fell.result settled.new.self.io.space same left spends.2);
+        spends = λ standing. let spends = runs.ran.spends in (spends.0, spends.1, spends_err cost.cells spends.0 cost.most_list pool.kept c.run-ran.new.io.space settled.new.self.kept fault fell.result settled.new.self.io.space same left spends.2);
         exact = λ running told standing rested.
-            spends_err cost.cells (cost.block running) pool.kept c.run-ran.new.io.space settled.new.self.kept fault fell.result settled.new.self.io.space same left (runs.ran.exact running told rested);
+            spends_err cost.cells (cost.block running) (cost.list running) pool.kept c.run-ran.new.io.space settled.new.self.kept fault fell.result settled.new.self.io.space same left (runs.ran.exact running told rested);
         short = λ running told standing rested.
-            subst (λ (r : Result (List (List ℕ)) PoolFault). IfErr r (FindsLess cost.cells (cost.block running) pool.kept.body (stepped [] c.args.now c.args.command running))) (sym same) (runs.ran.short running told rested);
+            subst (λ (r : Result (List (List ℕ)) PoolFault). IfErr r (FindsLess cost.cells (cost.block running) (cost.list running) pool.kept.body (stepped [] c.args.now c.args.command running))) (sym same) (runs.ran.short running told rested);
         spares = spares_err _ fault fell.result same runs.ran.spares;
         damaged = λ told. subst (λ (r : Result (List (List ℕ)) PoolFault). IfErr r (IsOf Is)) (sym same) (runs.damaged told);
         blocks = blocks_err (g.D.Disk.state pool.io.disk.now).seen here.seen pool.kept settled.new.self.kept fault fell.result same keeps.stays runs.ran.spares;
       };
-      planned = λ standing none. plans_err (stepped [] c.args.now c.args.command) (numbers_end c.args.command) (indices_end c.args.command) pool.kept fault same (subst plans (sym keeps.kept) c.run-ran.ensures.does.plans);
+      planned = λ standing none. plans_err (stepped [] c.args.now c.args.command) (numbers_end c.args.command) (indices_end c.args.command) (makes_list c.args.command) pool.kept fault same (subst plans (sym keeps.kept) c.run-ran.ensures.does.plans);
       sound = λ running done rested sound made. c.steps_keep_sound.ensures [] c.args.now c.args.command running done c.requires.command rested.lawful sound made;
       only_answers = λ idle. absurd (cc (commits, idle));
       settles = settles_err pool settled.new.self fault fell.result same settles;
@@ -129,10 +129,10 @@ returns-in_err-reply g c =
         moments = λ tight running told rested. since_read here here pool.kept reads running rested (stepped [] c.args.now c.args.command running);
         answer = λ tight running told standing rested. subst (StepAnswer tight here pool.kept running (stepped [] c.args.now c.args.command running)) (sym same) rested;
         open_still = λ standing is. cc (same, is);
-        spends = λ standing. (0, omega arith, spends_apart cost.cells 0 pool.kept c.new-2.result pool.kept OutOfMemory fell.result same (λ need largest is. cc));
-        exact = λ running told standing rested. spends_apart cost.cells (cost.block running) pool.kept c.new-2.result pool.kept OutOfMemory fell.result same (λ need largest is. cc);
+        spends = λ standing. (0, omega arith, spends_apart cost.cells 0 cost.most_list pool.kept c.new-2.result pool.kept OutOfMemory fell.result same (λ need largest is. cc));
+        exact = λ running told standing rested. spends_apart cost.cells (cost.block running) (cost.list running) pool.kept c.new-2.result pool.kept OutOfMemory fell.result same (λ need largest is. cc);
         short = λ running told standing rested.
-            subst (λ (r : Result (List (List ℕ)) PoolFault). IfErr r (FindsLess cost.cells (cost.block running) pool.kept.body (stepped [] c.args.now c.args.command running))) (sym same) (λ need largest is. absurd (cc));
+            subst (λ (r : Result (List (List ℕ)) PoolFault). IfErr r (FindsLess cost.cells (cost.block running) (cost.list running) pool.kept.body (stepped [] c.args.now c.args.command running))) (sym same) (λ need largest is. absurd (cc));
         spares = λ apart. on_err fell.result (spares_read here here pool.kept reads);
         damaged = λ told. subst (λ (r : Result (List (List ℕ)) PoolFault). IfErr r (IsOf Is)) (sym same) (λ sector stated found is. absurd (cc));
         blocks = λ apart ptr bytes has. has;
@@ -187,9 +187,9 @@ returns-then-not-commits g c =
             told_rests new pool.kept running (stepped [] c.args.now c.args.command running) result (rests_read old new pool.kept looks.reads running rested)
             (is.told running told (RunsBy-plain _ pool.kept.dir running (subst (λ (space : FreeSectors). RunsBy (bound_of tight running.number) (Has old.seen space) pool.kept.dir running) (sym free) rested.runs_by)));
         open_still = λ standing. is.open_still;
-        spends = λ standing. (0, omega arith, spends_none cost.cells 0 pool.kept c.tell.new.io.space result looks.never_full);
-        exact = λ running told standing rested. spends_none cost.cells (cost.block running) pool.kept c.tell.new.io.space result looks.never_full;
-        short = λ running told standing rested. finds_none cost.cells (cost.block running) pool.kept.body (stepped [] c.args.now c.args.command running) result looks.never_full;
+        spends = λ standing. (0, omega arith, spends_none cost.cells 0 cost.most_list pool.kept c.tell.new.io.space result looks.never_full);
+        exact = λ running told standing rested. spends_none cost.cells (cost.block running) (cost.list running) pool.kept c.tell.new.io.space result looks.never_full;
+        short = λ running told standing rested. finds_none cost.cells (cost.block running) (cost.list running) pool.kept.body (stepped [] c.args.now c.args.command running) result looks.never_full;
         spares = λ apart. on_err result (spares_read old new pool.kept looks.reads);
         damaged = is.damaged;
         blocks = λ apart. blocks_spared old.seen new.seen pool.kept pool.kept refl (spares_read old new pool.kept looks.reads);
