@@ -17,8 +17,9 @@
 //! and that an `Output` loses and repeats none, also at a fault.
 //!
 //! No proof shows that each method of `Host` makes the call that it notes, that `length_of` gives the
-//! length of a file (of a disk of another length the clauses on content say nothing), that the system does what it answers, that a call of a reader or a writer that failed took no byte, that a crash leaves one
-//! of the images, or that nobody else writes the file.
+//! length of a file (of a disk of another length the clauses on content say nothing), that the system
+//! does what it answers, that a call of a reader or a writer that failed took no byte, that a crash
+//! leaves one of the images, or that nobody else writes the file.
 #![tactic(auto)]
 
 mod file_disk;

@@ -15,7 +15,7 @@ use Rattle.zst_stream.specs.Reading.{opened}
 use Rattle.zst_stream.specs.Image.{CanBegin, PiecesFit}
 use Rattle.zst_stream.specs.Example.{example_header, example_items, example_pieces, no_snapshot, full_choice, ExampleIsStream, ExampleCanBeSent}
 use Rattle.zst_stream.specs.Items.{Says}
-use Rattle.zst_stream.proofs.PlainStreams.{plain_allowed}
+use Rattle.zst_stream.proofs.AllowedItems.{plain_allowed}
 
 begins-bare : BeginFits (bare example_header) (length (begin_payload example_header))
 unfolding is_payload_len needs_payload sa_spill resuming redacts bare begin_payload has_payload

@@ -76,7 +76,7 @@ record-opens before head size =
       right = ap (λ (t : List ℕ). parts_of (weight_sum (before ++ t))) (sealed-front head sums size) ∙ sym (sealed-sums head sums size (sums-fit (before ++ take 280 (head_bytes head))));
     }
 
-number-beyond : (r rest : List ℕ) (at width : ℕ) → number_at (r ++ rest) (length r + at) width ≡ number_at rest at width
+pub number-beyond : (r rest : List ℕ) (at width : ℕ) → number_at (r ++ rest) (length r + at) width ≡ number_at rest at width
 unfolding number_at bytes_at
 number-beyond r rest at width = ap (λ (t : List ℕ). little_number width (take width t)) (drop-append-add r rest at)
 

@@ -1,5 +1,5 @@
 -- The items that the covered records of a stream say.
-use Rattle.std.specs.Prelude.{ℕ, ◌≡◌, ◌≢◌, ◌==◌, Bool, false, if◌then◌else◌, List, [], ◌∷◌, ◌++◌, length, take, Some, bit_and, All}
+use Rattle.std.specs.Prelude.{ℕ, ◌≡◌, ◌≢◌, ◌⊎◌, ◌==◌, not, Bool, true, false, if◌then◌else◌, List, [], ◌∷◌, ◌++◌, length, take, Some, bit_and, All}
 use Rattle.zst_fletcher.specs.WeightSum.{IsWhole}
 use Rattle.zst_model.specs.declared.sends.header.Header.{Header}
 use Rattle.zst_model.specs.declared.sends.header.Point.{Point}
@@ -9,6 +9,7 @@ use Rattle.zst_model.specs.declared.states.item.Item.{Item}
 use Rattle.zst_model.specs.declared.states.item.Item.TheVariants.{FreeObjects, At}
 use Rattle.zst_model.specs.states.State.{Redacted, Object, State, IsState}
 use Rattle.zst_model.specs.states.DatedState.{DatedState}
+use Rattle.zst_model.specs.sends.Features.{redacts}
 use Rattle.zst_model.specs.sends.Headers.{spill_block}
 use Rattle.zst_model.specs.sends.Inclusion.{Choice}
 use Rattle.zst_model.specs.sends.Items.{items}
@@ -100,11 +101,15 @@ FirstItems =
 abbrev pub IsUnredacted : State → Type 0
 IsUnredacted state = (k i : ℕ) (object : Object) → state k ≡ Some object → object.blocks i ≡ Redacted → ⊥
 
--- Where no block of a snapshot is redacted, and none is to be, every stream allows its items.
-abbrev pub PlainIsAllowed : Type 0
-PlainIsAllowed =
-    (features : ℕ) (header : Header) (snap : DatedState) (choice : Choice) (point : Point) → IsUnredacted snap.state
-    → ((k i : ℕ) → choice.redact k i ≡ false) → All (Allows features) (items (view_of header snap choice) point)
+-- a stream with these features may have all that a snapshot's view shows: it may have REDACT, or no block of the snapshot is redacted and none is to be
+abbrev pub MayShowAll : ℕ → DatedState → Choice → Type 0
+MayShowAll features snap choice = (not (bit_and features redacts == 0) ≡ true) ⊎ (IsUnredacted snap.state × ((k i : ℕ) → choice.redact k i ≡ false))
+
+-- So it allows each of the view's items.
+abbrev pub SentIsAllowed : Type 0
+SentIsAllowed =
+    (features : ℕ) (header : Header) (snap : DatedState) (choice : Choice) (point : Point)
+    → MayShowAll features snap choice → All (Allows features) (items (view_of header snap choice) point)
 
 -- The payload of an item whose record fits is whole words, and as long as the record says.
 abbrev pub PayloadsFit : Type 0

@@ -8,3 +8,5 @@ pub mod FoundItems
 pub mod Example
 pub mod PassedRecords
 pub mod NearItems
+pub mod Checks
+pub mod CheckedOutcomes

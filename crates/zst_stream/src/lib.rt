@@ -3,10 +3,11 @@
 
 ghost use Rattle.zst_stream.specs.Example.{ExampleCanBeSent, ExampleIsStream};
 ghost use Rattle.zst_stream.specs.Records.{ItemsFit};
-ghost use Rattle.zst_stream.specs.Items.{ItemsAreRead, PayloadsFit, PlainIsAllowed, ViewIsStream, ViewIsRead, FirstItems};
+ghost use Rattle.zst_stream.specs.Items.{ItemsAreRead, PayloadsFit, SentIsAllowed, ViewIsStream, ViewIsRead, FirstItems};
 ghost use Rattle.zst_stream.specs.NearItems.{ItemsAreNear};
 ghost use Rattle.zst_stream.specs.Laws.{FrontsAgree, FaultsAreFound, ImageIsRead, FrontIsRead, CoversArePieces, FirstPieces, PieceGoesOn};
 ghost use Rattle.zst_stream.specs.PassedRecords.{CoveredFit, CoveredInOrder};
+ghost use Rattle.zst_stream.specs.CheckedOutcomes.{OutcomesAreChecked};
 
 mod item_ref;
 
@@ -20,6 +21,12 @@ pub fn fronts_agree()
 /// What a reading refuses is in the stream itself, and never that the input is cut.
 pub fn faults_are_found()
     ensures { FaultsAreFound }
+{}
+
+/// The fault that a reading tells is that of the first check that fails, by the tables, at the first record that fails one;
+/// where it tells none each record passes all.
+pub fn outcomes_are_checked()
+    ensures { OutcomesAreChecked }
 {}
 
 /// What is covered of bytes passed its checks: each record fits its stream, and its payload is as long as it says.
@@ -97,12 +104,12 @@ pub fn payloads_fit()
     ensures { PayloadsFit }
 {}
 
-/// What no redaction touches needs no feature.
-pub fn plain_is_allowed()
-    ensures { PlainIsAllowed }
+/// A stream that may have REDACT allows every item, and any other the items of what no redaction touches.
+pub fn sent_is_allowed()
+    ensures { SentIsAllowed }
 {}
 
-/// No WRITE of the view of a lawful snapshot ends past index 2^43.
+/// No WRITE or REDACT of the view of a lawful snapshot ends past index 2^43 of its object.
 pub fn items_are_near()
     ensures { ItemsAreNear }
 {}

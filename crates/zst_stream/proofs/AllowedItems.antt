@@ -1,19 +1,22 @@
--- A stream of what no redaction touches needs no feature.
-use Rattle.std.proofs.Common.{◌≡◌, ℕ, ◌+◌, ◌*◌, Bool, true, false, List, [], ◌++◌, Option, Some, None, option_map, refl, subst, ◌==◌, nat_le, if◌then◌else◌}
+-- What a stream may have: every item where it has REDACTED, and else what no redaction touches.
+use Rattle.std.proofs.Common.{◌≡◌, inl, inr, ℕ, ◌+◌, ◌*◌, Bool, true, false, not, List, [], ◌∷◌, ◌++◌, Option, Some, None, option_map, bit_and, refl, subst, ◌==◌, nat_le, if◌then◌else◌}
 use Rattle.std.specs.List.{All}
 use Rattle.std.proofs.lemmas.List.Elements.{All-nil, All-cons, All-append, All-map, All-weaker}
+use Rattle.zst_model.specs.declared.sends.header.Header.{Header}
+use Rattle.zst_model.specs.declared.sends.header.Point.{Point}
 use Rattle.zst_model.specs.declared.states.attr.Attr.{Attr}
 use Rattle.zst_model.specs.declared.states.item.Change.{Change}
-use Rattle.zst_model.specs.declared.states.item.Change.TheVariants.{Spill, Free, Redact, Write}
+use Rattle.zst_model.specs.declared.states.item.Change.TheVariants.{Put, Spill, FreeFrom, Free, Redact, Write}
 use Rattle.zst_model.specs.declared.states.item.Item.{Item}
 use Rattle.zst_model.specs.declared.states.item.Item.TheVariants.{FreeObjects, At}
 use Rattle.zst_model.specs.states.State.{Block, Hole, Redacted, Data, Object}
 use Rattle.zst_model.specs.states.DatedState.{DatedState}
+use Rattle.zst_model.specs.sends.Features.{redacts}
 use Rattle.zst_model.specs.sends.Inclusion.{Choice, includes_pair, includes_number}
 use Rattle.zst_model.specs.sends.View.{ObjectView, Shown, Left, Gone, There, shown_block, shown_object, view_of}
-use Rattle.zst_model.specs.sends.Items.{rising, block_change, change_at, block_changes, spill_change, opening, number_items, join_changes, join}
+use Rattle.zst_model.specs.sends.Items.{rising, block_change, change_at, block_changes, spill_change, opening, number_items, join_changes, join, items}
 use Rattle.zst_stream.specs.Records.{AllowsChange, Allows}
-use Rattle.zst_stream.specs.Items.{PlainIsAllowed}
+use Rattle.zst_stream.specs.Items.{IsUnredacted, SentIsAllowed}
 use Rattle.zst_stream.proofs.CarriedItems.{flat_map_all, items_all}
 
 -- ---- what is joined is allowed where its parts are
@@ -110,7 +113,8 @@ plain_block snap choice k i object whole none = go (includes_pair snap choice k 
     go true = shown (choice.redact k i) none
     go false = tt
 
-pub plain_allowed : PlainIsAllowed
+pub plain_allowed : (features : ℕ) (header : Header) (snap : DatedState) (choice : Choice) (point : Point) → IsUnredacted snap.state → ((k i : ℕ) → choice.redact k i ≡ false)
+    → All (Allows features) (items (view_of header snap choice) point)
 plain_allowed features header snap choice point whole none =
     items_all (Allows features) (join_allowed features) (view_of header snap choice) point
     (λ k offset. number_allowed features k offset ((view_of header snap choice).shown k) (shown k (includes_number snap choice k) (snap.state k) refl))
@@ -119,3 +123,22 @@ plain_allowed features header snap choice point whole none =
     shown k false o e = tt
     shown k true None e = tt
     shown k true (Some object) e = λ i. plain_block snap choice k i object (λ r. whole k i object e r) (none k i)
+
+-- ---- a stream that may have REDACT
+
+item_allowed : (features : ℕ) → not (bit_and features redacts == 0) ≡ true → (item : Item) → Allows features item
+item_allowed features may (FreeObjects first count) = tt
+item_allowed features may (At k (Put head bonus keep_spill max_block)) = tt
+item_allowed features may (At k (Spill bytes)) = tt
+item_allowed features may (At k (FreeFrom offset)) = tt
+item_allowed features may (At k (Free offset count)) = tt
+item_allowed features may (At k (Redact offset count)) = may
+item_allowed features may (At k (Write offset type bytes)) = tt
+
+all_allowed : (features : ℕ) → not (bit_and features redacts == 0) ≡ true → (list : List Item) → All (Allows features) list
+all_allowed features may [] = All-nil (Allows features)
+all_allowed features may (item ∷ rest) = All-cons (Allows features) item rest (item_allowed features may item) (all_allowed features may rest)
+
+pub sent_allowed : SentIsAllowed
+sent_allowed features header snap choice point (inl may) = all_allowed features may (items (view_of header snap choice) point)
+sent_allowed features header snap choice point (inr plain) = plain_allowed features header snap choice point plain.0 plain.1
