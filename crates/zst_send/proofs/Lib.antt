@@ -15,3 +15,6 @@ mod KeptBlocks
 mod WalkSteps
 mod TouchedItems
 pub mod SetDates
+mod SetsBut
+mod ListReads
+pub mod StandingRows

@@ -9,7 +9,7 @@ use Rattle.zst_model.specs.declared.states.cell.Cell.{Cell}
 use Rattle.zst_model.specs.declared.states.cell.Cell.TheVariants as cells
 use Rattle.zst_model.specs.sends.Inclusion.{Choice}
 use Rattle.zst_model.specs.states.DatedState.{DatedState, size_at}
-use Rattle.zst_traverse.specs.Cells.{IsNextCell}
+use Rattle.zst_traverse.specs.Cells.{IsNextCellIn}
 use Rattle.zst_traverse.specs.declared.walk_entry.WalkEntry.{WalkEntry}
 use Rattle.zst_traverse.specs.declared.walk_entry.WalkEntry.TheVariants as found
 use Rattle.zst_tree.specs.Indices.{Blocks}
@@ -29,11 +29,11 @@ pairs_count snap k first count type size cells.Hole ptr some is positive = subst
 pairs_count snap k first count type size cells.Redacted ptr some is positive = subst (λ (s : ℕ). 0 < count * size / s) (sym is) (subst (λ (n : ℕ). 0 < n) (sym (mul-div_cancel count some)) positive)
 pairs_count snap k first count type size cells.Data ptr some is positive = omega arith
 
-pub found_counts : (has : Blocks) (snap : DatedState) (choice : Choice) (position : WalkPosition) (next : WalkEntry) → 0 < position.block_size → IsPositionOf snap position
-    → IsNextCell has snap choice position.point position.slot (Some next) → 0 < cells_due snap (due_of next (position_after position next).type_ (position_after position next).block_size)
-found_counts has snap choice position (found.Object k dnode) some of next = omega arith
-found_counts has snap choice position (found.Gone first count) some of next = next.1.some
-found_counts has snap choice position (found.Pairs k first count what ptr) some of next =
+pub found_counts : (has : Blocks) (reads : ℕ → ℕ → Blocks) (snap : DatedState) (choice : Choice) (position : WalkPosition) (next : WalkEntry) → 0 < position.block_size → IsPositionOf snap position
+    → IsNextCellIn has reads snap choice position.point position.slot (Some next) → 0 < cells_due snap (due_of next (position_after position next).type_ (position_after position next).block_size)
+found_counts has reads snap choice position (found.Object k dnode) some of next = omega arith
+found_counts has reads snap choice position (found.Gone first count) some of next = next.1.some
+found_counts has reads snap choice position (found.Pairs k first count what ptr) some of next =
     let passed = of next.0 in
     let size : size_at (snap.state k) ≡ position.block_size = ap (λ (j : ℕ). size_at (snap.state j)) next.1 ∙ ap size_at passed.there ∙ sym passed.size_is in
     pairs_count snap k first count position.type_ position.block_size what ptr some size next.2.some

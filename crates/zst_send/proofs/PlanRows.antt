@@ -1,37 +1,37 @@
 -- What a plan's rows tell of the send that it is of, where they stand for what a pool lists.
-use Rattle.std.proofs.Common.{◌≡◌, ℕ, Bool, true, false, not, List, [], ◌∷◌, length, is_some, Option, Some, None, Result, Ok, Err, cond, option_map, suc, zero, ◌<◌, refl, sym, ap, ◌∙◌, subst, get_or, arith}
+use Rattle.std.proofs.Common.{◌≡◌, ℕ, Bool, true, false, List, [], ◌∷◌, length, Option, Some, None, Result, Ok, Err, cond, option_map, suc, zero, ◌<◌, sym, ap, ◌∙◌, subst, get_or, arith}
+use Rattle.std.specs.Prelude.{IfErr, IfOk}
 use Rattle.std.proofs.lemmas.List.Quantifiers.{position-Some}
 use Rattle.std.specs.List.{find, position}
-use Rattle.std.proofs.lemmas.Bool.{and_parts, true≢false, not-true}
-use Rattle.zst_dir.proofs.Matches.{Match-alike}
 use Rattle.zst_dir.specs.Rows.{Rows}
 use Rattle.zst_dir.specs.declared.rows.Snapshot.{Snapshot}
-use Rattle.zst_image.specs.Reads.{BookmarkIs, RunsBy, SetIs, SnapshotIs}
-use Rattle.zst_model.specs.declared.refusals.faults.Lack.TheVariants as lacks
+use Rattle.zst_image.specs.Reads.{RunsBy, SetIs, SnapshotIs}
 use Rattle.zst_model.specs.declared.refusals.plan_fault.PlanFault.{PlanFault}
-use Rattle.zst_model.specs.declared.refusals.plan_fault.PlanFault.TheVariants as plans
 use Rattle.zst_model.specs.declared.sends.ask.SendAsk.{SendAsk}
 use Rattle.zst_model.specs.fields.Lists.{Runs, has_pair}
-use Rattle.zst_model.specs.pools.Ancestry.{Source, OfSnapshot, OfBookmark}
-use Rattle.zst_model.specs.pools.Pool.{Bookmark, Pool}
-use Rattle.zst_model.specs.sends.Headers.{Sent, choice_of, redaction_list, source_guids, source_list}
-use Rattle.zst_model.specs.sends.Inclusion.{Choice, Pairs, no_pairs}
-use Rattle.zst_model.specs.sends.SendPlan.{has_guids, send_plan}
-use Rattle.zst_model.specs.states.AppliedItems.{unless, ◌>>=◌}
-use Rattle.zst_model.proofs.GuidLists.{no_guids}
-use Rattle.zst_plan.specs.Places.{FindAlike, StandsAt}
+use Rattle.zst_model.specs.pools.Ancestry.{number_of_source}
+use Rattle.zst_model.specs.pools.Pool.{Pool}
+use Rattle.zst_model.specs.sends.Headers.{Sent, choice_of, redaction_list, source_list}
+use Rattle.zst_model.specs.sends.Inclusion.{Choice, Pairs}
+use Rattle.zst_model.specs.sends.SendPlan.{send_plan}
+use Rattle.zst_objset.specs.Damage.{DamageFact}
+use Rattle.zst_objset.specs.Dnodes.{outside}
+use Rattle.zst_objset.specs.TightSets.{SetIsTightIn}
 use Rattle.zst_plan.specs.Plans.{IsPlanOf, bookmark_source}
 use Rattle.zst_plan.specs.declared.plan.SendPlan.{SendPlan}
 use Rattle.zst_plan.proofs.AlikeAnswers.{at_names}
 use Rattle.zst_block.specs.declared.fault.BlockFault.{BlockFault}
 use Rattle.zst_block.specs.declared.fault.BlockFault.TheVariants as blocks
+use Rattle.zst_pool.specs.Damage.{IsOf}
 use Rattle.zst_pool.specs.Faults.{of_block}
+use Rattle.zst_pool.specs.Lists.{IsUnread}
 use Rattle.zst_pool.specs.declared.fault.PoolFault.{PoolFault}
-use Rattle.zst_pool.specs.declared.fault.PoolFault.TheVariants.{OutOfMemory, Plan}
-use Rattle.zst_traverse.specs.Cells.{choice_after}
+use Rattle.zst_pool.specs.declared.fault.PoolFault.TheVariants.{Plan, CannotApply, Redacted, Full, Damaged, DiskFault, Failed, OutOfMemory}
+use Rattle.zst_traverse.specs.Cells.{choice_with}
 use Rattle.zst_tree.specs.Indices.{Blocks}
-use Rattle.zst_send.specs.Openings.{IsPlanned, Opens, built, is_plain, opening, set_where}
+use Rattle.zst_send.specs.Openings.{IsPlanned, Opens, Starts, runs_in, set_where}
 use Rattle.zst_send.specs.declared.send.Send.{Send}
+use Rattle.zst_send.proofs.StandingRows.{redaction_pairs, source_pairs}
 
 -- what is found is the first that passes
 found_at : {A : Type 0} (p : A → Bool) (d : A) (xs : List A) (i : ℕ) → i < length xs → p (get_or xs i d) ≡ true → ((k : ℕ) → k < i → p (get_or xs k d) ≡ false) → find p xs ≡ Some (get_or xs i d)
@@ -54,69 +54,76 @@ never_planned (blocks.Full need largest) fault is = absurd (cc is)
 never_planned (blocks.Damaged sector stated found) fault is = absurd (cc is)
 never_planned blocks.DiskFault fault is = absurd (cc is)
 
-no_runs : (runs : Runs) → length runs ≡ 0 → has_pair runs ≡ no_pairs
-no_runs [] e = refl
-no_runs (run ∷ runs) e = absurd (omega (arith, e))
-
-no_redaction : (redaction : Option Bookmark) → is_some redaction ≡ false → redaction_list redaction ≡ no_pairs
-no_redaction None e = refl
-no_redaction (Some bookmark) e = absurd (true≢false e)
-
 -- what is asked, by its parts
 abbrev choice : Option ℕ → Pairs → Pairs → Choice
 choice from source redact = record { from = from; source = source; redact = redact }
 
-module _ {bound : Option ℕ} (has : Blocks) (rows : Rows) (running : Pool) (runs : RunsBy bound has rows running) where
-  -- a source without redaction guids has no list
-  no_source : (book : Option ℕ) (source : Option Source) → FindAlike (StandsAt rows.bookmarks running.bookmarks) book (bookmark_source source)
-      → has_guids (source_guids source) ≡ false → source_list source ≡ no_pairs
-  no_source book None found none = refl
-  no_source book (Some (OfSnapshot snapshot)) found none = refl
-  no_source None (Some (OfBookmark bookmark)) found none = absurd found
-  no_source (Some place) (Some (OfBookmark bookmark)) found none =
-      let is = Match-alike (BookmarkIs has) rows.bookmarks running.bookmarks found.row bookmark runs.bookmarks found.alike in
-      no_runs bookmark.runs (is.list.count_is ∙ is.named.no_list (sym is.named.redact ∙ no_guids bookmark.redact none))
+-- what is sent is what the plan's source and these two lists include
+pub plan_choice : (sent : Sent) (from : Option ℕ) (listed redact : Runs) → from ≡ option_map number_of_source sent.source → listed ≡ runs_in (bookmark_source sent.source) → redact ≡ runs_in sent.redaction
+    → choice_of sent ≡ choice_with from listed redact
+plan_choice sent from listed redact number lists redacts =
+    ap (λ (from : Option ℕ). choice from (source_list sent.source) (redaction_list sent.redaction)) (sym number)
+    ∙ ap (λ (source : Pairs). choice from source (redaction_list sent.redaction)) (source_pairs sent.source ∙ ap has_pair (sym lists))
+    ∙ ap (λ (pairs : Pairs). choice from (has_pair listed) pairs) (redaction_pairs sent.redaction ∙ ap has_pair (sym redacts))
 
-  module _ (plan : SendPlan) (sent : Sent) (is : IsPlanOf rows running plan sent) where
-    -- the set of the snapshot's row is known as well as the rows
-    pub plan_holds : (row : Snapshot) → row ≡ get_or rows.snapshots plan.snap row → SetIs bound has row.objects sent.snapshot.objects
-    plan_holds row here = (at_names (SnapshotIs bound has) rows.snapshots running.snapshots plan.snap row sent.snapshot runs.snapshots is.snapshot here).objects
-
-    -- all that is dated after the source is sent
-    pub plan_choice : is_plain sent ≡ true → choice_of sent ≡ choice_after plan.from_number
-    plan_choice plain =
-        let both = and_parts (not (is_some sent.redaction)) (not (has_guids (source_guids sent.source))) plain in
-        ap (λ (from : Option ℕ). choice from (source_list sent.source) (redaction_list sent.redaction)) (sym is.source.number)
-        ∙ ap (λ (source : Pairs). choice plan.from_number source (redaction_list sent.redaction)) (no_source plan.book_f sent.source is.source.bookmark (not-true _ both.1))
-        ∙ ap (λ (redact : Pairs). choice plan.from_number no_pairs redact) (no_redaction sent.redaction (not-true _ both.0))
+-- the set of the snapshot's row is known as well as the rows
+pub plan_holds : {bound : Option ℕ} (has : Blocks) (rows : Rows) (running : Pool) → RunsBy bound has rows running → (plan : SendPlan) (sent : Sent) → IsPlanOf rows running plan sent
+    → (row : Snapshot) → row ≡ get_or rows.snapshots plan.snap row → SetIs bound has row.objects sent.snapshot.objects
+plan_holds {bound} has rows running runs plan sent is row here =
+    (at_names (SnapshotIs bound has) rows.snapshots running.snapshots plan.snap row sent.snapshot runs.snapshots is.snapshot here).objects
 
 -- ---- what opening refuses
 
 -- the fault of the plan is the refusal
-pub refuses : (has : Blocks) (ask : SendAsk) (pool : Pool) (result : Result Send PoolFault) (fault : PlanFault) → result ≡ Err (Plan fault) → opening ask pool ≡ Err fault → Opens has ask pool result
+pub refuses : (has : Blocks) (ask : SendAsk) (pool : Pool) (result : Result Send PoolFault) (fault : PlanFault) → result ≡ Err (Plan fault) → send_plan ask pool ≡ Err fault → Opens has ask pool result
 refuses has ask pool result fault same is = subst (λ (r : Result Send PoolFault). Opens has ask pool r) (sym same) is
 
--- so it is for the plan alone, and where it passes memory may be wanting
-module _ (plan : Result Sent PlanFault) (result : Result Send PoolFault) where
-  pub plan_refuses : (fault : PlanFault) → result ≡ Err (Plan fault) → plan ≡ Err fault → IsPlanned plan result
-  plan_refuses fault same is = subst (λ (r : Result Send PoolFault). IsPlanned plan r) (sym same) is
+-- so it is for the plan alone
+pub plan_refuses : (plan : Result Sent PlanFault) (result : Result Send PoolFault) (fault : PlanFault) → result ≡ Err (Plan fault) → plan ≡ Err fault → IsPlanned plan result
+plan_refuses plan result fault same is = subst (λ (r : Result Send PoolFault). IsPlanned plan r) (sym same) is
 
-  pub plan_lacks : (sent : Sent) → result ≡ Err OutOfMemory → plan ≡ Ok sent → IsPlanned plan result
-  plan_lacks sent same is = subst (λ (r : Result Send PoolFault). IsPlanned plan r) (sym same) (sent, is)
+-- what passes is opened, unless a list can't be read
+pub passes_planned : (plan : Result Sent PlanFault) (sent : Sent) (result : Result Send PoolFault) → plan ≡ Ok sent → IfErr result IsUnread → IsPlanned plan result
+passes_planned plan sent (Ok send) is unread = (sent, is)
+passes_planned plan sent (Err (Plan fault)) is unread = absurd unread
+passes_planned plan sent (Err (CannotApply fault)) is unread = absurd unread
+passes_planned plan sent (Err (Redacted object block)) is unread = absurd unread
+passes_planned plan sent (Err (Full need largest)) is unread = absurd unread
+passes_planned plan sent (Err (Damaged sector stated found)) is unread = (sent, is)
+passes_planned plan sent (Err DiskFault) is unread = (sent, is)
+passes_planned plan sent (Err Failed) is unread = absurd unread
+passes_planned plan sent (Err OutOfMemory) is unread = (sent, is)
 
-module _ (ask : SendAsk) (pool : Pool) where
-  -- what isn't planned isn't opened
-  pub unplanned : (fault : PlanFault) → send_plan ask pool ≡ Err fault → opening ask pool ≡ Err fault
-  unplanned fault none = ap (λ (planned : Result Sent PlanFault). planned >>= built) none
+-- and starts by its plan
+pub starts_opened : (has : Blocks) (ask : SendAsk) (pool : Pool) (sent : Sent) (result : Result Send PoolFault) → send_plan ask pool ≡ Ok sent → Starts has sent None result → Opens has ask pool result
+starts_opened has ask pool sent (Ok send) is starts = (sent, is, starts)
+starts_opened has ask pool sent (Err (Plan fault)) is starts = absurd starts
+starts_opened has ask pool sent (Err (CannotApply fault)) is starts = absurd starts
+starts_opened has ask pool sent (Err (Redacted object block)) is starts = absurd starts
+starts_opened has ask pool sent (Err (Full need largest)) is starts = absurd starts
+starts_opened has ask pool sent (Err (Damaged sector stated found)) is starts = absurd starts
+starts_opened has ask pool sent (Err DiskFault) is starts = tt
+starts_opened has ask pool sent (Err Failed) is starts = absurd starts
+starts_opened has ask pool sent (Err OutOfMemory) is starts = tt
 
-  -- what is planned is opened where it is built
-  pub planned_is : (sent : Sent) → send_plan ask pool ≡ Ok sent → opening ask pool ≡ built sent
-  planned_is sent planned = ap (λ (planned : Result Sent PlanFault). planned >>= built) planned
+-- a list that can't be read isn't that the pool failed before
+pub open_yet : (result : Result Send PoolFault) → IfErr result IsUnread → ¬ (result ≡ Err Failed)
+open_yet result unread is = absurd (subst (λ (r : Result Send PoolFault). IfErr r IsUnread) is unread)
 
--- what passes is plain
-pub passed : (sent : Sent) → built sent ≡ Ok sent → is_plain sent ≡ true
-passed sent = go (is_plain sent)
-  where
-    go : (plain : Bool) → unless (not plain) (plans.Unsupported lacks.NotBuilt) (Ok sent) ≡ Ok sent → plain ≡ true
-    go true e = refl
-    go false e = absurd (cc)
+-- ---- what it tells
+
+-- what a send's set is, and what a fault tells
+pub tight_opened : (has : Blocks) (plan : Result Sent PlanFault) (sent : Sent) (result : Result Send PoolFault) → plan ≡ Ok sent
+    → IfOk result (λ send. SetIsTightIn has (outside (has_pair send.subject.redact) has) send.subject.set sent.snapshot.objects)
+    → IfOk result (λ send. (other : Sent) → plan ≡ Ok other → SetIsTightIn has (outside (has_pair send.subject.redact) has) send.subject.set other.snapshot.objects)
+tight_opened has plan sent (Ok send) is tight = λ other also.
+    let same : sent ≡ other = cc (is, also) in
+    subst (λ (o : Sent). SetIsTightIn has (outside (has_pair send.subject.redact) has) send.subject.set o.snapshot.objects) same tight
+tight_opened has plan sent (Err fault) is tight = tt
+
+pub tells_more : (Is More : DamageFact) → ((sector : ℕ) (stated found : List ℕ) → Is sector stated found → More sector stated found) → (result : Result Send PoolFault) → IfErr result (IsOf Is) → IfErr result (IsOf More)
+tells_more Is More more (Ok send) told = tt
+tells_more Is More more (Err fault) told = λ sector stated found same. more sector stated found (told sector stated found same)
+
+pub plan_tells : (Is : DamageFact) (result : Result Send PoolFault) (fault : PlanFault) → result ≡ Err (Plan fault) → IfErr result (IsOf Is)
+plan_tells Is result fault same = subst (λ (r : Result Send PoolFault). IfErr r (IsOf Is)) (sym same) (λ sector stated found is. absurd (cc is))

@@ -1,5 +1,5 @@
 -- What a walk finds comes first of what is left of a view.
-use Rattle.std.proofs.Common.{◌≡◌, ℕ, ◌+◌, ◌*◌, ◌<◌, ◌≤◌, Bool, true, false, List, [], ◌∷◌, ◌++◌, map, pred, take, Option, Some, None, refl, sym, ap, ◌∙◌, arith, subst}
+use Rattle.std.proofs.Common.{◌≡◌, ℕ, ◌+◌, ◌*◌, ◌<◌, ◌≤◌, Bool, true, false, List, [], ◌∷◌, ◌++◌, map, pred, take, Some, None, refl, sym, ap, ◌∙◌, arith, subst, if◌then◌else◌}
 use Rattle.std.proofs.lemmas.Bool.{cond-true, cond-false, true≢false}
 use Rattle.zst_block.specs.declared.ptr.Ptr.{Ptr}
 use Rattle.zst_dnode.specs.declared.dnode.Dnode.{Dnode}
@@ -10,7 +10,7 @@ use Rattle.zst_model.specs.declared.states.cell.Cell.TheVariants as cells
 use Rattle.zst_model.specs.declared.states.item.Change.TheVariants as changes
 use Rattle.zst_model.specs.declared.states.item.Item.{Item}
 use Rattle.zst_model.specs.declared.states.item.Item.TheVariants.{At, FreeObjects}
-use Rattle.zst_model.specs.sends.Inclusion.{includes_pair}
+use Rattle.zst_model.specs.sends.Inclusion.{Choice, includes_pair}
 use Rattle.zst_model.specs.sends.Items.{joined, opening, put_change, spill_change, tail_change}
 use Rattle.zst_model.specs.sends.View.{View, object_view, view_of}
 use Rattle.zst_model.specs.states.DatedState.{DatedState, size_at}
@@ -19,8 +19,8 @@ use Rattle.zst_model.specs.states.State as states
 use Rattle.zst_model.proofs.ObjectNumbers.{number_over_none}
 use Rattle.zst_laws.specs.Walk.{walk_left, BlockRunIsNext, GoneRunIsNext, ObjectIsNext, WalkEnds, run_change}
 use Rattle.zst_objset.proofs.EndLaws.{end_bounded}
-use Rattle.zst_objset.specs.Dnodes.{ObjectIs}
-use Rattle.zst_traverse.specs.Cells.{CellIs, IsNextCell, IsNextGone, IsNextObject, IsNextPairs, NoneLeft, choice_after, first_number}
+use Rattle.zst_objset.specs.Dnodes.{ObjectIn}
+use Rattle.zst_traverse.specs.Cells.{CellIs, IsNextCellIn, IsNextGone, IsNextObjectIn, IsNextPairs, NoneLeft, first_number, told_block}
 use Rattle.zst_traverse.specs.declared.walk_entry.WalkEntry.{WalkEntry}
 use Rattle.zst_traverse.specs.declared.walk_entry.WalkEntry.TheVariants as found
 use Rattle.zst_tree.specs.Indices.{Blocks}
@@ -48,17 +48,17 @@ pub past_slot : (point : Point) (slot : Bool) (k : ℕ) → first_number point s
 past_slot point true k le e = absurd (true≢false e)
 past_slot point false k le e = omega arith
 
-module _ (has : Blocks) (header : Header) (snap : DatedState) (source : Option ℕ) where
+module _ (has : Blocks) (reads : ℕ → ℕ → Blocks) (header : Header) (snap : DatedState) (choice : Choice) where
   abbrev view : View
-  view = view_of header snap (choice_after source)
+  view = view_of header snap choice
 
   -- ---- an object
 
   -- the items of an object's opening are due by its dnode
-  opening_due : (k : ℕ) (dnode : Dnode) (object : Object) (date : ℕ) (dates : ℕ → ℕ) (tree : ℕ → Ptr) → IsObject object → ObjectIs has dnode object date dates tree
-      → AreDue has (dues.Object k dnode) (map (At k) (opening (object_view snap (choice_after source) k object)))
+  opening_due : (k : ℕ) (dnode : Dnode) (object : Object) (date : ℕ) (dates : ℕ → ℕ) (tree : ℕ → Ptr) → IsObject object → ObjectIn has (reads k) dnode object date dates tree
+      → AreDue has (dues.Object k dnode) (map (At k) (opening (object_view snap choice k object)))
   opening_due k dnode object date dates tree lawful is =
-      let shown = object_view snap (choice_after source) k object in
+      let shown = object_view snap choice k object in
       record {
         first = At k (put_change shown);
         later = map (At k) (spill_change object.attr.spill ++ (tail_change shown ∷ []));
@@ -78,35 +78,35 @@ module _ (has : Blocks) (header : Header) (snap : DatedState) (source : Option �
         );
       }
 
-  object_goes : WalkLaws → IsState snap.state → (position : WalkPosition) (k : ℕ) (dnode : Dnode) → NoneLeft snap (choice_after source) position.point position.slot
-      → IsNextObject has snap (choice_after source) (first_number position.point position.slot) k dnode
+  object_goes : WalkLaws → IsState snap.state → (position : WalkPosition) (k : ℕ) (dnode : Dnode) → NoneLeft snap choice position.point position.slot
+      → IsNextObjectIn has reads snap choice (first_number position.point position.slot) k dnode
       → GoesTo has snap view position (position_after position (found.Object k dnode)) (Some (dues.Object k dnode))
   object_goes laws lawful position k dnode left next =
       let object = next.is.object in
-      let shown = object_view snap (choice_after source) k object in
+      let shown = object_view snap choice k object in
       let is = next.is.is in (
         map (At k) (opening shown),
         opening_due k dnode object (snap.number_date k) (snap.index_date k) next.is.map (object_lawful snap k object lawful next.is.there) is,
-        ap joined (laws.object view position.point position.slot k shown (is_counted snap source k next.included)
-            (nothing_below header snap source position.point position.slot k left next.none_before)
+        ap joined (laws.object view position.point position.slot k shown (is_counted snap choice k next.included)
+            (nothing_below header snap choice position.point position.slot k left next.none_before)
             (from_point position.point position.slot k next.from_on) (past_slot position.point position.slot k next.from_on)
-            (shown_there header snap source k object next.included next.is.there)),
+            (shown_there header snap choice k object next.included next.is.there)),
         λ slot. record { object = object; there = next.is.there; type_is = is.type_is; size_is = is.size_is },
       )
 
   -- ---- numbers without objects
 
-  gone_goes : WalkLaws → (position : WalkPosition) (first count : ℕ) → NoneLeft snap (choice_after source) position.point position.slot
-      → IsNextGone snap (choice_after source) (first_number position.point position.slot) first count
+  gone_goes : WalkLaws → (position : WalkPosition) (first count : ℕ) → NoneLeft snap choice position.point position.slot
+      → IsNextGone snap choice (first_number position.point position.slot) first count
       → GoesTo has snap view position (position_after position (found.Gone first count)) (Some (dues.Absent first count))
   gone_goes laws position first count left next =
       let some : 0 < count = next.some in (
         FreeObjects first count ∷ [],
         record { first = FreeObjects first count; later = []; are = refl; is_first = refl; are_behind = refl },
-        laws.gone view position.point position.slot first count (number_over_none first (is_counted snap source first (next.included first (omega arith) (omega arith)))) some next.under
-            (nothing_below header snap source position.point position.slot first left next.none_before)
+        laws.gone view position.point position.slot first count (number_over_none first (is_counted snap choice first (next.included first (omega arith) (omega arith)))) some next.under
+            (nothing_below header snap choice position.point position.slot first left next.none_before)
             (from_point position.point position.slot first next.from_on) (past_slot position.point position.slot first next.from_on)
-            (λ j from below. shown_gone header snap source j (next.included j from below) (next.absent j from below)),
+            (λ j from below. shown_gone header snap choice j (next.included j from below) (next.absent j from below)),
         λ slot. absurd (true≢false slot),
       )
 
@@ -115,10 +115,18 @@ module _ (has : Blocks) (header : Header) (snap : DatedState) (source : Option �
   alone : (due : DueItems) (item : Item) → IsFirst has due item → AreBehind has due [] → AreDue has due (item ∷ [])
   alone due item first behind = record { first = item; later = []; are = refl; is_first = first; are_behind = behind }
 
+  -- a block of data that is told is the object's: a withheld one is told as redacted
+  told_data : (k i : ℕ) (block : Block) (bytes : List ℕ) → told_block choice k i block ≡ states.Data bytes → block ≡ states.Data bytes
+  told_data k i block bytes is = go (choice.redact k i) is
+    where
+      go : (b : Bool) → (if b then states.Redacted else block) ≡ states.Data bytes → block ≡ states.Data bytes
+      go true e = absurd (cc)
+      go false e = e
+
   -- the block of a run that is told as this cell
   block_told : (what : Cell) (ptr : Ptr) (object : Object) (k first count : ℕ) → IsObject object → 0 < count
-      → ((i : ℕ) → first ≤ i → i < first + count → CellIs has what ptr (object.blocks i)) → (what ≡ cells.Data → count ≡ 1)
-      → (block : Block) × ((i : ℕ) → first ≤ i → i < first + count → object.blocks i ≡ block)
+      → ((i : ℕ) → first ≤ i → i < first + count → CellIs has what ptr (told_block choice k i (object.blocks i))) → (what ≡ cells.Data → count ≡ 1)
+      → (block : Block) × ((i : ℕ) → first ≤ i → i < first + count → told_block choice k i (object.blocks i) ≡ block)
       × ((bytes : List ℕ) → block ≡ states.Data bytes → count ≡ 1)
       × AreDue has (due_pairs k first count object.attr.type_ object.attr.block_size what ptr) (At k (run_change object.attr first count block) ∷ [])
   block_told cells.Hole ptr object k first count lawful some blocks one =
@@ -129,9 +137,10 @@ module _ (has : Blocks) (header : Header) (snap : DatedState) (source : Option �
       let told = blocks first (omega arith) (omega arith) in
       let single : count ≡ 1 = one refl in (
         states.Data told.0,
-        (λ i from below. let same : i ≡ first = omega (arith, single) in ap object.blocks same ∙ told.1),
+        (λ i from below. let same : i ≡ first = omega (arith, single) in ap (λ (j : ℕ). told_block choice k j (object.blocks j)) same ∙ told.1),
         (λ bytes e. single),
-        alone (dues.Block k object.attr.type_ (first * object.attr.block_size) ptr) (At k (changes.Write (first * object.attr.block_size) object.attr.type_ told.0)) (told.0, told.3, data_most object first told.0 lawful told.1, refl) refl,
+        alone (dues.Block k object.attr.type_ (first * object.attr.block_size) ptr) (At k (changes.Write (first * object.attr.block_size) object.attr.type_ told.0))
+            (told.0, told.3, data_most object first told.0 lawful (told_data k first (object.blocks first) told.0 told.1), refl) refl,
       )
 
   -- an object's size is that of what stands at its number
@@ -139,26 +148,26 @@ module _ (has : Blocks) (header : Header) (snap : DatedState) (source : Option �
   size_there k object there = ap size_at there
 
   pairs_due : WalkLaws → IsState snap.state → (point : Point) (type size first count : ℕ) (what : Cell) (ptr : Ptr) → 0 < size
-      → (next : IsNextPairs has snap (choice_after source) point first count what ptr) → type ≡ next.object.attr.type_ → size ≡ next.object.attr.block_size
+      → (next : IsNextPairs has snap choice point first count what ptr) → type ≡ next.object.attr.type_ → size ≡ next.object.attr.block_size
       → (items : List Item) × AreDue has (due_pairs point.object first count type size what ptr) items
       × (joined (walk_left view point false) ≡ joined (items ++ walk_left view (record { object = point.object; offset = (first + count) * size }) false))
   pairs_due laws lawful point type size first count what ptr some next type_is size_is =
       let object = next.object in
       let k = point.object in
-      let shown = object_view snap (choice_after source) k object in
+      let shown = object_view snap choice k object in
       let positive : 0 < count = next.some in
       let below : first + count ≤ end_of object = next.under in
       let ends : end_of object ≤ index_bound = end_bounded object in
       let told = block_told what ptr object k first count (object_lawful snap k object lawful next.there) positive next.blocks next.one in
       let number = number_there snap k object lawful next.there in
-      let counted = counts_by_pair snap source k first number (omega arith) (next.included first (omega arith) (omega arith)) in (
+      let counted = counts_by_pair snap choice k first number (omega arith) (next.included first (omega arith) (omega arith)) in (
         At k (run_change object.attr first count told.0) ∷ [],
         subst (λ (t : ℕ). AreDue has (due_pairs k first count t size what ptr) (At k (run_change object.attr first count told.0) ∷ [])) (sym type_is)
             (subst (λ (s : ℕ). AreDue has (due_pairs k first count object.attr.type_ s what ptr) (At k (run_change object.attr first count told.0) ∷ [])) (sym size_is) told.3),
-        laws.blocks view point shown first count told.0 number (shown_there header snap source k object counted next.there)
+        laws.blocks view point shown first count told.0 number (shown_there header snap choice k object counted next.there)
             (subst (λ (s : ℕ). 0 < s) size_is some) positive below next.from_on
-            (λ j l high. cond-false (includes_pair snap (choice_after source) k j) _ _ (next.none_before j l (subst (λ (s : ℕ). point.offset ≤ j * s) (sym (size_there k object next.there)) high)))
-            (λ j from l. cond-true (includes_pair snap (choice_after source) k j) _ _ (next.included j from l) ∙ ap Some (told.1 j from l))
+            (λ j l high. cond-false (includes_pair snap choice k j) _ _ (next.none_before j l (subst (λ (s : ℕ). point.offset ≤ j * s) (sym (size_there k object next.there)) high)))
+            (λ j from l. cond-true (includes_pair snap choice k j) _ _ (next.included j from l) ∙ ap Some (told.1 j from l))
             told.2
             ∙ ap (λ (s : ℕ). joined (At k (run_change object.attr first count told.0) ∷ walk_left view (record { object = k; offset = (first + count) * s }) false)) (sym size_is),
       )
@@ -168,7 +177,7 @@ module _ (has : Blocks) (header : Header) (snap : DatedState) (source : Option �
   one_there k one other a b = let same : Some one ≡ Some other = sym a ∙ b in cc
 
   pairs_go : WalkLaws → IsState snap.state → (position : WalkPosition) (k first count : ℕ) (what : Cell) (ptr : Ptr) → 0 < position.block_size → IsPositionOf snap position
-      → position.slot ≡ false → k ≡ position.point.object → IsNextPairs has snap (choice_after source) position.point first count what ptr
+      → position.slot ≡ false → k ≡ position.point.object → IsNextPairs has snap choice position.point first count what ptr
       → GoesTo has snap view position (position_after position (found.Pairs k first count what ptr)) (Some (due_pairs k first count position.type_ position.block_size what ptr))
   pairs_go laws lawful position k first count what ptr some of slot same next =
       let passed = of slot in
@@ -186,17 +195,17 @@ module _ (has : Blocks) (header : Header) (snap : DatedState) (source : Option �
 
   -- what is found at a position comes first of what is left there
   pub found_goes : WalkLaws → IsState snap.state → (position : WalkPosition) (next : WalkEntry) → 0 < position.block_size → IsPositionOf snap position
-      → IsNextCell has snap (choice_after source) position.point position.slot (Some next)
+      → IsNextCellIn has reads snap choice position.point position.slot (Some next)
       → GoesTo has snap view position (position_after position next) (Some (due_of next (position_after position next).type_ (position_after position next).block_size))
   found_goes laws lawful position (found.Object k dnode) some of next = object_goes laws lawful position k dnode next.0 next.1
   found_goes laws lawful position (found.Gone first count) some of next = gone_goes laws position first count next.0 next.1
   found_goes laws lawful position (found.Pairs k first count what ptr) some of next = pairs_go laws lawful position k first count what ptr some of next.0 next.1 next.2
 
   -- where nothing is found, nothing is left there, and nothing behind all numbers
-  pub none_goes : WalkLaws → (position new : WalkPosition) → IsNextCell has snap (choice_after source) position.point position.slot None
+  pub none_goes : WalkLaws → (position new : WalkPosition) → IsNextCellIn has reads snap choice position.point position.slot None
       → number_bound ≤ new.point.object → new.slot ≡ true → GoesTo has snap view position new None
   none_goes laws position new next far slot = (
-    laws.ends view position.point position.slot (nothing_below header snap source position.point position.slot number_bound next.0 next.1),
-    nothing_behind header snap source laws.ends new.point new.slot far,
+    laws.ends view position.point position.slot (nothing_below header snap choice position.point position.slot number_bound next.0 next.1),
+    nothing_behind header snap choice laws.ends new.point new.slot far,
     λ passed_over. absurd (true≢false (sym slot ∙ passed_over)),
   )

@@ -10,6 +10,7 @@ pub mod PendingRecords
 pub mod Records
 pub mod Sends
 pub mod SendState
+pub mod Subjects
 pub mod Takes
 pub mod WalkPositions
 pub mod WalkReads

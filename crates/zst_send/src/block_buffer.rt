@@ -1,4 +1,4 @@
-ghost use Rattle.std.specs.Prelude.{◌≡◌, ◌%◌, ◌≤◌, List, None, Some, ℕ, length, take, IfOk, OnOk};
+ghost use Rattle.std.specs.Prelude.{◌≡◌, ◌%◌, ◌≤◌, List, None, Some, ℕ, length, take, IfErr, IfOk, OnOk};
 ghost use Rattle.zst_block.specs.IoStates.{IsHonest, blocks_of, disk_of, io_of};
 ghost use Rattle.zst_block.specs.IoCalls.{stop_of};
 ghost use Rattle.zst_objset.specs.Damage.{IfDamaged};
@@ -31,11 +31,6 @@ impl BlockBuffer {
         Ok(BlockBuffer { bytes, holds: None })
     }
 
-    /// The allocator that its memory is of.
-    pub(crate) fn alloc(&self) -> Global {
-        *self.bytes.allocator()
-    }
-
     /// Has the block that a pointer names, which is read where it has another.
     ///
     /// A block that is longer than any that a stream has isn't of its layout.
@@ -51,6 +46,7 @@ impl BlockBuffer {
         // It is read at most once, and not where it was there already.
         ensures reads { ReadsAtMost 1 (λ images size. IsDamagedLoad images size ptr.now) (io_of io.old) (io_of io.new) self.new result }
         ensures kept { self.old.holds ≡ Some ptr.now → (disk_of io.new).calls ≤ (disk_of io.old).calls }
+        ensures held { self.old.holds ≡ Some ptr.now → IfErr result (λ fault. ⊥) }
         ensures holds { OnOk result (HoldsBlock ptr.now self.new) }
     {
         if self.holds == Some(*ptr) {

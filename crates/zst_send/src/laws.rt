@@ -6,6 +6,7 @@ ghost use Rattle.zst_dir.specs.Rows.{Rows};
 ghost use Rattle.zst_image.specs.Reads.{RunsBy};
 ghost use Rattle.zst_model.specs.pools.Pool.{Pool};
 ghost use Rattle.zst_plan.specs.Receipts.{TellsDates};
+ghost use Rattle.zst_send.specs.Openings.{RowsStandForSends};
 ghost use Rattle.zst_send.specs.Sends.{EqualViewsAreSentAlike, SameViewsSameRest, SendsGoOn};
 
 use zst_objset::sets_hold_states;
@@ -27,4 +28,9 @@ pub fn equal_views_are_sent_alike()
 pub fn tight_sets_tell_dates()
     ensures { (number : ℕ) (image : List ℕ) (space : FreeSectors) (rows : Rows) (pool : Pool) → RunsBy (Some number) (Has image space) rows pool
         → TellsDates rows pool }
+{}
+
+/// What a send needs of the rows of its pool stands where they stand for all of the pool.
+pub fn rows_stand_for_sends()
+    ensures { RowsStandForSends }
 {}

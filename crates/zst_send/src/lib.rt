@@ -4,13 +4,16 @@
 mod block_buffer;
 mod due_items;
 mod laws;
+mod lists;
 mod pending_record;
 mod send;
 mod send_state;
-mod support;
+mod subject;
 mod walk;
 mod walk_position;
 
-pub use laws::{equal_views_are_sent_alike, sends_go_on, tight_sets_tell_dates};
+pub use laws::{
+    equal_views_are_sent_alike, rows_stand_for_sends, sends_go_on, tight_sets_tell_dates,
+};
 pub use send::Send;
 pub use zst_plan::{FromName, SendAsk};

@@ -1,5 +1,5 @@
 ghost use Rattle.std.specs.Prelude.{◌≡◌, ◌==◌, ◌+◌, ◌-◌, ◌<◌, ◌≤◌, ◌++◌, false, List, [], ℕ, IfOk, drop, length, min, pred, take};
-ghost use Rattle.zst_block.specs.IoStates.{IsHonest, blocks_of, io_of};
+ghost use Rattle.zst_block.specs.IoStates.{IsHonest, blocks_of, disk_of, io_of};
 ghost use Rattle.zst_dnode.specs.Dnode.{DnodeFits};
 ghost use Rattle.zst_model.specs.declared.states.item.Change.TheVariants.{Put};
 ghost use Rattle.zst_model.specs.declared.states.item.Item.{Item};
@@ -14,6 +14,7 @@ ghost use Rattle.zst_send.specs.DueItems.{DueFits, IsFirst, head_in};
 ghost use Rattle.zst_send.specs.ItemHeads.{IsFollowed, IsLone};
 ghost use Rattle.zst_send.specs.Records.{IsOfItem};
 ghost use Rattle.zst_send.specs.PendingRecords.{BufferFits, CanGive, IsFresh, IsLoaded, IsPending, IsPut, PendingFits, payload_size};
+ghost use Rattle.zst_send.specs.Takes.{AreThere, CallsNone};
 ghost use Rattle.zst_stream.specs.FoundItems.{found_item};
 ghost use Rattle.zst_stream.specs.Image.{front_of, piece_after};
 ghost use Rattle.zst_stream.specs.Records.{item_payload, padded_bonus, piece_for};
@@ -223,6 +224,7 @@ impl PendingRecord {
 
         // Whatever the image, one byte at least is given, and after a refusal it is as it was.
         ensures copies { CopiesOf self.old (io_of io.old) (io_of io.new) buffer.old buffer.new into.old into.new result }
+        ensures there { AreThere self.old buffer.old.holds (length into.old) → CallsNone (disk_of io.old).calls (disk_of io.new).calls result }
         ensures more { GivesMore self.old self.new result }
     {
         let count = self.copy_next(buffer, io, into)?;
@@ -243,6 +245,7 @@ impl PendingRecord {
             → Delivers (λ count. (take count into.new ≡ take count left) × (count ≤ length left)) result }
         ensures count { IfOk result (λ count. (0 < count) × (self.now.given + count ≤ record_len + payload_size self.now.payload)) }
         ensures copies { CopiesOf self.now (io_of io.old) (io_of io.new) buffer.old buffer.new into.old into.new result }
+        ensures there { AreThere self.now buffer.old.holds (length into.old) → CallsNone (disk_of io.old).calls (disk_of io.new).calls result }
     {
         if self.given < RECORD_LEN {
             return Ok(copy_from(&self.head, self.given, into));

@@ -1,4 +1,4 @@
-ghost use Rattle.std.specs.Prelude.{◌≡◌, ◌+◌, ◌<◌, true, List, [], ℕ, IfOk, Ok, length};
+ghost use Rattle.std.specs.Prelude.{◌≡◌, ◌+◌, ◌<◌, ◌≤◌, true, List, [], ℕ, IfOk, Ok, length};
 ghost use Rattle.zst_space.specs.FreeSectors.{FreeSectors};
 ghost use Rattle.zst_block.specs.Blocks.{Has};
 ghost use Rattle.zst_block.specs.IoStates.{IsHonest, blocks_of, disk_of, io_of};
@@ -7,40 +7,30 @@ ghost use Rattle.zst_model.specs.declared.sends.header.Point.{Point};
 ghost use Rattle.zst_model.specs.declared.states.item.Item.{Item};
 ghost use Rattle.zst_model.specs.sends.View.{View, view_of};
 ghost use Rattle.zst_model.specs.states.DatedState.{DatedState};
-ghost use Rattle.zst_objset.specs.Sets.{SetHolds};
-ghost use Rattle.zst_objset.specs.TightSets.{SetIsTight};
 ghost use Rattle.zst_send.specs.Costs.{PutsIn};
 ghost use Rattle.zst_send.specs.Records.{HasPut};
 ghost use Rattle.zst_send.specs.KnownPointers.{IsAmong, IsOfSet};
 ghost use Rattle.zst_tree.specs.declared.tree.ObjSet.{ObjSet};
-ghost use Rattle.zst_send.specs.NextRecords.{PutsNext, ReadsFor};
+ghost use Rattle.zst_send.specs.NextRecords.{IsIdle, PutsNext, ReadsFor};
 ghost use Rattle.zst_send.specs.SendState.{Fills, StandFits, StandsAt};
-ghost use Rattle.zst_send.specs.Takes.{FillsAtMost};
+ghost use Rattle.zst_send.specs.Subjects.{HoldsFor, IsTightFor, choice_for};
+ghost use Rattle.zst_send.specs.Takes.{AreThere, FillsAtMost};
 ghost use Rattle.zst_record.specs.Formats.{record_len};
 ghost use Rattle.zst_send.specs.PendingRecords.{IsLoaded, BufferFits, payload_size};
 ghost use Rattle.zst_stream.specs.Image.{front_of};
 ghost use Rattle.zst_stream.specs.Records.{view_text};
-ghost use Rattle.zst_traverse.specs.Cells.{choice_after};
 ghost use Rattle.zst_tree.specs.Indices.{Delivers};
 
 use crate::block_buffer::BlockBuffer;
 use crate::pending_record::PendingRecord;
+use crate::subject::Subject;
 use crate::walk::Walk;
 use zst_block::{BlockFault, Io};
 use zst_laws::walk_begins;
 use zst_model::{Header, Point};
 use zst_outside::Disk;
 use zst_record::Head;
-use zst_tree::ObjSet;
 use zst_writer::Writer;
-
-/// What is sent: the snapshot's objects, the number of the source, and the guid of the snapshot.
-#[derive(Clone, Copy)]
-pub(crate) struct Subject {
-    pub set: ObjSet,
-    pub source: Option<u64>,
-    pub to: u64,
-}
 
 /// Where a send stands: small enough to be copied, so that a refusal leaves it.
 #[derive(Clone, Copy)]
@@ -87,10 +77,7 @@ impl SendState {
         if self.ended {
             return Ok(false);
         }
-        match self
-            .walk
-            .next(io, buffer.alloc(), &subject.set, subject.source)?
-        {
+        match self.walk.next(io, subject)? {
             Some(due) => {
                 self.pending = PendingRecord::put(&mut self.writer, buffer, io, &due, subject.to)?;
                 Ok(true)
@@ -118,6 +105,8 @@ impl SendState {
         requires buffer { BufferFits buffer.old }
         ensures next { PutsNext subject.now self.old self.new buffer.old buffer.new (io_of io.old) (io_of io.new) result }
         ensures more { result ≡ Ok true → self.new.pending.given < record_len + payload_size self.new.pending.payload }
+        // Where bytes of the pending record are left, nothing is done.
+        ensures idle { self.old.pending.given < record_len + payload_size self.old.pending.payload → IsIdle self.old self.new buffer.old buffer.new (disk_of io.old).calls (disk_of io.new).calls result }
     {
         if !self.pending.is_given() {
             return Ok(true);
@@ -135,15 +124,17 @@ impl SendState {
     ) -> Result<usize, BlockFault>
         requires stand { StandFits self.old }
         requires buffer { BufferFits buffer.old }
-        ensures fills { (header : Header) (snap : DatedState) (left : List ℕ) → IsHonest io.new → SetHolds (blocks_of io.old) subject.now.set snap
-            → IsLoaded (blocks_of io.old) buffer.old → StandsAt (blocks_of io.old) snap (view_of header snap (choice_after subject.now.source)) subject.now.to self.old left
-            → Delivers (Fills (blocks_of io.new) snap (view_of header snap (choice_after subject.now.source)) subject.now.to left into.new self.new) result }
+        ensures fills { (header : Header) (snap : DatedState) (left : List ℕ) → IsHonest io.new → HoldsFor (blocks_of io.old) subject.now snap
+            → IsLoaded (blocks_of io.old) buffer.old → StandsAt (blocks_of io.old) snap (view_of header snap (choice_for subject.now)) subject.now.to self.old left
+            → Delivers (Fills (blocks_of io.new) snap (view_of header snap (choice_for subject.now)) subject.now.to left into.new self.new) result }
         ensures reads { ReadsFor subject.now self.old self.new buffer.old buffer.new (io_of io.old) (io_of io.new) result }
         ensures into { FillsAtMost into.old into.new result }
+        // What needs no read is given without one.
+        ensures there { AreThere self.old.pending buffer.old.holds (length into.old) → (result ≡ Ok (length into.old)) × ((disk_of io.new).calls ≤ (disk_of io.old).calls) }
         // Of a set whose slots are tight it reads no more than the items take that have a byte of what it gives.
-        ensures puts { (header : Header) (snap : DatedState) (point : Point) (front : ℕ) (put : List Item) (place : ℕ) → IsHonest io.new → SetHolds (blocks_of io.old) subject.now.set snap
-            → HasPut (blocks_of io.old) snap (view_of header snap (choice_after subject.now.source)) point front put place self.old
-            → IfOk result (λ count. PutsIn (blocks_of io.new) snap (view_of header snap (choice_after subject.now.source)) (SetIsTight (blocks_of io.old) subject.now.set snap) point front put place count
+        ensures puts { (header : Header) (snap : DatedState) (point : Point) (front : ℕ) (put : List Item) (place : ℕ) → IsHonest io.new → HoldsFor (blocks_of io.old) subject.now snap
+            → HasPut (blocks_of io.old) snap (view_of header snap (choice_for subject.now)) point front put place self.old
+            → IfOk result (λ count. PutsIn (blocks_of io.new) snap (view_of header snap (choice_for subject.now)) (IsTightFor (blocks_of io.old) subject.now snap) point front put place count
             self.old self.new (disk_of io.old).calls (disk_of io.new).calls) }
     {
         let mut count = 0;

@@ -4,18 +4,17 @@ ghost use Rattle.zst_model.specs.declared.sends.header.Header.{Header};
 ghost use Rattle.zst_model.specs.sends.View.{view_of};
 ghost use Rattle.zst_model.specs.states.DatedState.{DatedState};
 ghost use Rattle.zst_model.specs.states.State.{number_bound};
-ghost use Rattle.zst_objset.specs.Sets.{SetHolds};
 ghost use Rattle.zst_send.specs.Costs.{cells_due, ended, is_ended};
 ghost use Rattle.zst_send.specs.DueItems.{DueFits};
 ghost use Rattle.zst_send.specs.KnownPointers.{DueStands, IsAmong};
+ghost use Rattle.zst_send.specs.Subjects.{HoldsFor, IsTightFor, choice_for};
 ghost use Rattle.zst_send.specs.WalkPositions.{GoesTo, IsPositionOf, PositionFits, position_after};
 ghost use Rattle.zst_send.specs.WalkReads.{FindsNext, StepsIn};
-ghost use Rattle.zst_traverse.specs.Cells.{FoundFits, choice_after};
-ghost use Rattle.zst_objset.specs.TightSets.{SetIsTight};
+ghost use Rattle.zst_traverse.specs.Cells.{FoundFits};
 ghost use Rattle.zst_tree.specs.Indices.{Delivers};
 
 use crate::due_items::{DueItems, due_of};
-use std::alloc::Global;
+use crate::subject::Subject;
 use std::marker::Brand;
 use std::sync::ledger::{Blank, Ledger};
 use zst_block::{BlockFault, Io};
@@ -24,7 +23,7 @@ use zst_model::Point;
 use zst_model::limits::NUMBER_BOUND;
 use zst_outside::Disk;
 use zst_traverse::{WalkEntry, next_cell};
-use zst_tree::{ObjSet, Steps};
+use zst_tree::Steps;
 
 /// Where a walk stands.
 #[derive(Clone, Copy)]
@@ -128,34 +127,32 @@ impl WalkPosition {
     pub(crate) fn find<D: Disk>(
         &mut self,
         io: &mut Io<'_, D>,
-        alloc: Global,
-        set: &ObjSet,
-        source: Option<u64>,
+        subject: &Subject,
     ) -> Result<Option<DueItems>, BlockFault>
         requires position { PositionFits self.old }
 
-        // Of a set that holds a state, what is found comes first, and no damage is told.
-        ensures found { (header : Header) (snap : DatedState) → IsHonest io.new → SetHolds (blocks_of io.old) set.now snap → IsPositionOf snap self.old
-            → Delivers (GoesTo (blocks_of io.new) snap (view_of header snap (choice_after source)) self.old self.new) result }
+        // Of a set that holds a state but for what is withheld, what is found comes first, and no damage is told.
+        ensures found { (header : Header) (snap : DatedState) → IsHonest io.new → HoldsFor (blocks_of io.old) subject.now snap → IsPositionOf snap self.old
+            → Delivers (GoesTo (blocks_of io.new) snap (view_of header snap (choice_for subject.now)) self.old self.new) result }
 
         // What is found may stand in the set.
-        ensures stands { (images : List (List ℕ)) → Contains images (disk_of io.old).seen → IsHonest io.new → IfOk result (λ found. IfSome found (DueStands (IsAmong images) set.now)) }
+        ensures stands { (images : List (List ℕ)) → Contains images (disk_of io.old).seen → IsHonest io.new → IfOk result (λ found. IfSome found (DueStands (IsAmong images) subject.now.set)) }
 
         // Whatever the image, what is found is in its range, and damage is told of a block of the walk.
         ensures position { PositionFits self.new }
-        ensures steps { StepsIn set.now (io_of io.old) (io_of io.new) result (λ found. IfSome found DueFits) }
+        ensures steps { StepsIn subject.now.set (io_of io.old) (io_of io.new) result (λ found. IfSome found DueFits) }
         // Of a set whose slots are tight it reads at most 64 blocks, and behind all numbers none. Where nothing is found it goes behind them, and else what is found has an included number or pair.
-        ensures few { (snap : DatedState) → IsHonest io.new → SetIsTight (blocks_of io.old) set.now snap
+        ensures few { (snap : DatedState) → IsHonest io.new → IsTightFor (blocks_of io.old) subject.now snap
             → (disk_of io.new).calls + 64 * ended self.old ≤ (disk_of io.old).calls + 64 }
         ensures ends { result ≡ Ok None → ended self.new ≡ 1 }
-        ensures counted { (snap : DatedState) → IsHonest io.new → SetHolds (blocks_of io.old) set.now snap → IsPositionOf snap self.old
+        ensures counted { (snap : DatedState) → IsHonest io.new → HoldsFor (blocks_of io.old) subject.now snap → IsPositionOf snap self.old
             → IfOk result (λ found. IfSome found (λ due. 0 < cells_due snap due)) }
     {
         walk_ends();
         object_is_next();
         gone_run_is_next();
         block_run_is_next();
-        let Some(found) = next_found(io, alloc, set, source, self)? else {
+        let Some(found) = next_found(io, subject, self)? else {
             // Who asks again looks at no block.
             *self = self.at_end();
             return Ok(None);
@@ -171,44 +168,39 @@ impl WalkPosition {
 // nothing is looked for.
 fn next_found<D: Disk>(
     io: &mut Io<'_, D>,
-    alloc: Global,
-    set: &ObjSet,
-    source: Option<u64>,
+    subject: &Subject,
     position: &WalkPosition,
 ) -> Result<Option<WalkEntry>, BlockFault>
-    ensures finds { FindsNext set.now source position.now (io_of io.old) (io_of io.new) result }
-    ensures few { (snap : DatedState) → IsHonest io.new → SetIsTight (blocks_of io.old) set.now snap
+    ensures finds { FindsNext subject.now position.now (io_of io.old) (io_of io.new) result }
+    ensures few { (snap : DatedState) → IsHonest io.new → IsTightFor (blocks_of io.old) subject.now snap
         → (disk_of io.new).calls + 64 * ended position.now ≤ (disk_of io.old).calls + 64 }
 {
     if position.is_ended() {
         return Ok(None);
     }
-    counted::<D, Brand>(io, alloc, set, source, position, Blank::new(1))
+    counted::<D, Brand>(io, subject, position, Blank::new(1))
 }
 
 // That, in this ledger.
 fn counted<D: Disk, L: Ledger>(
     io: &mut Io<'_, D>,
-    alloc: Global,
-    set: &ObjSet,
-    source: Option<u64>,
+    subject: &Subject,
     position: &WalkPosition,
     blank: Blank,
 ) -> Result<Option<WalkEntry>, BlockFault>
     requires name { blank.name ≡ L.name }
     requires parts { blank.parts ≡ L.parts }
     requires some { 0 < blank.parts }
-    ensures finds { FindsNext set.now source position.now (io_of io.old) (io_of io.new) result }
-    ensures few { (snap : DatedState) → IsHonest io.new → SetIsTight (blocks_of io.old) set.now snap → (disk_of io.new).calls ≤ (disk_of io.old).calls + 64 }
+    ensures finds { FindsNext subject.now position.now (io_of io.old) (io_of io.new) result }
+    ensures few { (snap : DatedState) → IsHonest io.new → IsTightFor (blocks_of io.old) subject.now snap → (disk_of io.new).calls ≤ (disk_of io.old).calls + 64 }
 {
     let mut steps = Steps::<L>::new(blank);
-    let none = zst_model::List::empty(alloc);
     next_cell(
         io,
-        set,
-        source,
-        &none,
-        &none,
+        &subject.set,
+        subject.source,
+        &subject.listed,
+        &subject.redact,
         position.point,
         position.slot,
         &mut steps,

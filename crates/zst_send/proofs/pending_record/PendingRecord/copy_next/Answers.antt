@@ -1,5 +1,6 @@
-use Rattle.std.proofs.Common.{◌≡◌, ℕ, ◌-◌, ◌≤◌, List, length, take, drop, min, arith, refl, subst, ◌∙◌, sym}
+use Rattle.std.proofs.Common.{◌≡◌, ℕ, ◌+◌, ◌-◌, ◌<◌, ◌≤◌, List, length, take, drop, min, arith, refl, subst, ◌∙◌, sym}
 use Rattle.zst_block.specs.IoStates.{blocks_of}
+use Rattle.zst_send.specs.Costs.{IsHeld}
 use Rattle.zst_send.specs.PendingRecords.{IsPayload, PayloadFits}
 use Rattle.zst_send.specs.declared.pending_record.Payload.{Payload}
 use Rattle.zst_send.proofs.RecordPieces.{head_given, payload_given}
@@ -69,3 +70,26 @@ returns-in_ok-load-in-Block-clause-copies g c =
     let copied = c.copy_from-in-Block in
     let load = c.in_ok-load-in-Block.ensures in
     block_copied c.args.self.now c.in-Block.ptr c.in-Block.is c.requires.can.fits _ _ c.args.buffer.now c.load.new.self _ _ load.loaded load.kept copied.ensures.into _ copied.result load.reads load.holds.holds (omega (arith, copied.ensures.count))
+
+-- ---- what needs no read
+
+pub returns-then-self-lt-RECORD_LEN-clause-there : goal.returns-then-self-lt-RECORD_LEN-clause-there
+returns-then-self-lt-RECORD_LEN-clause-there g c = λ there. record { never = tt; calls = omega arith }
+
+pub returns-in-Nothing-clause-there : goal.returns-in-Nothing-clause-there
+returns-in-Nothing-clause-there g c = λ there. record { never = tt; calls = omega arith }
+
+pub returns-in-Bonus-clause-there : goal.returns-in-Bonus-clause-there
+returns-in-Bonus-clause-there g c = λ there. record { never = tt; calls = omega arith }
+
+pub returns-in_err-load-in-Block-clause-there : goal.returns-in_err-load-in-Block-clause-there
+returns-in_err-load-in-Block-clause-there g c = λ there.
+    let over : 312 < c.args.self.now.given + length c.args.into.now = omega (arith, c.requires.can.some, c.if-self-lt-RECORD_LEN.false) in
+    let held = subst (λ (p : Payload). IsHeld c.args.buffer.now.holds p) c.in-Block.is (there.held over) in
+    absurd (c.in_err-load-in-Block.ensures.held held)
+
+pub returns-in_ok-load-in-Block-clause-there : goal.returns-in_ok-load-in-Block-clause-there
+returns-in_ok-load-in-Block-clause-there g c = λ there.
+    let over : 312 < c.args.self.now.given + length c.args.into.now = omega (arith, c.requires.can.some, c.if-self-lt-RECORD_LEN.false) in
+    let held = subst (λ (p : Payload). IsHeld c.args.buffer.now.holds p) c.in-Block.is (there.held over) in
+    record { never = tt; calls = c.in_ok-load-in-Block.ensures.kept held }

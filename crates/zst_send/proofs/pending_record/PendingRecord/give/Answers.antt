@@ -29,3 +29,9 @@ returns-clause-more g c = record {
   stays = tt;
   fits = record { head = c.requires.can.fits.head; payload = c.requires.can.fits.payload; given = c.in_ok-count.ensures.count.1 };
 }
+
+pub returns-in_err-count-clause-there : goal.returns-in_err-count-clause-there
+returns-in_err-count-clause-there g c = λ there. absurd ((c.in_err-count.ensures.there there).never)
+
+pub returns-clause-there : goal.returns-clause-there
+returns-clause-there g c = λ there. record { never = tt; calls = (c.in_ok-count.ensures.there there).calls }

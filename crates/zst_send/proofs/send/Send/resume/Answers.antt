@@ -1,40 +1,40 @@
-use Rattle.std.proofs.Common.{sym, subst, Result, ◌==◌}
-use Rattle.zst_block.specs.Blocks.{Has}
-use Rattle.zst_pool.specs.declared.fault.PoolFault.{PoolFault}
-use Rattle.zst_pool.specs.declared.fault.PoolFault.TheVariants.{OutOfMemory, Plan}
-use Rattle.zst_pool.proofs.NamedPools.{rows_named}
-use Rattle.zst_send.specs.Openings.{Resumes, built}
-use Rattle.zst_send.specs.declared.send.Send.{Send}
-use Rattle.zst_send.proofs.PlanRows.{passed, plan_lacks, plan_refuses}
+use Rattle.std.proofs.Common.{refl, sym, ◌∙◌, ◌==◌}
+use Rattle.std.specs.Prelude.{Ok}
+use Rattle.std.proofs.lemmas.Bool.{true≢false}
+use Rattle.zst_block.proofs.IoCallLemmas.{Looks-none}
+use Rattle.zst_send.proofs.PlanRows.{open_yet, passes_planned}
 use Rattle.zst_send.proofs.send.Send.resume.Goals as goal
-use Rattle.zst_model.proofs.Results.{err_is}
 
-pub returns-in_err-check_built-clause-resumes : goal.returns-in_err-check_built-clause-resumes
-returns-in_err-check_built-clause-resumes g c = λ image space running sent live runs is.
-    let has = Has image space in
-    let named = rows_named has c.args.pool.now.kept.dir running runs in
-    let fault = c.in_err-check_built.field-0.0 in
-    subst (λ (r : Result Send PoolFault). Resumes has sent c.args.point r) (sym (err_is c.from_residual.result (Plan fault) c.from_residual.ensures.1))
-    (c.in_err-check_built.ensures.judges running sent named is)
+pub returns-then-pool-clause-damaged : goal.returns-then-pool-clause-damaged
+returns-then-pool-clause-damaged g c = λ honest sector stated found same. absurd (cc same)
+
+pub returns-then-pool-clause-pool : goal.returns-then-pool-clause-pool
+returns-then-pool-clause-pool g c = record {
+  failed_pool = λ is. refl;
+  open_still = λ still is. true≢false (sym c.if-pool.true ∙ still);
+  looks = Looks-none _;
+  kept = refl;
+}
 
 pub returns-clause-resumes : goal.returns-clause-resumes
-returns-clause-resumes g c = λ image space running sent live runs is.
-    let named = rows_named (Has image space) c.args.pool.now.kept.dir running runs in
-    let judged = c.in_ok-check_built.ensures.judges running sent named is in
-    (judged, c.planned.ensures.sends image space running sent runs is (passed sent judged))
+returns-clause-resumes g c = λ running sent honest live named is stands. c.of_plan.ensures.starts running sent honest named is stands
 
-pub returns-in_err-check_built-clause-planned : goal.returns-in_err-check_built-clause-planned
-returns-in_err-check_built-clause-planned g c = λ running sent live named is.
-    let fault = c.in_err-check_built.field-0.0 in
-    plan_refuses (built sent) c.from_residual.result fault (err_is c.from_residual.result (Plan fault) c.from_residual.ensures.1) (c.in_err-check_built.ensures.judges running sent named is)
-
-pub returns-in_err-buffer-clause-planned : goal.returns-in_err-buffer-clause-planned
-returns-in_err-buffer-clause-planned g c = λ running sent live named is.
-    plan_lacks (built sent) c.from_residual-in_err-buffer.result sent (err_is c.from_residual-in_err-buffer.result OutOfMemory c.from_residual-in_err-buffer.ensures.1)
-    (c.in_ok-check_built.ensures.judges running sent named is)
+pub returns-clause-tight : goal.returns-clause-tight
+returns-clause-tight g c = λ image space running sent number runs is. c.of_plan.ensures.tight image space running sent number runs is
 
 pub returns-clause-planned : goal.returns-clause-planned
-returns-clause-planned g c = λ running sent live named is. (sent, c.in_ok-check_built.ensures.judges running sent named is)
+returns-clause-planned g c = λ running sent live named is. passes_planned (Ok sent) sent c.of_plan.result refl c.of_plan.ensures.unread
+
+pub returns-clause-damaged : goal.returns-clause-damaged
+returns-clause-damaged g c = λ honest. c.of_plan.ensures.damaged honest
 
 pub returns-clause-set : goal.returns-clause-set
-returns-clause-set g c = λ guid stands. c.planned.ensures.set (λ snapshot. snapshot.guid == guid) stands
+returns-clause-set g c = λ guid stands. c.of_plan.ensures.set (λ snapshot. snapshot.guid == guid) stands
+
+pub returns-clause-pool : goal.returns-clause-pool
+returns-clause-pool g c = record {
+  failed_pool = λ failed. absurd (true≢false (sym failed ∙ c.if-pool.false));
+  open_still = λ still is. open_yet c.of_plan.result c.of_plan.ensures.unread is;
+  looks = c.of_plan.ensures.looks;
+  kept = refl;
+}

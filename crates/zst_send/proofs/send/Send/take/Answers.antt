@@ -1,4 +1,4 @@
-use Rattle.std.proofs.Common.{◌≡◌, ℕ, ◌+◌, List, ◌++◌, take, drop, sym, ap, ◌∙◌, subst, append_assoc, Some, Option, refl, ◌*◌, ◌≤◌, length, arith, length-append}
+use Rattle.std.proofs.Common.{◌≡◌, Ok, ℕ, ◌+◌, List, ◌++◌, take, drop, sym, ap, ◌∙◌, subst, append_assoc, Some, Option, refl, ◌*◌, ◌≤◌, length, arith, length-append}
 use Rattle.std.proofs.lemmas.List.{take-append-drop, length-take-le}
 use Rattle.zst_space.specs.FreeSectors.{FreeSectors}
 use Rattle.zst_block.specs.Blocks.{Has}
@@ -8,7 +8,6 @@ use Rattle.zst_block.proofs.IoCallLemmas.{Looks-none}
 use Rattle.zst_model.specs.sends.Inclusion.{Choice}
 use Rattle.zst_model.specs.sends.View.{view_of}
 use Rattle.zst_objset.proofs.LeafLaws.{look_on}
-use Rattle.zst_objset.specs.Sets.{SetHolds}
 use Rattle.zst_block.specs.declared.fault.BlockFault.{BlockFault}
 use Rattle.zst_block.specs.declared.fault.BlockFault.TheVariants as blocks
 use Rattle.zst_pool.specs.Faults.{of_block}
@@ -21,7 +20,7 @@ use Rattle.zst_pool.proofs.QueryLemmas.{set_told}
 use Rattle.zst_objset.specs.declared.fault.ObjFault.TheVariants as set_faults
 use Rattle.zst_model.specs.sends.Items.{items}
 use Rattle.zst_stream.specs.Image.{front_of}
-use Rattle.zst_traverse.specs.Cells.{choice_after}
+use Rattle.zst_send.specs.Subjects.{HoldsFor, choice_for}
 use Rattle.zst_send.specs.Costs.{Pays, blocks_in, cells_in}
 use Rattle.zst_send.specs.Records.{AreLeft, HasPut, touched}
 use Rattle.zst_send.proofs.ItemCosts.{take_pays, take_puts}
@@ -30,7 +29,7 @@ use Rattle.zst_send.specs.KnownPointers.{IsAmong}
 use Rattle.zst_send.proofs.PlanRows.{never_planned}
 use Rattle.zst_pool.specs.declared.fault.PoolFault.TheVariants.{Plan, Failed}
 use Rattle.zst_pool.specs.Queries.{stop_of}
-use Rattle.std.specs.Prelude.{Err}
+use Rattle.std.specs.Prelude.{Err, Ok}
 use Rattle.std.proofs.lemmas.Bool.{true≢false}
 use Rattle.zst_send.proofs.send.Send.take.Goals as goal
 
@@ -48,7 +47,7 @@ returns-clause-takes_from g c = λ sent start given left honest sends.
       fills.given,
       record {
         text = append_assoc given (take c.in_ok-count.count left) (drop c.in_ok-count.count left) ∙ ap (λ (l : List ℕ). given ++ l) (take-append-drop c.in_ok-count.count left) ∙ sends.text;
-        holds = look_on (λ (seen : List ℕ) (space : FreeSectors). SetHolds (Has seen space) c.args.self.now.subject.set snap) c.in_ok-count.ensures.reads.looks sends.holds;
+        holds = look_on (λ (seen : List ℕ) (space : FreeSectors). HoldsFor (Has seen space) c.args.self.now.subject snap) c.in_ok-count.ensures.reads.looks sends.holds;
         choice = sends.choice;
         to = sends.to;
         stands = subst (λ (choice : Choice). StandsAt (blocks_of c.fill.new.io) snap (view_of (begun sent start) snap choice) to c.fill.new.self (drop c.in_ok-count.count left)) (sym sends.choice) fills.stands;
@@ -164,7 +163,7 @@ returns-clause-costs g c = λ sent start given left honest sends tight.
     let has = blocks_of c.args.pool.now.io in
     let had = subst (λ (choice : Choice). HasPut has snap (view_of (begun sent start) snap choice) (stated_point start) (length (front_of (begun sent start))) sends.put (length given) c.args.self.now.stand) sends.choice sends.has_put in
     let puts = c.in_ok-count.ensures.puts (begun sent start) snap (stated_point start) (length (front_of (begun sent start))) sends.put (length given) honest sends.holds had in
-    let view = view_of (begun sent start) snap (choice_after c.args.self.now.subject.source) in
+    let view = view_of (begun sent start) snap (choice_for c.args.self.now.subject) in
     let touching = take_pays _ snap view _ (stated_point start) (length (front_of (begun sent start))) sends.put (length given) c.in_ok-count.count c.args.self.now.stand c.fill.new.self _ _ tight puts in
     let further = take_puts has _ snap view _ (stated_point start) (length (front_of (begun sent start))) sends.put (length given) c.in_ok-count.count c.args.self.now.stand c.fill.new.self _ _ tight had puts in
     record {
@@ -177,3 +176,18 @@ returns-clause-costs g c = λ sent start given left honest sends tight.
             ((disk_of c.args.pool.now.io).calls + 1) (disk_of c.fill.new.io).calls) (sym sends.choice) further,
       );
     }
+
+-- ---- what needs no read
+
+pub returns-then-pool-clause-there : goal.returns-then-pool-clause-there
+returns-then-pool-clause-there g c = λ works there. absurd (true≢false (sym c.if-pool.true ∙ works))
+
+pub returns-in_err-count-clause-there : goal.returns-in_err-count-clause-there
+returns-in_err-count-clause-there g c = λ works there. let never = (c.in_err-count.ensures.there there).0 in absurd (cc never)
+
+pub returns-clause-there : goal.returns-clause-there
+returns-clause-there g c = λ works there.
+    let given = c.in_ok-count.ensures.there there in
+    let told = given.0 in
+    let whole : c.in_ok-count.count ≡ length c.args.into.now = cc told in
+    (ap (λ (n : ℕ). Ok n) whole, given.1)

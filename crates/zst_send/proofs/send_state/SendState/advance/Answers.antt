@@ -7,7 +7,7 @@ use Rattle.zst_block.specs.IoStates.{blocks_of}
 use Rattle.zst_block.proofs.IoCallLemmas.{Looks-then}
 use Rattle.zst_model.specs.sends.View.{View, view_of}
 use Rattle.zst_objset.proofs.LeafLaws.{look_on}
-use Rattle.zst_traverse.specs.Cells.{choice_after}
+use Rattle.zst_send.specs.Subjects.{choice_for}
 use Rattle.zst_send.specs.Costs.{IsHeld, cells_next}
 use Rattle.zst_send.specs.Records.{AreLeft}
 use Rattle.zst_send.specs.declared.send_state.SendState.{SendState}
@@ -27,9 +27,9 @@ use Rattle.zst_send.proofs.send_state.SendState.advance.Goals as goal
 pub returns-then-self-clause-next : goal.returns-then-self-clause-next
 returns-then-self-clause-next g c = record {
   advances = λ header snap left honest holds loaded at.
-      (ended_leaves _ snap (view_of header snap (choice_after c.args.subject.now.source)) c.args.subject.now.to c.args.self.now left at c.requires.stand c.requires.given c.if-self.true, at);
+      (ended_leaves _ snap (view_of header snap (choice_for c.args.subject.now)) c.args.subject.now.to c.args.self.now left at c.requires.stand c.requires.given c.if-self.true, at);
   reads = reads_nothing c.args.subject.now c.args.self.now c.args.buffer.now _ _ c.requires.stand c.requires.buffer;
-  puts = λ header snap point front put place honest holds had. puts_none _ snap (view_of header snap (choice_after c.args.subject.now.source)) _ point front put place c.args.self.now _ _ had;
+  puts = λ header snap point front put place honest holds had. puts_none _ snap (view_of header snap (choice_for c.args.subject.now)) _ point front put place c.args.self.now _ _ had;
   rests = λ is. (refl, refl);
   kept = λ held. held;
 }
@@ -39,7 +39,7 @@ returns-in_err-due-clause-next g c =
     let p = err_from_is_err_and c.from_residual.result c.from_residual.ensures.1 in
     rw (p.1, p.2) (record {
       advances = λ header snap left honest holds loaded at.
-          let on = continues _ snap (view_of header snap (choice_after c.args.subject.now.source)) c.args.subject.now.to c.args.self.now left at c.requires.stand c.requires.given c.if-self.false in
+          let on = continues _ snap (view_of header snap (choice_for c.args.subject.now)) c.args.subject.now.to c.args.self.now left at c.requires.stand c.requires.given c.if-self.false in
           c.in_err-due.ensures.gives header snap on.held honest holds on.walk;
       reads = record {
         loaded = λ header snap left honest holds loaded at.
@@ -61,7 +61,7 @@ returns-in_err-self-in-Some-clause-next g c =
     let p = err_from_is_err_and c.from_residual-in_err-self-in-Some.result c.from_residual-in_err-self-in-Some.ensures.1 in
     rw (p.1, p.2) (record {
       advances = λ header snap left honest holds loaded at.
-          let view : View = view_of header snap (choice_after c.args.subject.now.source) in
+          let view : View = view_of header snap (choice_for c.args.subject.now) in
           let on = continues _ snap view c.args.subject.now.to c.args.self.now left at c.requires.stand c.requires.given c.if-self.false in
           let was = c.in_err-self-in-Some.ensures.reads.looks.reads.honest honest in
           let still = look_on (λ (seen : List ℕ) (space : FreeSectors). IsLoaded (Has seen space) c.args.buffer.now) c.in_ok-due.ensures.steps.looks loaded in
@@ -69,7 +69,7 @@ returns-in_err-self-in-Some-clause-next g c =
           c.in_err-self-in-Some.ensures.put on.text gives.0 honest still on.written gives.2;
       reads = record {
         loaded = λ header snap left honest holds loaded at.
-            let view : View = view_of header snap (choice_after c.args.subject.now.source) in
+            let view : View = view_of header snap (choice_for c.args.subject.now) in
             let on = continues _ snap view c.args.subject.now.to c.args.self.now left at c.requires.stand c.requires.given c.if-self.false in
             let was = c.in_err-self-in-Some.ensures.reads.looks.reads.honest honest in
             let still = look_on (λ (seen : List ℕ) (space : FreeSectors). IsLoaded (Has seen space) c.args.buffer.now) c.in_ok-due.ensures.steps.looks loaded in
@@ -93,7 +93,7 @@ returns-in_err-self-in-Some-clause-next g c =
 pub returns-in_ok-self-in-Some-clause-next : goal.returns-in_ok-self-in-Some-clause-next
 returns-in_ok-self-in-Some-clause-next g c = record {
   advances = λ header snap left honest holds loaded at.
-      let view : View = view_of header snap (choice_after c.args.subject.now.source) in
+      let view : View = view_of header snap (choice_for c.args.subject.now) in
       let on = continues _ snap view c.args.subject.now.to c.args.self.now left at c.requires.stand c.requires.given c.if-self.false in
       let was = c.in_ok-self-in-Some.ensures.reads.looks.reads.honest honest in
       let still = look_on (λ (seen : List ℕ) (space : FreeSectors). IsLoaded (Has seen space) c.args.buffer.now) c.in_ok-due.ensures.steps.looks loaded in
@@ -104,7 +104,7 @@ returns-in_ok-self-in-Some-clause-next g c = record {
       (record { walk = c.next.new.self; writer = c.put.new.writer; pending = c.in_ok-self-in-Some.field-0; ended = c.args.self.now.ended }) on.left_is gives.4 walk put c.if-self.false;
   reads = record {
     loaded = λ header snap left honest holds loaded at.
-        let view : View = view_of header snap (choice_after c.args.subject.now.source) in
+        let view : View = view_of header snap (choice_for c.args.subject.now) in
         let on = continues _ snap view c.args.subject.now.to c.args.self.now left at c.requires.stand c.requires.given c.if-self.false in
         let was = c.in_ok-self-in-Some.ensures.reads.looks.reads.honest honest in
         let still = look_on (λ (seen : List ℕ) (space : FreeSectors). IsLoaded (Has seen space) c.args.buffer.now) c.in_ok-due.ensures.steps.looks loaded in
@@ -120,7 +120,7 @@ returns-in_ok-self-in-Some-clause-next g c = record {
     looks = Looks-then c.in_ok-due.ensures.steps.looks c.in_ok-self-in-Some.ensures.reads.looks;
   };
   puts = λ header snap point front put place honest holds had.
-      let view : View = view_of header snap (choice_after c.args.subject.now.source) in
+      let view : View = view_of header snap (choice_for c.args.subject.now) in
       let was = c.in_ok-self-in-Some.ensures.reads.looks.reads.honest honest in
       let on = subst (λ (e : Bool). AreLeft (blocks_of c.args.io.now) snap view c.args.self.now.walk e had.later) c.if-self.false had.are_left in
       let gives = subst (λ (d : Option DueItems). Gives (blocks_of c.next.new.io) snap view (items_left view c.args.self.now.walk on.0) c.next.new.self d) c.in-Some.is (c.in_ok-due.ensures.gives header snap on.0 was holds on.1) in
@@ -145,7 +145,7 @@ returns-in_ok-self-in-Some-clause-next g c = record {
 pub returns-in-None-clause-next : goal.returns-in-None-clause-next
 returns-in-None-clause-next g c = record {
   advances = λ header snap left honest holds loaded at.
-      let view : View = view_of header snap (choice_after c.args.subject.now.source) in
+      let view : View = view_of header snap (choice_for c.args.subject.now) in
       let on = continues _ snap view c.args.subject.now.to c.args.self.now left at c.requires.stand c.requires.given c.if-self.false in
       let gives = subst (λ (d : Option DueItems). Gives (blocks_of c.next.new.io) snap view (items_left view c.args.self.now.walk on.held) c.next.new.self d) c.in-None.is (c.in_ok-due.ensures.gives header snap on.held honest holds on.walk) in
       end_put _ snap view c.args.subject.now.to left on.text _ (items_left view c.args.self.now.walk on.held)
@@ -170,7 +170,7 @@ returns-in-None-clause-next g c = record {
     looks = c.in_ok-due.ensures.steps.looks;
   };
   puts = λ header snap point front put place honest holds had.
-      let view : View = view_of header snap (choice_after c.args.subject.now.source) in
+      let view : View = view_of header snap (choice_for c.args.subject.now) in
       let on = subst (λ (e : Bool). AreLeft (blocks_of c.args.io.now) snap view c.args.self.now.walk e had.later) c.if-self.false had.are_left in
       let gives = subst (λ (d : Option DueItems). Gives (blocks_of c.next.new.io) snap view (items_left view c.args.self.now.walk on.0) c.next.new.self d) c.in-None.is (c.in_ok-due.ensures.gives header snap on.0 honest holds on.1) in
       let at = put_ends _ snap view point front put place c.args.self.now had c.if-self.false c.requires.given in

@@ -6,7 +6,7 @@ use Rattle.zst_model.specs.declared.states.item.Item.{Item}
 use Rattle.zst_model.specs.sends.Items.{joined}
 use Rattle.zst_model.specs.sends.View.{View, view_of}
 use Rattle.zst_model.specs.states.DatedState.{DatedState}
-use Rattle.zst_traverse.specs.Cells.{choice_after}
+use Rattle.zst_send.specs.Subjects.{choice_for}
 use Rattle.zst_tree.proofs.Results.{delivers_if}
 use Rattle.zst_tree.specs.Indices.{Blocks}
 use Rattle.zst_block.proofs.IoCallLemmas.{Looks-none}
@@ -30,10 +30,10 @@ found_first has snap view held old new empty (Some due) (items, are, goes, of) =
 pub returns-in-None-clause-goes : goal.returns-in-None-clause-goes
 returns-in-None-clause-goes g c = λ header snap held honest holds walk.
     let empty : held ≡ [] = subst (λ (h : Option DueItems). AreHeld (blocks_of c.args.io.now) h held) c.in-None.is walk.held_are in
-    delivers_if _ _ c.find.result (found_first _ snap (view_of header snap (choice_after c.args.source)) held c.args.self.now.position c.find.new.self empty) (c.find.ensures.found header snap honest holds walk.position_is)
+    delivers_if _ _ c.find.result (found_first _ snap (view_of header snap (choice_for c.args.subject.now)) held c.args.self.now.position c.find.new.self empty) (c.find.ensures.found header snap honest holds walk.position_is)
 
 pub returns-in-Some-clause-stands : goal.returns-in-Some-clause-stands
-returns-in-Some-clause-stands g c = λ images among honest was. (tt, subst (λ (h : Option DueItems). IfSome h (DueStands (IsAmong images) c.args.set.now)) c.in-Some.is was)
+returns-in-Some-clause-stands g c = λ images among honest was. (tt, subst (λ (h : Option DueItems). IfSome h (DueStands (IsAmong images) c.args.subject.now.set)) c.in-Some.is was)
 
 -- what is so is so where a call succeeds
 on_ok : {T : Type 0} (result : Result T BlockFault) (P : Type 0) → P → OnOk result P
@@ -60,7 +60,7 @@ found_ahead snap old position before after (Err fault) empty few ends counted = 
 
 pub returns-in-None-clause-ahead : goal.returns-in-None-clause-ahead
 returns-in-None-clause-ahead g c = λ snap honest tight of.
-    found_ahead snap c.args.self.now c.find.new.self _ _ c.find.result c.in-None.is (c.find.ensures.few snap honest tight) c.find.ensures.ends (c.find.ensures.counted snap honest tight.holds of)
+    found_ahead snap c.args.self.now c.find.new.self _ _ c.find.result c.in-None.is (c.find.ensures.few snap honest tight) c.find.ensures.ends (c.find.ensures.counted snap honest tight.tight.holds of)
 
 pub returns-in-Some-clause-steps : goal.returns-in-Some-clause-steps
 returns-in-Some-clause-steps g c = record {

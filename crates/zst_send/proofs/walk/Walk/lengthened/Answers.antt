@@ -7,9 +7,7 @@ use Rattle.zst_block.proofs.IoCallLemmas.{Looks-then}
 use Rattle.zst_model.specs.sends.View.{View, view_of}
 use Rattle.zst_objset.proofs.LeafLaws.{look_on}
 use Rattle.zst_objset.specs.Damage.{IfDamage}
-use Rattle.zst_objset.specs.Sets.{SetHolds}
-use Rattle.zst_objset.specs.TightSets.{SetIsTight}
-use Rattle.zst_traverse.specs.Cells.{choice_after}
+use Rattle.zst_send.specs.Subjects.{HoldsFor, IsTightFor, choice_for}
 use Rattle.zst_traverse.specs.Damage.{IsDamagedCell}
 use Rattle.zst_tree.specs.Damage.{IsSeen}
 use Rattle.zst_tree.proofs.Damage.{seen_before}
@@ -28,11 +26,11 @@ returns-in_err-next-clause-gives g c = λ header snap left honest holds first.
 pub loop-both-init : goal.loop-both-init
 loop-both-init g c = record {
   comes = λ header snap left honest holds first.
-      let view : View = view_of header snap (choice_after c.args.source) in
+      let view : View = view_of header snap (choice_for c.args.subject.now) in
       let on = look_on (λ (seen : List ℕ) (space : FreeSectors). ComesFirst (Has seen space) snap view left c.args.self.now.position (Some c.args.run)) c.in_ok-next.ensures.steps.looks first in
       run_begins _ snap view left c.args.self.now.position c.find.new.self c.args.run c.in_ok-next.next c.requires.run.0 on (c.in_ok-next.ensures.found header snap honest holds first.3);
   paid = λ header snap left honest tight first.
-      let counted = c.in_ok-next.ensures.counted snap honest tight.holds first.3 in
+      let counted = c.in_ok-next.ensures.counted snap honest tight.tight.holds first.3 in
       let ahead = look_ahead snap c.find.new.self c.in_ok-next.next (λ none. c.in_ok-next.ensures.ends (ap Ok none)) counted in
       omega (arith, ahead, c.in_ok-next.ensures.few snap honest tight);
   stands = λ images among honest. c.in_ok-next.ensures.stands images among honest;
@@ -47,25 +45,25 @@ pub returns-in_err-next-2-clause-gives : goal.returns-in_err-next-2-clause-gives
 returns-in_err-next-2-clause-gives g c = λ header snap left honest holds first.
     let p = err_from_is_err_and c.from_residual-in_err-next-2.result c.from_residual-in_err-next-2.ensures.1 in
     let was = c.in_err-next-2.ensures.steps.looks.reads.honest honest in
-    let on = look_on (λ (seen : List ℕ) (space : FreeSectors). SetHolds (Has seen space) c.args.set.now snap) c.loop-both.invariant.looks holds in
+    let on = look_on (λ (seen : List ℕ) (space : FreeSectors). HoldsFor (Has seen space) c.args.subject.now snap) c.loop-both.invariant.looks holds in
     let comes = c.loop-both.invariant.comes header snap left was holds first in
     rw (p.1, p.2) (c.in_err-next-2.ensures.found header snap honest on comes.of)
 
 pub loop-both-preserved : goal.loop-both-preserved
 loop-both-preserved g c = record {
   comes = λ header snap left honest holds first.
-      let view : View = view_of header snap (choice_after c.args.source) in
+      let view : View = view_of header snap (choice_for c.args.subject.now) in
       let was = c.in_ok-next-2.ensures.steps.looks.reads.honest honest in
-      let on = look_on (λ (seen : List ℕ) (space : FreeSectors). SetHolds (Has seen space) c.args.set.now snap) c.loop-both.invariant.looks holds in
+      let on = look_on (λ (seen : List ℕ) (space : FreeSectors). HoldsFor (Has seen space) c.args.subject.now snap) c.loop-both.invariant.looks holds in
       let comes = c.loop-both.invariant.comes header snap left was holds first in
       let moved = look_on (λ (seen : List ℕ) (space : FreeSectors). RunComes (Has seen space) snap view left c.loop-both.self.position c.loop-both.run c.loop-both.next) c.in_ok-next-2.ensures.steps.looks comes in
       run_goes_on _ c.held_goes_on.ensures snap view left c.loop-both.self.position c.find-in-Some.new.self c.loop-both.run c.in-Some.both c.loop-both.next c.in_ok-next-2.next c.loop-both.invariant.run
       (sym c.in-Some.ensures.joined) moved (c.in_ok-next-2.ensures.found header snap honest on comes.of);
   paid = λ header snap left honest tight first.
       let was = c.in_ok-next-2.ensures.steps.looks.reads.honest honest in
-      let on = look_on (λ (seen : List ℕ) (space : FreeSectors). SetIsTight (Has seen space) c.args.set.now snap) c.loop-both.invariant.looks tight in
-      let comes = c.loop-both.invariant.comes header snap left was tight.holds first in
-      let counted = c.in_ok-next-2.ensures.counted snap honest on.holds comes.of in
+      let on = look_on (λ (seen : List ℕ) (space : FreeSectors). IsTightFor (Has seen space) c.args.subject.now snap) c.loop-both.invariant.looks tight in
+      let comes = c.loop-both.invariant.comes header snap left was tight.tight.holds first in
+      let counted = c.in_ok-next-2.ensures.counted snap honest on.tight.holds comes.of in
       let ahead = look_ahead snap c.find-in-Some.new.self c.in_ok-next-2.next (λ none. c.in_ok-next-2.ensures.ends (ap Ok none)) counted in
       let joins = joined_counts snap c.loop-both.run c.in-Some.both c.loop-both.next c.loop-both.invariant.run (sym c.in-Some.ensures.joined) in
       let paid = c.loop-both.invariant.paid header snap left was tight first in
@@ -81,7 +79,7 @@ loop-both-preserved g c = record {
 pub returns-clause-gives : goal.returns-clause-gives
 returns-clause-gives g c = λ header snap left honest holds first.
     let comes = c.loop-both.invariant.comes header snap left honest holds first in
-    run_ends _ c.held_goes_on.ensures snap (view_of header snap (choice_after c.args.source)) left c.loop-both.self.position c.loop-both.run c.loop-both.next c.loop-both.invariant.run
+    run_ends _ c.held_goes_on.ensures snap (view_of header snap (choice_for c.args.subject.now)) left c.loop-both.self.position c.loop-both.run c.loop-both.next c.loop-both.invariant.run
     (sym c.joined.ensures.joined ∙ c.in_default.is) comes
 
 pub returns-in_err-next-clause-stands : goal.returns-in_err-next-clause-stands
@@ -96,7 +94,7 @@ returns-in_err-next-2-clause-stands g c = λ images among honest.
 
 pub returns-clause-stands : goal.returns-clause-stands
 returns-clause-stands g c = λ images among honest.
-    (c.loop-both.invariant.stands images among honest, run_stands (IsAmong images) c.args.set.now c.loop-both.run c.loop-both.invariant.run)
+    (c.loop-both.invariant.stands images among honest, run_stands (IsAmong images) c.args.subject.now.set c.loop-both.run c.loop-both.invariant.run)
 
 pub returns-in_err-next-clause-few : goal.returns-in_err-next-clause-few
 returns-in_err-next-clause-few g c = λ header snap left honest tight first.
@@ -123,7 +121,7 @@ returns-in_err-next-2-clause-steps g c =
     let steps = c.in_err-next-2.ensures.steps in
     rw (p.1, p.2) (record {
       ranges = tt;
-      damaged = λ honest. seen_before c.loop-both.invariant.looks (λ (seen : List ℕ) (size : ℕ). IfDamage c.in_err-next-2.field-0.0 (IsDamagedCell (IsSeen seen) size c.args.set.now)) (steps.damaged honest);
+      damaged = λ honest. seen_before c.loop-both.invariant.looks (λ (seen : List ℕ) (size : ℕ). IfDamage c.in_err-next-2.field-0.0 (IsDamagedCell (IsSeen seen) size c.args.subject.now.set)) (steps.damaged honest);
       looks = Looks-then c.loop-both.invariant.looks steps.looks;
     })
 

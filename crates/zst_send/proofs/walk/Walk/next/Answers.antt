@@ -9,10 +9,8 @@ use Rattle.zst_objset.specs.Damage.{IfDamage}
 use Rattle.zst_model.specs.declared.states.item.Item.{Item}
 use Rattle.zst_model.specs.sends.View.{View, view_of}
 use Rattle.zst_objset.proofs.LeafLaws.{look_on}
-use Rattle.zst_objset.specs.Sets.{SetHolds}
-use Rattle.zst_objset.specs.TightSets.{SetIsTight}
 use Rattle.zst_send.specs.Costs.{cells_next}
-use Rattle.zst_traverse.specs.Cells.{choice_after}
+use Rattle.zst_send.specs.Subjects.{HoldsFor, IsTightFor, choice_for}
 use Rattle.zst_traverse.specs.Damage.{IsDamagedCell}
 use Rattle.zst_tree.specs.Damage.{IsSeen}
 use Rattle.zst_tree.proofs.Damage.{seen_before}
@@ -34,35 +32,35 @@ returns-in_err-due-clause-gives g c = λ header snap held honest holds walk.
 pub returns-in_default-clause-gives : goal.returns-in_default-clause-gives
 returns-in_default-clause-gives g c = λ header snap held honest holds walk.
     let has = blocks_of c.first.new.io in
-    let view : View = view_of header snap (choice_after c.args.source) in
+    let view : View = view_of header snap (choice_for c.args.subject.now) in
     let first = subst (λ (d : Option DueItems). ComesFirst has snap view (items_left view c.args.self.now held) c.first.new.self.position d) c.in_default.is (c.in_ok-due.ensures.goes header snap held honest holds walk) in
     (first.0, record { held_are = subst (λ (h : Option DueItems). AreHeld has h []) (sym c.in_ok-due.ensures.held) refl; position_is = first.1 })
 
 pub returns-in_err-lengthened-clause-gives : goal.returns-in_err-lengthened-clause-gives
 returns-in_err-lengthened-clause-gives g c = λ header snap held honest holds walk.
     let has = blocks_of c.first.new.io in
-    let view : View = view_of header snap (choice_after c.args.source) in
+    let view : View = view_of header snap (choice_for c.args.subject.now) in
     let left : List Item = items_left view c.args.self.now held in
     let p = err_from_is_err_and c.from_residual-in_err-lengthened.result c.from_residual-in_err-lengthened.ensures.1 in
     let was = c.in_err-lengthened.ensures.steps.looks.reads.honest honest in
-    let on = look_on (λ (seen : List ℕ) (space : FreeSectors). SetHolds (Has seen space) c.args.set.now snap) c.in_ok-due.ensures.steps.looks holds in
+    let on = look_on (λ (seen : List ℕ) (space : FreeSectors). HoldsFor (Has seen space) c.args.subject.now snap) c.in_ok-due.ensures.steps.looks holds in
     let first = subst (λ (d : Option DueItems). ComesFirst has snap view left c.first.new.self.position d) c.in-Some.is (c.in_ok-due.ensures.goes header snap held was holds walk) in
     rw (p.1, p.2) (c.in_err-lengthened.ensures.gives header snap left honest on first)
 
 pub returns-then-is_run-clause-gives : goal.returns-then-is_run-clause-gives
 returns-then-is_run-clause-gives g c = λ header snap held honest holds walk.
     let has = blocks_of c.first.new.io in
-    let view : View = view_of header snap (choice_after c.args.source) in
+    let view : View = view_of header snap (choice_for c.args.subject.now) in
     let left : List Item = items_left view c.args.self.now held in
     let was = c.in_ok-lengthened.ensures.steps.looks.reads.honest honest in
-    let on = look_on (λ (seen : List ℕ) (space : FreeSectors). SetHolds (Has seen space) c.args.set.now snap) c.in_ok-due.ensures.steps.looks holds in
+    let on = look_on (λ (seen : List ℕ) (space : FreeSectors). HoldsFor (Has seen space) c.args.subject.now snap) c.in_ok-due.ensures.steps.looks holds in
     let first = subst (λ (d : Option DueItems). ComesFirst has snap view left c.first.new.self.position d) c.in-Some.is (c.in_ok-due.ensures.goes header snap held was holds walk) in
     c.in_ok-lengthened.ensures.gives header snap left honest on first
 
 pub returns-clause-gives : goal.returns-clause-gives
 returns-clause-gives g c = λ header snap held honest holds walk.
     let has = blocks_of c.first.new.io in
-    let view : View = view_of header snap (choice_after c.args.source) in
+    let view : View = view_of header snap (choice_for c.args.subject.now) in
     let left : List Item = items_left view c.args.self.now held in
     let position = c.first.new.self.position in
     let first = subst (λ (d : Option DueItems). ComesFirst has snap view left position d) c.in-Some.is (c.in_ok-due.ensures.goes header snap held honest holds walk) in
@@ -89,8 +87,8 @@ returns-then-is_run-clause-stands g c = λ images among honest was.
 pub returns-clause-stands : goal.returns-clause-stands
 returns-clause-stands g c = λ images among honest was.
     let first = c.in_ok-due.ensures.stands images among honest was in
-    let due = subst (λ (d : Option DueItems). IfSome d (DueStands (IsAmong images) c.args.set.now)) c.in-Some.is first.1 in
-    (subst (λ (h : Option DueItems). IfSome h (DueStands (IsAmong images) c.args.set.now)) (sym c.behind-self.ensures.behind) (behind_stands (IsAmong images) c.args.set.now c.in-Some.due due), due)
+    let due = subst (λ (d : Option DueItems). IfSome d (DueStands (IsAmong images) c.args.subject.now.set)) c.in-Some.is first.1 in
+    (subst (λ (h : Option DueItems). IfSome h (DueStands (IsAmong images) c.args.subject.now.set)) (sym c.behind-self.ensures.behind) (behind_stands (IsAmong images) c.args.subject.now.set c.in-Some.due due), due)
 
 pub returns-in_err-due-clause-few : goal.returns-in_err-due-clause-few
 returns-in_err-due-clause-few g c = λ header snap held honest tight walk.
@@ -112,11 +110,11 @@ returns-in_err-lengthened-clause-few g c = λ header snap held honest tight walk
 pub returns-then-is_run-clause-few : goal.returns-then-is_run-clause-few
 returns-then-is_run-clause-few g c = λ header snap held honest tight walk.
     let has = blocks_of c.first.new.io in
-    let view : View = view_of header snap (choice_after c.args.source) in
+    let view : View = view_of header snap (choice_for c.args.subject.now) in
     let left : List Item = items_left view c.args.self.now held in
     let was = c.in_ok-lengthened.ensures.steps.looks.reads.honest honest in
-    let on = look_on (λ (seen : List ℕ) (space : FreeSectors). SetIsTight (Has seen space) c.args.set.now snap) c.in_ok-due.ensures.steps.looks tight in
-    let first = subst (λ (d : Option DueItems). ComesFirst has snap view left c.first.new.self.position d) c.in-Some.is (c.in_ok-due.ensures.goes header snap held was tight.holds walk) in
+    let on = look_on (λ (seen : List ℕ) (space : FreeSectors). IsTightFor (Has seen space) c.args.subject.now snap) c.in_ok-due.ensures.steps.looks tight in
+    let first = subst (λ (d : Option DueItems). ComesFirst has snap view left c.first.new.self.position d) c.in-Some.is (c.in_ok-due.ensures.goes header snap held was tight.tight.holds walk) in
     let ahead = c.in_ok-due.ensures.ahead snap was tight walk.position_is in
     let found = ap (cells_next snap) c.in-Some.is in
     omega (arith, ahead, found, c.in_ok-lengthened.ensures.few header snap left honest on first)
@@ -141,7 +139,7 @@ returns-in_err-lengthened-clause-steps g c =
     let more = c.in_err-lengthened.ensures.steps in
     rw (p.1, p.2) (record {
       ranges = tt;
-      damaged = λ honest. seen_before first.looks (λ (seen : List ℕ) (size : ℕ). IfDamage c.in_err-lengthened.field-0.0 (IsDamagedCell (IsSeen seen) size c.args.set.now)) (more.damaged honest);
+      damaged = λ honest. seen_before first.looks (λ (seen : List ℕ) (size : ℕ). IfDamage c.in_err-lengthened.field-0.0 (IsDamagedCell (IsSeen seen) size c.args.subject.now.set)) (more.damaged honest);
       looks = Looks-then first.looks more.looks;
     })
 

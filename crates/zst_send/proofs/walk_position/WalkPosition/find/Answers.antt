@@ -3,8 +3,11 @@ use Rattle.zst_block.specs.IoStates.{blocks_of, disk_of}
 use Rattle.zst_send.specs.Costs.{cells_due}
 use Rattle.zst_send.proofs.LookCosts.{found_counts}
 use Rattle.std.proofs.lemmas.Result.{err_from_is_err_and}
+use Rattle.zst_model.specs.fields.Lists.{has_pair}
 use Rattle.zst_model.specs.sends.View.{view_of}
-use Rattle.zst_traverse.specs.Cells.{IsNextCell, choice_after}
+use Rattle.zst_objset.specs.Dnodes.{outside}
+use Rattle.zst_traverse.specs.Cells.{IsNextCellIn}
+use Rattle.zst_send.specs.Subjects.{choice_for}
 use Rattle.zst_traverse.specs.declared.walk_entry.WalkEntry.{WalkEntry}
 use Rattle.zst_send.specs.DueItems.{due_of}
 use Rattle.zst_send.specs.WalkPositions.{GoesTo}
@@ -28,8 +31,8 @@ returns-in_default-clause-found g c = λ header snap honest holds of.
     let has = blocks_of c.next_found.new.io in
     let old = c.args.self.now in
     let laws : WalkLaws = record { ends = c.walk_ends.ensures; object = c.object_is_next.ensures; gone = c.gone_run_is_next.ensures; blocks = c.block_run_is_next.ensures } in
-    let next = subst (λ (f : Option WalkEntry). IsNextCell has snap (choice_after c.args.source) old.point old.slot f) c.in_default.is (c.in_ok-found.ensures.finds.found snap honest holds) in
-    none_goes has header snap c.args.source laws old c.at_end.result next c.at_end.ensures.point c.at_end.ensures.slot
+    let next = subst (λ (f : Option WalkEntry). IsNextCellIn has (outside (has_pair c.args.subject.now.redact) has) snap (choice_for c.args.subject.now) old.point old.slot f) c.in_default.is (c.in_ok-found.ensures.finds.found snap honest holds) in
+    none_goes has (outside (has_pair c.args.subject.now.redact) has) header snap (choice_for c.args.subject.now) laws old c.at_end.result next c.at_end.ensures.point c.at_end.ensures.slot
 
 pub due_of-due-requires-clause-found : goal.due_of-due-requires-clause-found
 due_of-due-requires-clause-found g c = (c.args.self.now.point, rw c.in-Some.is at c.in_ok-found.ensures.finds.ranges)
@@ -42,16 +45,16 @@ returns-clause-found g c = λ header snap honest holds of.
     let has = blocks_of c.next_found.new.io in
     let old = c.args.self.now in
     let laws : WalkLaws = record { ends = c.walk_ends.ensures; object = c.object_is_next.ensures; gone = c.gone_run_is_next.ensures; blocks = c.block_run_is_next.ensures } in
-    let next = subst (λ (f : Option WalkEntry). IsNextCell has snap (choice_after c.args.source) old.point old.slot f) c.in-Some.is (c.in_ok-found.ensures.finds.found snap honest holds) in
-    let goes = found_goes has header snap c.args.source laws holds.lawful old c.in-Some.found c.requires.position.some of next in
+    let next = subst (λ (f : Option WalkEntry). IsNextCellIn has (outside (has_pair c.args.subject.now.redact) has) snap (choice_for c.args.subject.now) old.point old.slot f) c.in-Some.is (c.in_ok-found.ensures.finds.found snap honest holds) in
+    let goes = found_goes has (outside (has_pair c.args.subject.now.redact) has) header snap (choice_for c.args.subject.now) laws holds.lawful old c.in-Some.found c.requires.position.some of next in
     let position = c.position_after-position.result in
-    let there = subst (λ (p : WalkPosition). GoesTo has snap (view_of header snap (choice_after c.args.source)) old p (Some (due_of c.in-Some.found p.type_ p.block_size))) (sym c.position_after-position.ensures.position) goes in
-    subst (λ (d : DueItems). GoesTo has snap (view_of header snap (choice_after c.args.source)) old position (Some d)) (sym c.due_of-due.ensures.due) there
+    let there = subst (λ (p : WalkPosition). GoesTo has snap (view_of header snap (choice_for c.args.subject.now)) old p (Some (due_of c.in-Some.found p.type_ p.block_size))) (sym c.position_after-position.ensures.position) goes in
+    subst (λ (d : DueItems). GoesTo has snap (view_of header snap (choice_for c.args.subject.now)) old position (Some d)) (sym c.due_of-due.ensures.due) there
 
 pub returns-clause-stands : goal.returns-clause-stands
 returns-clause-stands g c = λ images among honest.
     let seen = (disk_of c.args.io.now).seen in
-    let set = c.args.set.now in
+    let set = c.args.subject.now.set in
     let found = c.in-Some.found in
     let position = c.position_after-position.result in
     let told = subst (λ (f : Option WalkEntry). IfSome f (FoundStands (IsSeen seen) set)) c.in-Some.is (c.in_ok-found.ensures.finds.of_walk honest).stands in
@@ -67,8 +70,8 @@ pub returns-clause-counted : goal.returns-clause-counted
 returns-clause-counted g c = λ snap honest holds of.
     let has = blocks_of c.next_found.new.io in
     let old = c.args.self.now in
-    let next = subst (λ (f : Option WalkEntry). IsNextCell has snap (choice_after c.args.source) old.point old.slot f) c.in-Some.is (c.in_ok-found.ensures.finds.found snap honest holds) in
-    let counts = found_counts has snap (choice_after c.args.source) old c.in-Some.found c.requires.position.some of next in
+    let next = subst (λ (f : Option WalkEntry). IsNextCellIn has (outside (has_pair c.args.subject.now.redact) has) snap (choice_for c.args.subject.now) old.point old.slot f) c.in-Some.is (c.in_ok-found.ensures.finds.found snap honest holds) in
+    let counts = found_counts has (outside (has_pair c.args.subject.now.redact) has) snap (choice_for c.args.subject.now) old c.in-Some.found c.requires.position.some of next in
     let there = subst (λ (p : WalkPosition). 0 < cells_due snap (due_of c.in-Some.found p.type_ p.block_size)) (sym c.position_after-position.ensures.position) counts in
     subst (λ (d : DueItems). 0 < cells_due snap d) (sym c.due_of-due.ensures.due) there
 
