@@ -11,6 +11,7 @@ use Rattle.zst_image.specs.declared.pool_state.PoolState.{PoolState}
 use Rattle.zst_pool.specs.Calls.{IsCallFault}
 use Rattle.zst_pool.specs.declared.fault.PoolFault.{PoolFault}
 use Rattle.zst_pool.specs.declared.fault.PoolFault.TheVariants as pools
+use Rattle.zst_plan.specs.declared.receive.RecvAsk.{RecvAsk}
 use Rattle.zst_recv.specs.Damage.{IsDamagedFeed}
 use Rattle.zst_model.specs.declared.refusals.stream_fault.StreamFault.{StreamFault}
 use Rattle.zst_record.specs.Heads.{Covered}
@@ -54,13 +55,13 @@ pub told_call : (fault : PoolFault) (sector : ℕ) (stated found : List ℕ) →
 told_call fault sector stated found known is = let same : fault ≡ pools.Damaged sector stated found = cc in subst IsCallFault same known
 
 -- what a feed tells over its pool's free sectors
-pub damaged_renewed : (old one : DiskState) (space : FreeSectors) (kept same : PoolState) (target : List ℕ) (was before : coded.Stage) (sector : ℕ) (stated found : List ℕ) → one ≡ old → space ≡ free_by kept.body → same ≡ kept → was ≡ before
-    → IsDamagedFeed one space same.dir target was sector stated found → IsDamagedFeed old (free_by kept.body) kept.dir target before sector stated found
-damaged_renewed old one space kept same target was before sector stated found disk free stays at damaged =
-    subst (λ (d : DiskState). IsDamagedFeed d (free_by kept.body) kept.dir target before sector stated found) disk
-    (subst (λ (s : FreeSectors). IsDamagedFeed one s kept.dir target before sector stated found) free
-    (subst (λ (k : PoolState). IsDamagedFeed one space k.dir target before sector stated found) stays
-    (subst (λ (b : coded.Stage). IsDamagedFeed one space same.dir target b sector stated found) at damaged)))
+pub damaged_renewed : (old one : DiskState) (space : FreeSectors) (kept same : PoolState) (ask : RecvAsk) (text : List ℕ) (was before : coded.Stage) (sector : ℕ) (stated found : List ℕ) → one ≡ old → space ≡ free_by kept.body → same ≡ kept → was ≡ before
+    → IsDamagedFeed one space same.dir ask text was sector stated found → IsDamagedFeed old (free_by kept.body) kept.dir ask text before sector stated found
+damaged_renewed old one space kept same ask text was before sector stated found disk free stays at damaged =
+    subst (λ (d : DiskState). IsDamagedFeed d (free_by kept.body) kept.dir ask text before sector stated found) disk
+    (subst (λ (s : FreeSectors). IsDamagedFeed one s kept.dir ask text before sector stated found) free
+    (subst (λ (k : PoolState). IsDamagedFeed one space k.dir ask text before sector stated found) stays
+    (subst (λ (b : coded.Stage). IsDamagedFeed one space same.dir ask text b sector stated found) at damaged)))
 
 -- ---- faults of the stream
 

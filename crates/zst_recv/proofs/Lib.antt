@@ -17,10 +17,11 @@ pub mod PieceStages
 pub mod FeedEnds
 mod FedPools
 mod DamageLemmas
-mod SetOrigins
+pub mod SetOrigins
 mod CostLemmas
 mod TokenRows
 pub mod PlanRefusals
 mod KeptBlocks
 mod ListedRows
 mod KeptPartials
+mod PlannedSets

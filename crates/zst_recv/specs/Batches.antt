@@ -42,9 +42,12 @@ pub record PlansBegin (rows : Rows) (ask : RecvAsk) (head : Head) (waited : Bool
   pub planned : (running : Pool) (header : Header) (len : ℕ) → head ≡ heads.Begin header len → waited ≡ true → AreNamed rows running → TellsNeeded rows running ask header → IsPlannedBy (recv_plan ask header running) result
   pub because : (fault : PlanFault) → is_planned fault ≡ true → result ≡ Err (faults.Pool (pools.Plan fault)) → (waited ≡ true) × (header : Header) × (len : ℕ) × (head ≡ heads.Begin header len)
 
--- What as many records as there are make of a disk, whatever the image is: blocks alone are written, a feed answers no other fault, and E25 tells a damage of the set that the records began with, from which the one comes that is then under way.
-pub record WritesRecords {A : Type 0} (rows : Rows) (target : List ℕ) (before after : coded.Stage) (old new : IoState) (result : Result A RecvFault) : Type 0 where
+-- What as many records as there are make of a disk, whatever the image is: blocks alone are written, and a feed answers no other fault.
+pub record WritesRecords {A : Type 0} (old new : IoState) (result : Result A RecvFault) : Type 0 where
   pub fills : Fills old new (stop_of result)
   pub known : IfErr result IsFeedFault
-  pub damaged : (sector : ℕ) (stated found : List ℕ) → new.disk.honest → result ≡ Err (faults.Pool (pools.Damaged sector stated found)) → IsDamagedFeed old.disk old.space rows target before sector stated found
-  pub comes : new.disk.honest → ComesFrom rows target (SparesTaken old.space old.disk.seen) old.disk.size before (SparesTaken new.space new.disk.seen) after
+
+-- And of the set, where they are of this text: E25 tells a damage of the one that they began with, from which the one comes that is then under way.
+pub record TracesRecords {A : Type 0} (rows : Rows) (ask : RecvAsk) (text : List ℕ) (before after : coded.Stage) (old new : IoState) (result : Result A RecvFault) : Type 0 where
+  pub damaged : (sector : ℕ) (stated found : List ℕ) → new.disk.honest → result ≡ Err (faults.Pool (pools.Damaged sector stated found)) → IsDamagedFeed old.disk old.space rows ask text before sector stated found
+  pub comes : new.disk.honest → ComesFrom rows ask text (SparesTaken old.space old.disk.seen) old.disk.size before (SparesTaken new.space new.disk.seen) after

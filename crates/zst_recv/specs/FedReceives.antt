@@ -30,12 +30,12 @@ pub record IsFresh (rows : Rows) (asked : RecvAsk) (recv : Recv) : Type 0 where
   pub waiting : is_waiting recv ≡ true
   pub fed : fed_of recv ≡ 0
 
--- Whatever the image, over the sectors that were free as a piece was fed: E25 tells a damage of the set that the piece began with, as the disk read then; and the
--- set of a partial state that goes on was made of that one.
-pub record TracesSet (old : DiskState) (free : FreeSectors) (rows : Rows) (target : List ℕ) (before : stages.Stage) (failed : Bool) (new : List ℕ) (left : FreeSectors) (after : stages.Stage)
+-- Whatever the image, over the sectors that were free as a piece was fed, with which this text was: E25 tells a damage of the set that the piece began with, as
+-- the disk read then; and the set of a partial state that goes on was made of that one.
+pub record TracesSet (old : DiskState) (free : FreeSectors) (rows : Rows) (ask : RecvAsk) (text : List ℕ) (before : stages.Stage) (failed : Bool) (new : List ℕ) (left : FreeSectors) (after : stages.Stage)
     (result : Result coded.FeedReport RecvFault) : Type 0 where
-  pub damaged : failed ≡ false → (sector : ℕ) (stated found : List ℕ) → result ≡ Err (faults.Pool (pools.Damaged sector stated found)) → IsDamagedFeed old free rows target before sector stated found
-  pub makes : goes_on result ≡ true → MakesStage rows target old.seen free old.size before new left after
+  pub damaged : failed ≡ false → (sector : ℕ) (stated found : List ℕ) → result ≡ Err (faults.Pool (pools.Damaged sector stated found)) → IsDamagedFeed old free rows ask text before sector stated found
+  pub makes : goes_on result ≡ true → MakesStage rows ask text old.seen free old.size before new left after
 
 -- What is kept of the pool: as long as BEGIN isn't covered nothing is committed; and after a refusal that keeps no records before it all of it stays, but for a
 -- partial state under way that isn't kept.

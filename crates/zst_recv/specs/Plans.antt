@@ -12,6 +12,7 @@ use Rattle.zst_plan.specs.RecvPlan.{RecvPlan, recv_plan}
 use Rattle.zst_plan.specs.declared.receive.RecvAsk.{RecvAsk}
 use Rattle.zst_pool.specs.declared.fault.PoolFault.TheVariants as pools
 use Rattle.zst_record.specs.Heads.{Covered}
+use Rattle.zst_record.specs.declared.head.Head.{Head}
 use Rattle.zst_record.specs.declared.head.Head.TheVariants as heads
 use Rattle.zst_stream.specs.Reading.{reading}
 use Rattle.zst_recv.specs.declared.fault.RecvFault.{RecvFault}
@@ -24,6 +25,10 @@ pub record Begins (text : List ℕ) (header : Header) : Type 0 where
   pub len : ℕ
   pub covered : (reading text).covered ≡ first ∷ rest
   pub head : first.head ≡ heads.Begin header len
+
+-- where a receive waits, a text begins with this record's head, if that is BEGIN's
+abbrev pub BeginsAt : (waits : Bool) → List ℕ → Head → Type 0
+BeginsAt waits text head = waits ≡ true → (header : Header) (len : ℕ) → head ≡ heads.Begin header len → Begins text header
 
 -- whether a plan alone finds a fault: all but those of a limit, of which applying a record and a commit find some too
 abbrev pub is_planned : PlanFault → Bool

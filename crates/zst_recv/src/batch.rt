@@ -23,7 +23,7 @@ ghost use Rattle.zst_recv.specs.Batches.{Moves, PlansBegin};
 ghost use Rattle.zst_recv.specs.Costs.{Spends};
 ghost use Rattle.zst_recv.specs.Damage.{ComesFrom, IsDamagedFeed, StaysWith};
 ghost use Rattle.zst_recv.specs.Faults.{Fills, IsRecordFault, stop_of};
-ghost use Rattle.zst_recv.specs.Plans.{IsPlannedBy, is_planned};
+ghost use Rattle.zst_recv.specs.Plans.{Begins, BeginsAt, IsPlannedBy, is_planned};
 ghost use Rattle.zst_recv.specs.ReceiveSteps.{Batch as PlainBatch, Stage as PlainStage, at_stage, moved_by, taken};
 ghost use Rattle.zst_recv.specs.Stages.{CanPutFor, IsBatch, IsStage, StageFits, TellsBefore, waits_at};
 ghost use Rattle.zst_recv.specs.TakenRecords.{IsRead, Makes, Takes};
@@ -115,9 +115,9 @@ impl Batch {
         ensures plans { PlansBegin kept.now.dir ask.now covered.now.head.now (waits_at self.old.stage) result }
         ensures known { IfErr result IsRecordFault }
         // E25 tells a damage of the set as the record found it, and the set that it leaves comes from that one.
-        ensures damaged { (sector : ℕ) (stated found : List ℕ) → IsHonest io.new → result ≡ Err (RecvFault.Pool (PoolFault.Damaged sector stated found))
-            → IsDamagedFeed (disk_of io.old) io.old.space kept.now.dir ask.now.target self.old.stage sector stated found }
-        ensures comes { IsHonest io.new → ComesFrom kept.now.dir ask.now.target (IsSparedBy io.old) (disk_of io.old).size self.old.stage (IsSparedBy io.new) self.new.stage }
+        ensures damaged { (text : List ℕ) (sector : ℕ) (stated found : List ℕ) → IsHonest io.new → result ≡ Err (RecvFault.Pool (PoolFault.Damaged sector stated found))
+            → IsDamagedFeed (disk_of io.old) io.old.space kept.now.dir ask.now text self.old.stage sector stated found }
+        ensures comes { (text : List ℕ) → BeginsAt (waits_at self.old.stage) text covered.now.head.now → IsHonest io.new → ComesFrom kept.now.dir ask.now text (IsSparedBy io.old) (disk_of io.old).size self.old.stage (IsSparedBy io.new) self.new.stage }
         ensures fills { Fills (io_of io.old) (io_of io.new) (stop_of result) }
         ensures spends { Spends (covered_of covered.now ∷ []) io.old.space io.new.space (stop_of result) }
     {
@@ -141,7 +141,7 @@ impl Batch {
         ensures known { IfErr result IsRecordFault }
         ensures planned { (running : Plain) → waits_at self.old.stage ≡ true → AreNamed dir.now running → TellsNeeded dir.now running ask.now header.now → IsPlannedBy (recv_plan ask.now header.now running) result }
         ensures because { OnErr result (waits_at self.old.stage ≡ true) }
-        ensures stays_with { StaysWith dir.now ask.now.target self.old.stage self.new.stage }
+        ensures stays_with { (text : List ℕ) → (waits_at self.old.stage ≡ true → Begins text header.now) → StaysWith dir.now ask.now text self.old.stage self.new.stage }
         ensures no_block { stop_of result ≡ None }
     {
         if !matches!(self.stage, Stage::Waits) {
@@ -185,9 +185,9 @@ impl Batch {
             → Takes (IsBatch (bound_of tight (running.number + 1)) (blocks_of io.new) self.new) plain (taken ask running (covered_of covered.now) plain) result }
         ensures moves { (rows : Rows) (target : List ℕ) → Moves rows target covered.now.head.now self.old self.new result }
         ensures known { IfErr result IsRecordFault }
-        ensures damaged { (rows : Rows) (target : List ℕ) (sector : ℕ) (stated found : List ℕ) → IsHonest io.new → result ≡ Err (RecvFault.Pool (PoolFault.Damaged sector stated found))
-            → IsDamagedFeed (disk_of io.old) io.old.space rows target self.old.stage sector stated found }
-        ensures comes { (rows : Rows) (target : List ℕ) → IsHonest io.new → ComesFrom rows target (IsSparedBy io.old) (disk_of io.old).size self.old.stage (IsSparedBy io.new) self.new.stage }
+        ensures damaged { (rows : Rows) (ask : Ask) (text : List ℕ) (sector : ℕ) (stated found : List ℕ) → IsHonest io.new → result ≡ Err (RecvFault.Pool (PoolFault.Damaged sector stated found))
+            → IsDamagedFeed (disk_of io.old) io.old.space rows ask text self.old.stage sector stated found }
+        ensures comes { (rows : Rows) (ask : Ask) (text : List ℕ) → IsHonest io.new → ComesFrom rows ask text (IsSparedBy io.old) (disk_of io.old).size self.old.stage (IsSparedBy io.new) self.new.stage }
         ensures unplanned { (fault : PlanFault) → result ≡ Err (RecvFault.Pool (PoolFault.Plan fault)) → is_planned fault ≡ false }
         ensures fills { Fills (io_of io.old) (io_of io.new) (stop_of result) }
         ensures spends { Spends (covered_of covered.now ∷ []) io.old.space io.new.space (stop_of result) }

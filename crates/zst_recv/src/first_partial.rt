@@ -12,7 +12,8 @@ ghost use Rattle.zst_names.specs.Names.{IsSnapshot, dataset_of};
 ghost use Rattle.zst_plan.specs.Places.{AnswerAlike, FindAlike, StandsAt};
 ghost use Rattle.zst_plan.specs.Receipts.{TellsNeeded};
 ghost use Rattle.zst_plan.specs.RecvPlan.{Base, recv_plan, snapshot_name};
-ghost use Rattle.zst_recv.specs.Damage.{IsBase, StaysWith};
+ghost use Rattle.zst_recv.specs.Damage.{IsSetAt, StaysWith};
+ghost use Rattle.zst_recv.specs.Plans.{Begins};
 ghost use Rattle.zst_recv.specs.ReceiveSteps.{begun, opened};
 ghost use Rattle.zst_recv.specs.Stages.{CanPutFor, IsBatch, StageFits, has_partial, is_live};
 ghost use Rattle.zst_tree.specs.Sets.{SetFits};
@@ -29,7 +30,7 @@ use zst_tree::ObjSet;
 fn objects_of(dir: &Dir, base: Option<usize>) -> ObjSet
     requires { IfSome base (λ place. place < length dir.now.snapshots) }
     ensures fits { SetFits result }
-    ensures base { IsBase dir.now result }
+    ensures base { IsSetAt dir.now base result }
     ensures held { (bound : Option ℕ) (image : List ℕ) (space : FreeSectors) (running : Plain) (found : Option PlainSnapshot)
         → RunsBy bound (Has image space) dir.now running → FindAlike (StandsAt dir.now.snapshots running.snapshots) base found
         → SetIs bound (Has image space) result (option_map_or (λ snapshot. snapshot.objects) found untouched) }
@@ -64,7 +65,7 @@ fn begun(dir: &Dir, ask: &RecvAsk, header: &Header, name: &SnapName, base: Optio
     requires name { dataset_of 64 name.now ≡ ask.now.target }
     requires new { HasSnapshot dir.now name.now → ⊥ }
     ensures fits { CanPutFor dir.now ask.now.target result }
-    ensures base { IsBase dir.now result.objects }
+    ensures base { IsSetAt dir.now base result.objects }
     ensures begun { (bound : Option ℕ) (image : List ℕ) (space : FreeSectors) (running : Plain) (component : List ℕ) (found : Base)
         → RunsBy bound (Has image space) dir.now running → FindAlike (StandsAt dir.now.snapshots running.snapshots) base found.snapshot → name.now ≡ snapshot_name ask.now.target component
         → PartialIs bound (Has image space) result (begun ask.now header.now component found) }
@@ -106,7 +107,8 @@ fn opened(header: &Header, partial: Partial, rolls: bool) -> Batch
 pub(crate) fn open(dir: &Dir, ask: &RecvAsk, header: &Header) -> Result<Batch, PlanFault>
     requires header { StatesBegin header.now }
     ensures fits { IfOk result (λ batch. StageFits dir.now ask.now.target batch.stage) }
-    ensures begins { IfOk result (λ batch. StaysWith dir.now ask.now.target Stage.Waits batch.stage) }
+    // Its set is the one that the plan takes over the rows alone.
+    ensures begins { (text : List ℕ) → Begins text header.now → IfOk result (λ batch. StaysWith dir.now ask.now text Stage.Waits batch.stage) }
     ensures lives { IfOk result (λ batch. has_partial batch.stage ≡ true) }
     ensures live { IfOk result (λ batch. is_live batch.stage ≡ true) }
     ensures taken { IfOk result (λ batch. batch.taken ≡ true) }

@@ -126,10 +126,10 @@ impl Recv {
             → ReadsText pool.old.kept.dir (ask_of self.old) text handed (text ++ piece.now) (stage_of self.old) (stage_of self.new) (reader_of self.new) result }
         ensures costs { (text : List ℕ) (handed : List Covered) → StandsFor (reader_of self.old) text handed
             → CostsPiece (records_behind handed (text ++ piece.now)) pool.old.kept pool.new.kept pool.new.io.space result }
-        // Whatever the image, E25 tells a damage of the set that the piece began with, as the disk read then; and the set of a partial
-        // state that goes on was made of that one.
-        ensures traces { IsHonest pool.new.io
-            → TracesSet (disk_of pool.old.io) (free_by pool.old.kept.body) pool.old.kept.dir (ask_of self.old).target (stage_of self.old) pool.old.io.failed (disk_of pool.new.io).seen (free_by pool.new.kept.body) (stage_of self.new) result }
+        // Whatever the image, E25 tells a damage of the set that the piece began with, as the disk read then, before BEGIN of the one that
+        // its plan takes over the rows; and the set of a partial state that goes on was made of that one.
+        ensures traces { (text : List ℕ) (handed : List Covered) → StandsFor (reader_of self.old) text handed → IsHonest pool.new.io
+            → TracesSet (disk_of pool.old.io) (free_by pool.old.kept.body) pool.old.kept.dir (ask_of self.old) (text ++ piece.now) (stage_of self.old) pool.old.io.failed (disk_of pool.new.io).seen (free_by pool.new.kept.body) (stage_of self.new) result }
         // As long as BEGIN isn't covered nothing is committed; and what a refusal leaves of what is kept.
         ensures kept { LeavesKept (is_waiting self.new) pool.old.io.failed (has_partial (stage_of self.old)) (ask_of self.old).target pool.old.kept pool.new.kept result }
         ensures pool { LeavesPool pool.old pool.new result }

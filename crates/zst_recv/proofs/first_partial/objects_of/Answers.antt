@@ -1,12 +1,12 @@
-use Rattle.std.proofs.Common.{◌<◌, inr, length, IfSome, ℕ, Option, List, ap, ◌∙◌, subst, get_or}
+use Rattle.std.proofs.Common.{◌<◌, length, IfSome, ℕ, Option, List, sym, ap, ◌∙◌, subst, get_or}
 use Rattle.std.specs.Option.{option_map_or}
 use Rattle.zst_block.specs.Blocks.{Has}
 use Rattle.zst_dir.specs.declared.rows.Snapshot.{Snapshot}
 use Rattle.zst_model.specs.pools.Pool.{untouched}
 use Rattle.zst_image.specs.Reads.{SetIs}
 use Rattle.zst_plan.specs.Places.{FindAlike, StandsAt}
-use Rattle.zst_recv.specs.Damage.{IsBase}
-use Rattle.zst_recv.proofs.FirstPartials.{base_there, none_held, objects_held}
+use Rattle.zst_recv.specs.Damage.{IsSetAt}
+use Rattle.zst_recv.proofs.FirstPartials.{none_held, objects_held, set_there}
 use Rattle.zst_recv.proofs.first_partial.objects_of.Goals as goal
 
 pub returns-in-Some-clause-held : goal.returns-in-Some-clause-held
@@ -28,8 +28,9 @@ returns-in-Some-clause-base c =
     let rows = c.args.dir.now in
     let row = c.index-snapshots-place.result in
     let below = subst (λ (b : Option ℕ). IfSome b (λ place. place < length rows.snapshots)) c.in-Some.is c.requires in
-    subst (λ (r : Snapshot). IsBase rows r.objects) c.index-snapshots-place.is
-    (base_there rows c.in-Some.place row below (c.index-snapshots-place.is ∙ ap (λ (xs : List Snapshot). get_or xs c.in-Some.place row) c.snapshots.ensures))
+    subst (λ (r : Snapshot). IsSetAt rows c.args.base r.objects) c.index-snapshots-place.is
+    (subst (λ (b : Option ℕ). IsSetAt rows b row.objects) (sym c.in-Some.is)
+    (set_there rows c.in-Some.place row below (c.index-snapshots-place.is ∙ ap (λ (xs : List Snapshot). get_or xs c.in-Some.place row) c.snapshots.ensures)))
 
 pub returns-in-None-clause-base : goal.returns-in-None-clause-base
-returns-in-None-clause-base c = inr c.empty.ensures
+returns-in-None-clause-base c = subst (λ (b : Option ℕ). IsSetAt c.args.dir.now b c.empty.result) (sym c.in-None.is) c.empty.ensures

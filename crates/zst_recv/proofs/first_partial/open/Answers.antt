@@ -1,5 +1,5 @@
 use Rattle.std.proofs.lemmas.Result.{err_from_is_err_and}
-use Rattle.std.proofs.Common.{inr, List, sym, ap, ◌∙◌, subst, get_or}
+use Rattle.std.proofs.Common.{List, sym, ap, ◌∙◌, subst, get_or}
 use Rattle.zst_block.specs.Blocks.{Has}
 use Rattle.zst_dir.specs.declared.rows.Partial.{Partial}
 use Rattle.zst_plan.specs.Receipts.{IsNewPlan, IsPlainPlan, IsRecvPlanOf}
@@ -13,7 +13,7 @@ use Rattle.zst_recv.specs.ReceiveSteps.{begun, opened}
 use Rattle.zst_recv.specs.Stages.{CanPutFor, IsBatch, StageFits}
 use Rattle.zst_recv.specs.declared.batch.Batch as batches
 use Rattle.zst_recv.specs.declared.stage.Stage.TheVariants as stages
-use Rattle.zst_recv.proofs.FirstPartials.{begun_is, partial_is, resumed_is, resumed_set, resumes_fits, batch_is}
+use Rattle.zst_recv.proofs.FirstPartials.{begins_planned, begun_is, partial_is, resumed_is, resumed_set, resumes_fits, resumes_planned, batch_is}
 use Rattle.zst_recv.proofs.first_partial.open.Goals as goal
 
 pub returns-in_err-place-clause-exact : goal.returns-in_err-place-clause-exact
@@ -86,20 +86,32 @@ returns-in-Begins-clause-planned c = λ running named tells.
     answers (λ (batch : batches.Batch) (p : RecvPlan). Unit {0}) c.opened-in-Begins.result plan.0 (recv_plan c.args.ask.now c.args.header.now running) plan.1 tt
 
 pub returns-in-Resumes-clause-begins : goal.returns-in-Resumes-clause-begins
-returns-in-Resumes-clause-begins c =
+returns-in-Resumes-clause-begins c = λ text begins.
     let rows = c.args.dir.now in
-    let target = c.args.ask.now.target in
+    let ask = c.args.ask.now in
+    let header = c.args.header.now in
     let place = c.in-Resumes.place in
     let row = c.index-partials-place.result in
-    subst (StaysWith rows target stages.Waits) (sym c.opened.ensures.stage)
-    (subst (λ (r : Partial). IsBegun rows target r.objects) (sym c.duplicate.ensures)
-    (resumed_set rows target place row (subst (IsNewPlan rows target) c.in-Resumes.is c.in_ok-place.ensures.for_target.new) (c.index-partials-place.is ∙ ap (λ (xs : List Partial). get_or xs place row) c.partials.ensures)))
+    let has =
+    resumed_set rows ask.target place row (subst (IsNewPlan rows ask.target) c.in-Resumes.is c.in_ok-place.ensures.for_target.new) (c.index-partials-place.is ∙ ap (λ (xs : List Partial). get_or xs place row) c.partials.ensures) in
+    subst (StaysWith rows ask text stages.Waits) (sym c.opened.ensures.stage)
+    (subst (λ (r : Partial). IsBegun rows ask text r.objects) (sym c.duplicate.ensures)
+    (record { header = header; begins = begins; planned = resumes_planned rows ask header c.in_ok-place.field-0 c.in_ok-place.ensures.exact place row.objects c.in-Resumes.is has }))
 
 pub returns-in-Begins-clause-begins : goal.returns-in-Begins-clause-begins
-returns-in-Begins-clause-begins c = subst (StaysWith c.args.dir.now c.args.ask.now.target stages.Waits) (sym c.opened-in-Begins.ensures.stage) (inr c.begun.ensures.base)
+returns-in-Begins-clause-begins c = λ text begins.
+    let rows = c.args.dir.now in
+    let ask = c.args.ask.now in
+    let header = c.args.header.now in
+    subst (StaysWith rows ask text stages.Waits) (sym c.opened-in-Begins.ensures.stage) (record {
+      header = header;
+      begins = begins;
+      planned =
+          begins_planned rows ask header c.in_ok-place.field-0 c.in_ok-place.ensures.exact c.in-Begins.name c.in-Begins.base c.in-Begins.rolls c.begun.result.objects c.in-Begins.is c.begun.ensures.base;
+    })
 
 pub returns-in_err-place-clause-begins : goal.returns-in_err-place-clause-begins
-returns-in_err-place-clause-begins c =
+returns-in_err-place-clause-begins c = λ text begins.
     let p = err_from_is_err_and c.from_residual.result c.from_residual.ensures.1 in
     rw p.1 tt
 

@@ -21,8 +21,22 @@ use Rattle.zst_reader.specs.declared.reader.Reader.{Reader}
 use Rattle.zst_recv.proofs.CostLemmas.{spends_idle, spent_more}
 use Rattle.zst_recv.proofs.PlanRefusals.{begins_first, covers_some, first_begins, handed_none, has_still, none_begins, none_handed, planned_back, planned_err, planned_ok}
 use Rattle.zst_plan.specs.RecvPlan.{recv_plan}
+use Rattle.zst_recv.specs.Plans.{BeginsAt}
 use Rattle.zst_recv.proofs.SetOrigins.{comes_then, comes_with, damaged_then, stays_same}
 use Rattle.zst_recv.proofs.pieces.drain.Goals as goal
+
+-- a receive that waits has been handed out nothing
+waits_none : (reader : Reader) (stage : coded.Stage) {old : Reader} {before : coded.Stage} (first : HasRead old before)
+    → ((text : List ℕ) (handed : List Covered) → StandsFor old text handed → StandsBehind handed before → (later : List Covered) × StandsFor reader text later × StandsBehind later stage)
+    → waits_at stage ≡ true → (text : List ℕ) (later : List Covered) → StandsFor reader text later → later ≡ []
+waits_none reader stage first behind waits text later stands =
+    none_handed reader stage (has_still first.text first.bytes (behind first.text first.handed first.stands first.behind)) waits text later stands
+
+-- and where its text covers BEGIN next, it begins so
+begins_at : (reader : Reader) (stage : coded.Stage) {old : Reader} {before : coded.Stage} (first : HasRead old before)
+    → ((text : List ℕ) (handed : List Covered) → StandsFor old text handed → StandsBehind handed before → (later : List Covered) × StandsFor reader text later × StandsBehind later stage)
+    → (new : Reader) (text : List ℕ) (later : List Covered) (next : Covered) → StandsFor new text (later ++ next ∷ []) → StandsFor reader text later → BeginsAt (waits_at stage) text next.head
+begins_at reader stage first behind new text later next more stands = λ waits header len is. first_begins new text later next header len more (waits_none reader stage first behind waits text later stands) is
 
 pub records-init : goal.records-init
 records-init g c =
@@ -39,11 +53,11 @@ records-init g c =
       still = λ text handed stands waits none. waits;
       pushed = refl;
       fills = Fills-none _;
-      comes = λ honest.
+      comes = λ text handed stands honest.
           let io = c.args.io.now in
           let now = g.D.Disk.state io.disk.now in
           let stage = c.args.batch.now.stage in
-          comes_with c.args.kept.now.dir c.args.ask.now.target (SparesTaken io.space now.seen) now.size stage stage (stays_same c.args.kept.now.dir c.args.ask.now.target stage);
+          comes_with c.args.kept.now.dir c.args.ask.now text (SparesTaken io.space now.seen) now.size stage stage (stays_same c.args.kept.now.dir c.args.ask.now text stage);
       spent = λ text handed stands. ([], subst (StandsFor c.args.reader.now text) (sym (append-nil handed)) stands, spends_idle [] c.args.io.now.space None refl);
     }
 
@@ -99,25 +113,20 @@ records-preserved g c =
           absurd (covers_some _ text later.0 next (h.1 text later.0 later.1) none);
       pushed = h.0.pushed ∙ i.pushed;
       fills = Fills-then i.fills e.fills;
-      comes = λ honest.
+      comes = λ text handed stands honest.
           let first = c.args.io.now in
           let mid = c.records.io in
           let last = c.take.new.io in
-          comes_then c.args.kept.now.dir c.args.ask.now.target (g.D.Disk.state first.disk.now) (g.D.Disk.state mid.disk.now) first.space mid.space i.fills.fills c.args.batch.now.stage c.records.batch.stage
-          (λ waits. ap (λ (b : batches.Batch). b.stage) (i.waits waits)) (i.comes (e.fills.fills.honest honest)) (SparesTaken last.space (g.D.Disk.state last.disk.now).seen) c.take.new.self.stage (e.comes honest);
+          let later = i.reads text handed stands in
+          comes_then c.args.kept.now.dir c.args.ask.now text (g.D.Disk.state first.disk.now) (g.D.Disk.state mid.disk.now) first.space mid.space i.fills.fills c.args.batch.now.stage c.records.batch.stage
+          (λ waits. ap (λ (b : batches.Batch). b.stage) (i.waits waits)) (i.comes text handed stands (e.fills.fills.honest honest)) (SparesTaken last.space (g.D.Disk.state last.disk.now).seen) c.take.new.self.stage
+          (e.comes text (begins_at c.records.reader c.records.batch.stage c.requires.reads i.behind _ text later.0 next (h.1 text later.0 later.1) later.1) honest);
       spent = λ text handed stands. spent_more c.records.reader _ text handed next c.args.io.now.space c.records.io.space c.take.new.io.space None (i.spent text handed stands) (h.1 text) e.spends;
     }
 
 -- a fault that taking a record answers
 abbrev refused_so : RecvFault → Result (Unit {0}) RecvFault
 refused_so fault = Err fault
-
--- a receive that waits has been handed out nothing
-waits_none : (reader : Reader) (stage : coded.Stage) {old : Reader} {before : coded.Stage} (first : HasRead old before)
-    → ((text : List ℕ) (handed : List Covered) → StandsFor old text handed → StandsBehind handed before → (later : List Covered) × StandsFor reader text later × StandsBehind later stage)
-    → waits_at stage ≡ true → (text : List ℕ) (later : List Covered) → StandsFor reader text later → later ≡ []
-waits_none reader stage first behind waits text later stands =
-    none_handed reader stage (has_still first.text first.bytes (behind first.text first.handed first.stands first.behind)) waits text later stands
 
 pub returns-in_err-take-in-Ok-Record : goal.returns-in_err-take-in-Ok-Record
 returns-in_err-take-in-Ok-Record g c =
@@ -143,18 +152,24 @@ returns-in_err-take-in-Ok-Record g c =
       writes = record {
         fills = rw (p.1, p.2) (Fills-then i.fills e.fills);
         known = rw (p.1, p.2) (record_known _ e.known);
-        damaged = λ sector stated found honest is.
-            let first = c.args.io.now in
-            let mid = c.records.io in
-            damaged_then rows ask.target (g.D.Disk.state first.disk.now) (g.D.Disk.state mid.disk.now) first.space mid.space i.fills.fills c.args.batch.now.stage c.records.batch.stage
-            (λ waits. ap (λ (b : batches.Batch). b.stage) (i.waits waits)) (i.comes (e.fills.fills.honest honest)) sector stated found (e.damaged sector stated found honest (was_told _ is));
-        comes = λ honest.
-            let first = c.args.io.now in
-            let mid = c.records.io in
-            let last = c.take.new.io in
-            comes_then rows ask.target (g.D.Disk.state first.disk.now) (g.D.Disk.state mid.disk.now) first.space mid.space i.fills.fills c.args.batch.now.stage c.records.batch.stage
-            (λ waits. ap (λ (b : batches.Batch). b.stage) (i.waits waits)) (i.comes (e.fills.fills.honest honest)) (SparesTaken last.space (g.D.Disk.state last.disk.now).seen) c.take.new.self.stage (e.comes honest);
       };
+      traces = λ text handed stands.
+          let first = c.args.io.now in
+          let mid = c.records.io in
+          let last = c.take.new.io in
+          let old = g.D.Disk.state first.disk.now in
+          let now = g.D.Disk.state mid.disk.now in
+          let later = i.reads text handed stands in
+          let waited = λ (waits : waits_at c.records.batch.stage ≡ true). ap (λ (b : batches.Batch). b.stage) (i.waits waits) in
+          record {
+            damaged = λ sector stated found honest is.
+                damaged_then rows ask text old now first.space mid.space i.fills.fills c.args.batch.now.stage c.records.batch.stage waited (i.comes text handed stands (e.fills.fills.honest honest)) sector stated found
+                (e.damaged text sector stated found honest (was_told _ is));
+            comes = λ honest.
+                comes_then rows ask text old now first.space mid.space i.fills.fills c.args.batch.now.stage c.records.batch.stage waited (i.comes text handed stands (e.fills.fills.honest honest))
+                (SparesTaken last.space (g.D.Disk.state last.disk.now).seen) c.take.new.self.stage
+                (e.comes text (begins_at c.records.reader c.records.batch.stage c.requires.reads i.behind _ text later.0 next (h.1 text later.0 later.1) later.1) honest);
+          };
       texts = λ text handed stands.
           let later = i.reads text handed stands in
           let more = h.1 text later.0 later.1 in
@@ -209,7 +224,8 @@ returns-in-Ok-NeedMore g c =
           let d = i.drained tight start running plain text handed told way tells stands is in
           drain_ends c.args.ask.now running text handed plain _ _ (is_now tight running) (is_now tight running) d waiting (h.1 text (handed ++ d.records) d.stands) d.is;
       gathers = record { fits = λ fits. i.stage; idle = i.idle; waits = i.waits };
-      writes = record { fills = i.fills; known = tt; damaged = λ sector stated found honest is. absurd (cc is); comes = i.comes };
+      writes = record { fills = i.fills; known = tt };
+      traces = λ text handed stands. record { damaged = λ sector stated found honest is. absurd (cc is); comes = i.comes text handed stands };
       texts = λ text handed stands.
           let later = i.reads text handed stands in
           let hands = h.1 text later.0 later.1 in
@@ -252,7 +268,8 @@ returns-in-Ok-End g c =
           let d = i.drained tight start running plain text handed told way tells stands is in
           drain_ends c.args.ask.now running text handed plain _ _ (is_now tight running) (is_now tight running) d complete (h.1 text (handed ++ d.records) d.stands) d.is;
       gathers = record { fits = λ fits. i.stage; idle = i.idle; waits = i.waits };
-      writes = record { fills = i.fills; known = tt; damaged = λ sector stated found honest is. absurd (cc is); comes = i.comes };
+      writes = record { fills = i.fills; known = tt };
+      traces = λ text handed stands. record { damaged = λ sector stated found honest is. absurd (cc is); comes = i.comes text handed stands };
       texts = λ text handed stands.
           let later = i.reads text handed stands in
           let hands = h.1 text later.0 later.1 in
@@ -297,9 +314,8 @@ returns-in-Err g c =
       writes = record {
         fills = i.fills;
         known = let later = i.reads r.text r.handed r.stands in found_stream r.text later.0 c.in-Err.fault (h.1 r.text later.0 later.1).whole (c.faults_are_found.ensures r.text);
-        damaged = λ sector stated found honest is. absurd (cc is);
-        comes = i.comes;
       };
+      traces = λ text handed stands. record { damaged = λ sector stated found honest is. absurd (cc is); comes = i.comes text handed stands };
       texts = λ text handed stands.
           let later = i.reads text handed stands in
           let hands = h.1 text later.0 later.1 in

@@ -35,7 +35,7 @@ invariant-records g l =
       still : (text : List ℕ) (handed : List Covered) → StandsFor l.fn.reader text handed → waits_at l.fn.batch.stage ≡ true → (reading text).covered ≡ [] → waits_at l.batch.stage ≡ true;
       pushed : pushed_of l.reader ≡ pushed_of l.fn.reader;
       fills : Fills (io_of l.fn.io) (io_of l.io) None;
-      comes : IsHonest l.io → ComesFrom l.kept.dir l.ask.target (IsSparedBy l.fn.io) (disk_of l.fn.io).size l.fn.batch.stage (IsSparedBy l.io) l.batch.stage;
+      comes : (text : List ℕ) (handed : List Covered) → StandsFor l.fn.reader text handed → IsHonest l.io → ComesFrom l.kept.dir l.ask text (IsSparedBy l.fn.io) (disk_of l.fn.io).size l.fn.batch.stage (IsSparedBy l.io) l.batch.stage;
       spent : (text : List ℕ) (handed : List Covered) → StandsFor l.fn.reader text handed → (records : List Covered) × StandsFor l.reader text (handed ++ records) × Spends records l.fn.io.space l.io.space None;
     }
 

@@ -23,7 +23,7 @@ use Rattle.zst_recv.proofs.CostLemmas.{spends_idle, spends_whole, spent_then}
 use Rattle.zst_recv.specs.Plans.{Begins, RefusesEach, RefusesOne}
 use Rattle.zst_recv.proofs.RecordOrder.{nothing_read}
 use Rattle.zst_recv.proofs.PlanRefusals.{by_covered, faulty_begins, front_none, front_refused, later_refused, none_begins, waits_live}
-use Rattle.zst_recv.proofs.SetOrigins.{comes_then, comes_with, damaged_then, stays_same}
+use Rattle.zst_recv.proofs.SetOrigins.{comes_on, comes_with, damaged_on, stays_same}
 use Rattle.zst_recv.proofs.pieces.read.Goals as goal
 
 -- nothing is covered before anything was pushed
@@ -45,11 +45,12 @@ pushes-init g c =
       bytes = All-from_get_or (λ byte. byte < 2 ^ 8) c.args.piece.now 0 (λ k within. (c.type_inv.piece k).fits);
       limit = c.requires.limit;
       fills = Fills-none _;
-      comes = λ honest.
+      comes = λ text handed stands honest.
           let io = c.args.io.now in
           let now = g.D.Disk.state io.disk.now in
           let stage = c.args.batch.now.stage in
-          comes_with c.args.kept.now.dir c.args.ask.now.target (SparesTaken io.space now.seen) now.size stage stage (stays_same c.args.kept.now.dir c.args.ask.now.target stage);
+          let read = text ++ c.args.piece.now in
+          comes_with c.args.kept.now.dir c.args.ask.now read (SparesTaken io.space now.seen) now.size stage stage (stays_same c.args.kept.now.dir c.args.ask.now read stage);
       hands = ([], refl, λ text handed hands. (handed, rw (append-nil text) hands));
       spent = ([], refl, λ text handed stands. ([], rw (append-nil text, append-nil handed) stands, spends_idle [] c.args.io.now.space None refl));
     }
@@ -138,12 +139,16 @@ pushes-preserved g c =
       bytes = left_bytes rest n i.bytes;
       limit = limit_left rest n (room_of c.pushes.reader) (pushed_of c.pushes.reader) (pushed_of c.push-count.new.self) (pushed_of c.drain.new.reader) push.count push.pushed e.empties.pushed i.limit;
       fills = Fills-then i.fills e.writes.fills;
-      comes = λ honest.
+      comes = λ text handed stands honest.
           let first = c.args.io.now in
           let mid = c.pushes.io in
           let last = c.drain.new.io in
-          comes_then c.args.kept.now.dir c.args.ask.now.target (g.D.Disk.state first.disk.now) (g.D.Disk.state mid.disk.now) first.space mid.space i.fills.fills c.args.batch.now.stage c.pushes.batch.stage
-          (λ waits. ap (λ (b : batches.Batch). b.stage) (i.waits waits)) (i.comes (e.writes.fills.fills.honest honest)) (SparesTaken last.space (g.D.Disk.state last.disk.now).seen) c.drain.new.batch.stage (e.writes.comes honest);
+          let m = i.planned.2 text handed stands in
+          let read = (text ++ i.planned.0) ++ take n rest in
+          let traces = e.traces read m.0 (push.stands (text ++ i.planned.0) m.0 m.1) in
+          comes_on c.args.kept.now.dir c.args.ask.now (text ++ c.args.piece.now) read (drop n rest) (whole_read text c.args.piece.now i.planned.0 (take n rest) (drop n rest) (piece_split c.args.piece.now i.planned.0 rest n i.planned.1))
+          (g.D.Disk.state first.disk.now) (g.D.Disk.state mid.disk.now) first.space mid.space i.fills.fills c.args.batch.now.stage c.pushes.batch.stage
+          (λ waits. ap (λ (b : batches.Batch). b.stage) (i.waits waits)) (i.comes text handed stands (e.writes.fills.fills.honest honest)) (SparesTaken last.space (g.D.Disk.state last.disk.now).seen) c.drain.new.batch.stage (traces.comes honest);
       hands = (
         i.hands.0 ++ take n rest,
         piece_left c.args.piece.now i.hands.0 rest n i.hands.1,
@@ -192,19 +197,24 @@ returns-in_err-drain g c =
       writes = record {
         fills = rw (p.1, p.2) (Fills-then i.fills e.writes.fills);
         known = rw (p.1, p.2) e.writes.known;
-        damaged = λ sector stated found honest is.
-            let first = c.args.io.now in
-            let mid = c.pushes.io in
-            let told = e.writes.damaged sector stated found honest (ap (λ (f : RecvFault). Err f) (sym p.2 ∙ err_told (Unit {0}) _ _ (sym p.1 ∙ is))) in
-            damaged_then rows ask.target (g.D.Disk.state first.disk.now) (g.D.Disk.state mid.disk.now) first.space mid.space i.fills.fills c.args.batch.now.stage c.pushes.batch.stage
-            (λ waits. ap (λ (b : batches.Batch). b.stage) (i.waits waits)) (i.comes (e.writes.fills.fills.honest honest)) sector stated found told;
-        comes = λ honest.
-            let first = c.args.io.now in
-            let mid = c.pushes.io in
-            let last = c.drain.new.io in
-            comes_then c.args.kept.now.dir c.args.ask.now.target (g.D.Disk.state first.disk.now) (g.D.Disk.state mid.disk.now) first.space mid.space i.fills.fills c.args.batch.now.stage c.pushes.batch.stage
-            (λ waits. ap (λ (b : batches.Batch). b.stage) (i.waits waits)) (i.comes (e.writes.fills.fills.honest honest)) (SparesTaken last.space (g.D.Disk.state last.disk.now).seen) c.drain.new.batch.stage (e.writes.comes honest);
       };
+      traces = λ text handed stands.
+          let first = c.args.io.now in
+          let mid = c.pushes.io in
+          let last = c.drain.new.io in
+          let m = i.planned.2 text handed stands in
+          let read = (text ++ i.planned.0) ++ take n rest in
+          let t = e.traces read m.0 (push.stands (text ++ i.planned.0) m.0 m.1) in
+          let whole = whole_read text piece i.planned.0 (take n rest) (drop n rest) (piece_split piece i.planned.0 rest n i.planned.1) in
+          record {
+            damaged = λ sector stated found honest is.
+                damaged_on rows ask (text ++ piece) read (drop n rest) whole (g.D.Disk.state first.disk.now) (g.D.Disk.state mid.disk.now) first.space mid.space i.fills.fills c.args.batch.now.stage c.pushes.batch.stage
+                (λ waits. ap (λ (b : batches.Batch). b.stage) (i.waits waits)) (i.comes text handed stands (e.writes.fills.fills.honest honest)) sector stated found
+                (t.damaged sector stated found honest (ap (λ (f : RecvFault). Err f) (sym p.2 ∙ err_told (Unit {0}) _ _ (sym p.1 ∙ is))));
+            comes = λ honest.
+                comes_on rows ask (text ++ piece) read (drop n rest) whole (g.D.Disk.state first.disk.now) (g.D.Disk.state mid.disk.now) first.space mid.space i.fills.fills c.args.batch.now.stage c.pushes.batch.stage
+                (λ waits. ap (λ (b : batches.Batch). b.stage) (i.waits waits)) (i.comes text handed stands (e.writes.fills.fills.honest honest)) (SparesTaken last.space (g.D.Disk.state last.disk.now).seen) c.drain.new.batch.stage (t.comes honest);
+          };
       texts = λ text handed stands.
           let m = i.planned.2 text handed stands in
           let read = (text ++ i.planned.0) ++ take n rest in
@@ -294,14 +304,21 @@ returns-then-branch g c =
       writes = record {
         fills = Fills-then i.fills e.writes.fills;
         known = tt;
-        damaged = λ sector stated found honest is. absurd (cc is);
-        comes = λ honest.
-            let first = c.args.io.now in
-            let mid = c.pushes.io in
-            let last = c.drain.new.io in
-            comes_then c.args.kept.now.dir c.args.ask.now.target (g.D.Disk.state first.disk.now) (g.D.Disk.state mid.disk.now) first.space mid.space i.fills.fills c.args.batch.now.stage c.pushes.batch.stage
-            (λ waits. ap (λ (b : batches.Batch). b.stage) (i.waits waits)) (i.comes (e.writes.fills.fills.honest honest)) (SparesTaken last.space (g.D.Disk.state last.disk.now).seen) c.drain.new.batch.stage (e.writes.comes honest);
       };
+      traces = λ text handed stands.
+          let first = c.args.io.now in
+          let mid = c.pushes.io in
+          let last = c.drain.new.io in
+          let m = i.planned.2 text handed stands in
+          let read = (text ++ i.planned.0) ++ take n rest in
+          let t = e.traces read m.0 (push.stands (text ++ i.planned.0) m.0 m.1) in
+          let whole = whole_read text piece i.planned.0 (take n rest) (drop n rest) (piece_split piece i.planned.0 rest n i.planned.1) in
+          record {
+            damaged = λ sector stated found honest is. absurd (cc is);
+            comes = λ honest.
+                comes_on rows ask (text ++ piece) read (drop n rest) whole (g.D.Disk.state first.disk.now) (g.D.Disk.state mid.disk.now) first.space mid.space i.fills.fills c.args.batch.now.stage c.pushes.batch.stage
+                (λ waits. ap (λ (b : batches.Batch). b.stage) (i.waits waits)) (i.comes text handed stands (e.writes.fills.fills.honest honest)) (SparesTaken last.space (g.D.Disk.state last.disk.now).seen) c.drain.new.batch.stage (t.comes honest);
+          };
       texts = λ text handed stands.
           let f = i.front.2 text handed stands in
           let m = i.planned.2 text handed stands in
@@ -371,7 +388,8 @@ returns g c =
           let m = i.piece.2 tight start running plain text handed told way tells hands is in
           piece_waits c.args.ask.now running text handed plain hands.whole piece c.pushes.reader i.piece.0 (is_now tight running) (done i.piece.0 i.piece.1) m;
       gathers = record { fits = λ fits. i.stage; idle = i.idle; waits = i.waits };
-      writes = record { fills = i.fills; known = tt; damaged = λ sector stated found honest is. absurd (cc is); comes = i.comes };
+      writes = record { fills = i.fills; known = tt };
+      traces = λ text handed stands. record { damaged = λ sector stated found honest is. absurd (cc is); comes = i.comes text handed stands };
       texts = λ text handed stands.
           let m = i.front.2 text handed stands in
           record {

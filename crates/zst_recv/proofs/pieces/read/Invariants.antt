@@ -41,7 +41,7 @@ invariant-pushes g l =
       bytes : AreBytes l.rest;
       limit : pushed_of l.reader + length l.rest ≤ 2 ^ 62;
       fills : Fills (io_of l.fn.io) (io_of l.io) None;
-      comes : IsHonest l.io → ComesFrom l.kept.dir l.ask.target (IsSparedBy l.fn.io) (disk_of l.fn.io).size l.fn.batch.stage (IsSparedBy l.io) l.batch.stage;
+      comes : (text : List ℕ) (handed : List Covered) → StandsFor l.fn.reader text handed → IsHonest l.io → ComesFrom l.kept.dir l.ask (text ++ l.piece) (IsSparedBy l.fn.io) (disk_of l.fn.io).size l.fn.batch.stage (IsSparedBy l.io) l.batch.stage;
       spent : (front : List ℕ) × (l.piece ≡ front ++ l.rest)
           × ((text : List ℕ) (handed : List Covered) → StandsFor l.fn.reader text handed → (records : List Covered) × StandsFor l.reader (text ++ front) (handed ++ records) × Spends records l.fn.io.space l.io.space None);
       hands : (front : List ℕ) × (l.piece ≡ front ++ l.rest)

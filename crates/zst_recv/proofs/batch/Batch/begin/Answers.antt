@@ -1,4 +1,4 @@
-use Rattle.std.proofs.Common.{◌≡◌, ◌∙◌, false, sym, subst, refl}
+use Rattle.std.proofs.Common.{◌≡◌, ◌∙◌, false, sym, ap, subst, refl}
 use Rattle.zst_block.specs.Blocks.{Has}
 use Rattle.zst_plan.specs.RecvPlan.{recv_plan}
 use Rattle.zst_plan.proofs.AlikeAnswers.{err_alike}
@@ -49,12 +49,12 @@ pub returns-in-Err-clause-moves : goal.returns-in-Err-clause-moves
 returns-in-Err-clause-moves c = λ len. moves_refused c.args.dir.now c.args.ask.now.target (heads.Begin c.args.header.now len) c.args.self.now _ refl
 
 pub returns-then-not-matches-clause-stays_with : goal.returns-then-not-matches-clause-stays_with
-returns-then-not-matches-clause-stays_with c = stays_same c.args.dir.now c.args.ask.now.target c.args.self.now.stage
+returns-then-not-matches-clause-stays_with c = λ text begins. stays_same c.args.dir.now c.args.ask.now text c.args.self.now.stage
 
 pub returns-in-Ok-clause-stays_with : goal.returns-in-Ok-clause-stays_with
-returns-in-Ok-clause-stays_with c =
+returns-in-Ok-clause-stays_with c = λ text begins.
     let waits : c.args.self.now.stage ≡ stages.Waits = elim c.match-matches.branch [ in-Waits w ↦ w.in-Waits.is | in_default w ↦ absurd (let both = sym w.matches-is ∙ c.if-not-matches.false in cc) ] in
-    subst (λ (s : coded.Stage). StaysWith c.args.dir.now c.args.ask.now.target s c.in-Ok.batch.stage) (sym waits) c.in-Ok.ensures.begins
+    subst (λ (s : coded.Stage). StaysWith c.args.dir.now c.args.ask.now text s c.in-Ok.batch.stage) (sym waits) (c.in-Ok.ensures.begins text (begins (ap waits_at waits)))
 
 pub returns-in-Err-clause-stays_with : goal.returns-in-Err-clause-stays_with
-returns-in-Err-clause-stays_with c = stays_same c.args.dir.now c.args.ask.now.target c.args.self.now.stage
+returns-in-Err-clause-stays_with c = λ text begins. stays_same c.args.dir.now c.args.ask.now text c.args.self.now.stage

@@ -61,39 +61,39 @@ returns-clause-took g c = λ tight running ask plain honest number is.
     )
 
 pub returns-in_err-move_by-in-Lives-clause-damaged : goal.returns-in_err-move_by-in-Lives-clause-damaged
-returns-in_err-move_by-in-Lives-clause-damaged g c = λ rows target sector stated found honest is.
+returns-in_err-move_by-in-Lives-clause-damaged g c = λ rows ask text sector stated found honest is.
     let fault = c.in_err-move_by-in-Lives.field-0.0 in
     record {
       set = c.in-Lives.partial.objects;
-      begins = subst (λ (s : coded.Stage). BeginsWith rows target s c.in-Lives.partial.objects) (sym c.in-Lives.is) refl;
+      begins = subst (λ (s : coded.Stage). BeginsWith rows ask text s c.in-Lives.partial.objects) (sym c.in-Lives.is) refl;
       damaged = c.in_err-move_by-in-Lives.ensures.damaged sector stated found honest (sym (err_is c.from_residual.result fault c.from_residual.ensures.1) ∙ is);
     }
 
 pub returns-clause-comes : goal.returns-clause-comes
-returns-clause-comes g c = λ rows target honest. (
+returns-clause-comes g c = λ rows ask text honest. (
   c.in-Lives.partial.objects,
-  subst (λ (s : coded.Stage). BeginsWith rows target s c.in-Lives.partial.objects) (sym c.in-Lives.is) refl,
+  subst (λ (s : coded.Stage). BeginsWith rows ask text s c.in-Lives.partial.objects) (sym c.in-Lives.is) refl,
   c.in_ok-move_by-in-Lives.ensures.within honest,
 )
 
 pub returns-in_err-move_by-in-Lives-clause-comes : goal.returns-in_err-move_by-in-Lives-clause-comes
-returns-in_err-move_by-in-Lives-clause-comes g c = λ rows target honest.
+returns-in_err-move_by-in-Lives-clause-comes g c = λ rows ask text honest.
     let io = c.args.io.now in
     let last = c.move_by.new.io in
     let old = g.D.Disk.state io.disk.now in
     let new = g.D.Disk.state last.disk.now in
     let set = c.in-Lives.partial.objects in (
       set,
-      subst (λ (s : coded.Stage). BeginsWith rows target s set) (sym c.in-Lives.is) refl,
+      subst (λ (s : coded.Stage). BeginsWith rows ask text s set) (sym c.in-Lives.is) refl,
       subst (λ (r : Row). AreTreesWithin (SparesTaken io.space old.seen) old.size set (SparesTaken last.space new.seen) r.objects) (sym c.in_err-move_by-in-Lives.ensures.stays)
           (same_trees old new io.space last.space c.in_err-move_by-in-Lives.ensures.fills.fills set),
     )
 
 pub returns-in-Waits-clause-comes : goal.returns-in-Waits-clause-comes
-returns-in-Waits-clause-comes g c = λ rows target honest.
+returns-in-Waits-clause-comes g c = λ rows ask text honest.
     let io = c.args.io.now in
     let now = g.D.Disk.state io.disk.now in
-    comes_kept rows target (SparesTaken io.space now.seen) now.size c.args.self.now.stage _ (first_of (cc, search rules))
+    comes_kept rows ask text (SparesTaken io.space now.seen) now.size c.args.self.now.stage _ (first_of (cc, search rules))
 
 pub returns-in_err-move_by-in-Lives-clause-spends : goal.returns-in_err-move_by-in-Lives-clause-spends
 returns-in_err-move_by-in-Lives-clause-spends g c =

@@ -32,28 +32,29 @@ returns-in_default-clause-took g c = λ tight start running plain honest under t
     (next_number (g.D.Disk.state start) (g.D.Disk.state io.disk.now) io.space c.args.kept.now running under c.saturating_add.result c.saturating_add.ensures) is
 
 pub returns-in-Begin-clause-damaged : goal.returns-in-Begin-clause-damaged
-returns-in-Begin-clause-damaged g c = λ sector stated found honest is. absurd (told_none c.begin.result sector stated found c.begin.ensures.no_block is)
+returns-in-Begin-clause-damaged g c = λ text sector stated found honest is. absurd (told_none c.begin.result sector stated found c.begin.ensures.no_block is)
 
 pub returns-in_default-clause-damaged : goal.returns-in_default-clause-damaged
-returns-in_default-clause-damaged g c = λ sector stated found honest is. c.go_on.ensures.damaged c.args.kept.now.dir c.args.ask.now.target sector stated found honest is
+returns-in_default-clause-damaged g c = λ text sector stated found honest is. c.go_on.ensures.damaged c.args.kept.now.dir c.args.ask.now text sector stated found honest is
 
 pub returns-in-Begin-clause-comes : goal.returns-in-Begin-clause-comes
-returns-in-Begin-clause-comes g c = λ honest.
+returns-in-Begin-clause-comes g c = λ text begins honest.
     let io = c.args.io.now in
     let now = g.D.Disk.state io.disk.now in
-    comes_with c.args.kept.now.dir c.args.ask.now.target (SparesTaken io.space now.seen) now.size c.args.self.now.stage c.begin.new.self.stage c.begin.ensures.stays_with
+    comes_with c.args.kept.now.dir c.args.ask.now text (SparesTaken io.space now.seen) now.size c.args.self.now.stage c.begin.new.self.stage
+    (c.begin.ensures.stays_with text (λ waits. begins waits _ c.in-Begin.payload_len c.in-Begin.is))
 
 pub returns-in-End-clause-comes : goal.returns-in-End-clause-comes
-returns-in-End-clause-comes g c = λ honest.
+returns-in-End-clause-comes g c = λ text begins honest.
     let io = c.args.io.now in
     let now = g.D.Disk.state io.disk.now in
     let rows = c.args.kept.now.dir in
     let target = c.args.ask.now.target in
     let images = SparesTaken io.space now.seen in
-    comes_none rows target images now.size c.args.self.now.stage images c.end.new.self.stage ((c.end.ensures.moves rows target c.in-End.sums c.in-End.to).ends refl)
+    comes_none rows c.args.ask.now text images now.size c.args.self.now.stage images c.end.new.self.stage ((c.end.ensures.moves rows target c.in-End.sums c.in-End.to).ends refl)
 
 pub returns-in_default-clause-comes : goal.returns-in_default-clause-comes
-returns-in_default-clause-comes g c = c.go_on.ensures.comes c.args.kept.now.dir c.args.ask.now.target
+returns-in_default-clause-comes g c = λ text begins. c.go_on.ensures.comes c.args.kept.now.dir c.args.ask.now text
 
 pub returns-in-Begin-clause-spends : goal.returns-in-Begin-clause-spends
 returns-in-Begin-clause-spends g c = spends_idle (covered_of c.args.covered.now ∷ []) c.args.io.now.space _ c.begin.ensures.no_block

@@ -111,13 +111,13 @@ began_at : (g : Over) (c : After-read g) → c.new-batch.result.stage ≡ c.args
 began_at g c = c.new-batch.ensures.stage ∙ c.replace.ensures.value
 
 -- and its set comes from the one that the receive had
-read_comes : (g : Over) (c : After-read g) → (g.D.Disk.state c.read.new.io.disk.now).honest
-    → ComesFrom c.args.pool.now.kept.dir c.args.self.now.ask.target (SparesTaken (free_by c.args.pool.now.kept.body) (g.D.Disk.state c.args.pool.now.io.disk.now).seen) (g.D.Disk.state c.args.pool.now.io.disk.now).size c.args.self.now.stage
+read_comes : (g : Over) (c : After-read g) (text : List ℕ) (handed : List Covered) → StandsFor c.args.self.now.reader text handed → (g.D.Disk.state c.read.new.io.disk.now).honest
+    → ComesFrom c.args.pool.now.kept.dir c.args.self.now.ask (text ++ c.args.piece.now) (SparesTaken (free_by c.args.pool.now.kept.body) (g.D.Disk.state c.args.pool.now.io.disk.now).seen) (g.D.Disk.state c.args.pool.now.io.disk.now).size c.args.self.now.stage
     (SparesTaken c.read.new.io.space (g.D.Disk.state c.read.new.io.disk.now).seen) c.read.new.batch.stage
-read_comes g c honest =
+read_comes g c text handed stands honest =
     let two = g.D.Disk.state c.read.new.io.disk.now in
-    comes_renewed (g.D.Disk.state c.args.pool.now.io.disk.now) (g.D.Disk.state c.renew.new.self.io.disk.now) c.renew.new.self.io.space c.args.pool.now.kept c.renew.new.self.kept c.args.self.now.ask.target c.new-batch.result.stage c.args.self.now.stage
-    (SparesTaken c.read.new.io.space two.seen) c.read.new.batch.stage (ap (λ (d : g.row.D.Denot). g.D.Disk.state d) c.renew.ensures.disk.now) c.renew.ensures.space c.renew.ensures.kept (began_at g c) (c.read.ensures.writes.comes honest)
+    comes_renewed (g.D.Disk.state c.args.pool.now.io.disk.now) (g.D.Disk.state c.renew.new.self.io.disk.now) c.renew.new.self.io.space c.args.pool.now.kept c.renew.new.self.kept c.args.self.now.ask (text ++ c.args.piece.now) c.new-batch.result.stage c.args.self.now.stage
+    (SparesTaken c.read.new.io.space two.seen) c.read.new.batch.stage (ap (λ (d : g.row.D.Denot). g.D.Disk.state d) c.renew.ensures.disk.now) c.renew.ensures.space c.renew.ensures.kept (began_at g c) ((c.read.ensures.traces text handed stands).comes honest)
 
 -- how a piece was read: the pool is under way since it was at rest, and of the piece was taken what the definition takes before its first fault
 record ReadsPiece (g : Over) (c : After-read g) (tight : Bool) (running : Pool) (text : List ℕ) (stage : Stage) (result : Result (Unit {0}) RecvFault) : Type 0 where
@@ -652,13 +652,14 @@ returns-in-Ok-put-clause-pool g c =
     (read_stood g at three (e.stood (λ told. absurd (cc told)))) (e.size ∙ fills.size)
 
 pub returns-in-Ok-put-clause-traces : goal.returns-in-Ok-put-clause-traces
-returns-in-Ok-put-clause-traces g c = λ honest. record {
+returns-in-Ok-put-clause-traces g c = λ text handed stands honest. record {
   damaged = λ alive sector stated found is. absurd (cc is);
   makes = λ goes.
       let at = (goal.at.returns-in-Ok-put-clause-traces g c).After-read in
       let pool = c.args.pool.now in
       let put = c.put.new.pool in
       let recv = c.args.self.now in
+      let read = text ++ c.args.piece.now in
       let old = g.D.Disk.state pool.io.disk.now in
       let two = g.D.Disk.state c.read.new.io.disk.now in
       let three = g.D.Disk.state put.io.disk.now in
@@ -673,43 +674,43 @@ returns-in-Ok-put-clause-traces g c = λ honest. record {
       (λ idle. let same = c.put.ensures.idle idle in (ap (λ (d : g.row.D.Denot). g.D.Disk.state d) same.0, ap (λ (k : PoolState). free_by k.body) (same.1 ∙ c.renew.ensures.kept)))
       (λ taken. (c.in-Ok-put.ensures.free taken (live_partial batch.stage live (λ waits. let both = sym taken ∙ none waits in cc (both)))).1) in
       let made =
-      piece_made pool.kept.dir recv.ask.target old two free c.read.new.io.space fills three.seen left recv.stage batch.stage batch.taken (read_comes g at (c.in-Ok-put.ensures.commits.honest honest))
+      piece_made pool.kept.dir recv.ask read old two free c.read.new.io.space fills three.seen left recv.stage batch.stage batch.taken (read_comes g at text handed stands (c.in-Ok-put.ensures.commits.honest honest))
       (λ untaken_so. ap (λ (b : batches.Batch). b.stage) (c.read.ensures.gathers.idle untaken_so) ∙ began_at g at) kept
       (λ taken lives. (c.in-Ok-put.ensures.free taken lives).1) in
-      subst (λ (s : coded.Stage). MakesStage pool.kept.dir recv.ask.target old.seen free old.size recv.stage three.seen left s) (sym c.go_on.ensures.stage)
-      (makes_behind pool.kept.dir recv.ask.target old.seen free old.size recv.stage three.seen left batch.stage made);
+      subst (λ (s : coded.Stage). MakesStage pool.kept.dir recv.ask read old.seen free old.size recv.stage three.seen left s) (sym c.go_on.ensures.stage)
+      (makes_behind pool.kept.dir recv.ask read old.seen free old.size recv.stage three.seen left batch.stage made);
 }
 
 pub returns-then-pool-clause-traces : goal.returns-then-pool-clause-traces
-returns-then-pool-clause-traces g c = λ honest.
+returns-then-pool-clause-traces g c = λ text handed stands honest.
     record { damaged = λ alive sector stated found is. absurd (let failed = c.if-pool.true in cc); makes = λ goes. absurd (cc goes) }
 
 pub returns-then-piece-started-clause-traces : goal.returns-then-piece-started-clause-traces
-returns-then-piece-started-clause-traces g c = λ honest.
+returns-then-piece-started-clause-traces g c = λ text handed stands honest.
     record { damaged = λ alive sector stated found is. absurd (cc (c.give_up.ensures.fault, c.too_long.ensures, is)); makes = λ goes. absurd (cc goes) }
 
 pub returns-in-Err-2-clause-traces : goal.returns-in-Err-2-clause-traces
-returns-in-Err-2-clause-traces g c = λ honest. record {
+returns-in-Err-2-clause-traces g c = λ text handed stands honest. record {
   damaged = λ alive sector stated found is.
       let gave = c.give_up-in-Err-2 in
       let last = ap (λ (io : _). g.D.Disk.state io.disk.now) gave.ensures.io in
       let now = subst (λ (d : DiskState). d.honest) last honest in
-      let told = c.in-Err.ensures.writes.damaged sector stated found now (ap (λ (f : RecvFault). Err f) (sym gave.ensures.fault ∙ err_told coded_recv.FeedReport _ _ is)) in
-      damaged_renewed (g.D.Disk.state c.args.pool.now.io.disk.now) (g.D.Disk.state c.renew.new.self.io.disk.now) c.renew.new.self.io.space c.args.pool.now.kept c.renew.new.self.kept c.args.self.now.ask.target c.new-batch.result.stage c.args.self.now.stage sector stated found
+      let told = (c.in-Err.ensures.traces text handed stands).damaged sector stated found now (ap (λ (f : RecvFault). Err f) (sym gave.ensures.fault ∙ err_told coded_recv.FeedReport _ _ is)) in
+      damaged_renewed (g.D.Disk.state c.args.pool.now.io.disk.now) (g.D.Disk.state c.renew.new.self.io.disk.now) c.renew.new.self.io.space c.args.pool.now.kept c.renew.new.self.kept c.args.self.now.ask (text ++ c.args.piece.now) c.new-batch.result.stage c.args.self.now.stage sector stated found
       (ap (λ (d : g.row.D.Denot). g.D.Disk.state d) c.renew.ensures.disk.now) c.renew.ensures.space c.renew.ensures.kept (began_at g (goal.at.returns-in-Err-2-clause-traces g c).After-read) told;
   makes = λ goes. absurd (cc goes);
 }
 
 pub returns-in-Err-put-clause-traces : goal.returns-in-Err-put-clause-traces
-returns-in-Err-put-clause-traces g c = λ honest.
+returns-in-Err-put-clause-traces g c = λ text handed stands honest.
     record { damaged = λ alive sector stated found is. absurd (told_call c.in-Err-put.fault sector stated found c.in-Err-put.ensures.commits.known (sym c.give_up-in-Err-put.ensures.fault ∙ err_told coded_recv.FeedReport _ _ is)); makes = λ goes. absurd (cc goes) }
 
 pub returns-in-Err-put-2-clause-traces : goal.returns-in-Err-put-2-clause-traces
-returns-in-Err-put-2-clause-traces g c = λ honest.
+returns-in-Err-put-2-clause-traces g c = λ text handed stands honest.
     record { damaged = λ alive sector stated found is. absurd (told_call c.in-Err-put-2.other sector stated found c.in-Err-put-2.ensures.commits.known (sym c.give_up-in-Err-put-2.ensures.fault ∙ err_told coded_recv.FeedReport _ _ is)); makes = λ goes. absurd (cc goes) }
 
 pub returns-in-Ok-put-2-clause-traces : goal.returns-in-Ok-put-2-clause-traces
-returns-in-Ok-put-2-clause-traces g c = λ honest. record {
+returns-in-Ok-put-2-clause-traces g c = λ text handed stands honest. record {
   damaged = λ alive sector stated found is.
       absurd (let keeps : keeps_before c.in-Err.fault ≡ true = sym c.keeps_before.ensures ∙ c.if-keeps_before.true in
       let none : keeps_before c.in-Err.fault ≡ false = ap keeps_before (err_told coded_recv.FeedReport c.in-Err.fault _ is) in cc);
