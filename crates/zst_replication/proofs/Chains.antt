@@ -14,7 +14,7 @@ use Rattle.zst_recv.specs.Feeds.{receives}
 use Rattle.zst_recv.specs.ReceiveSteps.{pool_of}
 use Rattle.zst_replication.specs.Outcomes.{Course, HasOneMore, Progress, base_name, base_objects, course_from, course_on}
 use Rattle.zst_replication.specs.Resumption.{Begun, Between, Chain, ChainsAreUnderway, ChainsComplete, FitRestIsReceived, GoneOn, IsUnderway, ResumedStopsAreProgress}
-use Rattle.zst_replication.specs.Replicas.{IsSendable, StopsAreProgress}
+use Rattle.zst_replication.specs.Replicas.{IsSendable, StopsAreProgress, sent_state}
 use Rattle.zst_replication.proofs.FreshReceives.{began_in}
 use Rattle.zst_replication.proofs.Rows.{none_left, none_kept}
 
@@ -96,6 +96,6 @@ chains_complete stops resumed fit sent also target component base ask pool after
     let more =
     fit sent also (base_objects base).state ask pool after partial last pieces lawful (subst (λ (t : List ℕ). IsUnderway sent t (base_objects base).state pool partial) (sym same) on.0) rest of
     well.can well.lawful well.fit e in
-    subst (λ (t : List ℕ). HasOneMore pool after t component (base_name base) (header_of sent) sent.snapshot.objects.state) same
-    (subst (λ (c : List ℕ). HasOneMore pool after ask.target c (base_name base) (header_of sent) sent.snapshot.objects.state) on.1
-    (subst (λ (b : Option (List ℕ)). HasOneMore pool after ask.target partial.component b (header_of sent) sent.snapshot.objects.state) on.2 more))
+    subst (λ (t : List ℕ). HasOneMore pool after t component (base_name base) (header_of sent) (sent_state sent)) same
+    (subst (λ (c : List ℕ). HasOneMore pool after ask.target c (base_name base) (header_of sent) (sent_state sent)) on.1
+    (subst (λ (b : Option (List ℕ)). HasOneMore pool after ask.target partial.component b (header_of sent) (sent_state sent)) on.2 more))

@@ -11,7 +11,7 @@ use Rattle.zst_plan.specs.declared.receive.RecvAsk.{RecvAsk}
 use Rattle.zst_recv.specs.ReceiveSteps.{begun}
 use Rattle.zst_replication.specs.Grounds.{Grounds}
 use Rattle.zst_replication.specs.Outcomes.{HasOneMore, base_name, base_objects}
-use Rattle.zst_replication.specs.Replicas.{IsSendable, MatchesBase, SentIsReceived, StopsAreProgress}
+use Rattle.zst_replication.specs.Replicas.{IsSendable, MatchesBase, SentIsReceived, StopsAreProgress, sent_state}
 use Rattle.zst_replication.proofs.ReceivePlans.{begins_anew, lawful_base}
 use Rattle.zst_replication.proofs.ReplicaLemmas.{BeginsWith, ended_plan, is_view, made, progressed, received}
 
@@ -38,7 +38,7 @@ module _ (laws : Grounds) (sent : Sent) (can : IsSendable sent None) (ask : Recv
     began : BeganIn ask start component base
     began = began_in ask (header_of sent) start component base lawful none begins
 
-    base_made : target (sent_view sent) (base_objects base).state ≡ Ok sent.snapshot.objects.state
+    base_made : target (sent_view sent) (base_objects base).state ≡ Ok (sent_state sent)
     base_made = made laws sent None can (base_objects base).state began.lawful (matches component base begins)
 
     pub begins_with : BeginsWith sent None ask start (base_objects base).state (begun ask (header_of sent) component base)
@@ -48,7 +48,7 @@ module _ (laws : Grounds) (sent : Sent) (can : IsSendable sent None) (ask : Recv
       opens = refl;
       header = refl;
       point = refl;
-      stands = laws.starts (sent_view sent) (base_objects base).state sent.snapshot.objects.state (is_view laws sent None can) base_made;
+      stands = laws.starts (sent_view sent) (base_objects base).state (sent_state sent) (is_view laws sent None can) base_made;
       new = began.new;
       kept = λ fleeting. none;
     }
@@ -67,8 +67,8 @@ sent_received laws sent ask pool after partial pieces can lawful none matches of
     let first = begun ask (header_of sent) component base in
     let from = begins_with laws sent can ask pool lawful none matches component base begins in
     let end = received laws sent None can ask pool (base_objects base).state first from after partial pieces of e in
-    let whole : from.stands.whole ≡ sent.snapshot.objects.state = ok_parts _ _ (sym from.stands.is_target ∙ base_made laws sent can ask pool lawful none matches component base begins) in
+    let whole : from.stands.whole ≡ sent_state sent = ok_parts _ _ (sym from.stands.is_target ∙ base_made laws sent can ask pool lawful none matches component base begins) in
     let both =
-    subst (λ (c : List ℕ). (recv_plan ask (header_of sent) pool ≡ Ok (Begins c base)) × HasOneMore pool after ask.target c (base_name base) (header_of sent) sent.snapshot.objects.state) (sym end.named)
+    subst (λ (c : List ℕ). (recv_plan ask (header_of sent) pool ≡ Ok (Begins c base)) × HasOneMore pool after ask.target c (base_name base) (header_of sent) (sent_state sent)) (sym end.named)
     (begins, subst (λ (s : State). HasOneMore pool after ask.target component (base_name base) (header_of sent) s) whole end.more) in
     (base, both.0, both.1)

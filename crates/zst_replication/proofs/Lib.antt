@@ -15,12 +15,18 @@ mod ReplicaLemmas
 mod FreshReceives
 mod ResumedReceives
 mod Chains
+mod CountedRows
+mod RoomyReceives
+mod LimitedReceives
 mod TakenSends
+mod AcceptedSends
+mod PlannedReceives
 mod RefusedFeeds
 mod EndedReceives
 mod Pieces
 mod FeedFaults
 mod KeptReceives
+mod AlikeReceives
 mod TakenItems
 mod SendableStreams
 mod MatchingBases
@@ -33,3 +39,6 @@ mod SoundPartials
 mod SoundSnapshots
 mod PoolInvariants
 mod SoundFeeds
+mod RedactedBases
+mod ListedReceives
+mod TextTokens

@@ -44,7 +44,7 @@ module _ (pool : Pool) (is : IsPool pool) where
   snapshot_is : (snapshot : Snapshot) → Contains pool.snapshots snapshot → IsGuid snapshot.guid × IsGuidSet snapshot.redact × IsState snapshot.objects.state × (snapshot.time < 2 ^ 64)
   snapshot_is snapshot there = All-contains (λ (s : Snapshot). IsGuid s.guid × IsGuidSet s.redact × IsState s.objects.state × (s.time < 2 ^ 64)) pool.snapshots snapshot is.snapshots there
 
-  some_guid : (source : Source) → IsIn pool source → 0 < guid_of_source source
+  pub some_guid : (source : Source) → IsIn pool source → 0 < guid_of_source source
   some_guid (OfSnapshot snapshot) there = (snapshot_is snapshot there).0.0
   some_guid (OfBookmark bookmark) there =
       (All-contains (λ (b : Bookmark). IsGuid b.guid × IsGuidSet b.redact × IsRunList b.runs × (b.time < 2 ^ 64)) pool.bookmarks bookmark is.bookmarks there).0.0

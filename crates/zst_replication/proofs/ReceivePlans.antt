@@ -1,9 +1,9 @@
 -- What a receive begins with.
-use Rattle.std.proofs.Common.{◌≡◌, ℕ, ◌+◌, Bool, true, false, not, List, [], ◌∷◌, length, nat_lt, Option, Some, None, is_some, Result, Ok, Err, refl, sym, ap, ◌∙◌, subst, cond, ◌==◌, ◌&&◌, ◌||◌, ◌<◌, ◌^◌, find, arith}
+use Rattle.std.proofs.Common.{◌≡◌, ℕ, ◌+◌, Bool, true, false, not, List, [], ◌∷◌, length, nat_lt, Option, Some, None, is_some, Result, Ok, Err, refl, sym, ap, ◌∙◌, subst, cond, ◌==◌, ◌&&◌, ◌||◌, ◌<◌, ◌≤◌, ◌^◌, find, arith}
 use Rattle.std.specs.Prelude.{Contains, bytes_eq, IfSome, bit_and}
 use Rattle.std.specs.Option.{ok_or, option_map_or}
 use Rattle.std.proofs.lemmas.List.Elements.{All-contains}
-use Rattle.std.proofs.lemmas.Bool.{and_parts, not-false, true≢false}
+use Rattle.std.proofs.lemmas.Bool.{and_parts, ltb-false, not-false, true≢false}
 use Rattle.std.proofs.lemmas.Bool.Decides.{nat_tests}
 use Rattle.std.proofs.lemmas.Option.{same_Some}
 use Rattle.zst_model.proofs.InsertedLaws.{contains_first, contains_later}
@@ -28,9 +28,15 @@ use Rattle.zst_model.proofs.FoundElements.{found_passes}
 use Rattle.zst_model.proofs.FilteredLists.{filter_contains}
 use Rattle.zst_model.proofs.Results.{bind_ok, ok_parts, unless_ok}
 use Rattle.zst_plan.specs.RecvPlan as planning
-use Rattle.zst_plan.specs.RecvPlan.{Base, RecvPlan, Begins, Resumes, base_anew, base_by_guid, base_by_head, base_by_origin, base_for, base_onto, cloned_base, component_for, find_latest, fresh_plan, if_contained, if_frees, if_from_origin, if_increment, if_kind, if_new, if_plain, if_room, if_source, if_within, is_dated_after, is_full, is_resumed, last_of, latest_of, new_datasets, recv_plan, resumed_plan, rolled_back, snapshot_name, wrong_resume}
+use Rattle.zst_plan.specs.RecvPlan.{Base, RecvPlan, Begins, Resumes, base_anew, base_by_guid, base_by_head, base_by_origin, base_for, base_onto, cloned_base, component_for, find_latest, fresh_plan, if_contained, if_frees, if_from_origin, if_increment, if_kind, if_new, if_plain, if_room, if_source, if_within, is_contained, is_dated_after, is_full, is_resumed, last_of, latest_of, new_datasets, recv_plan, redacted_for, resumed_plan, rolled_back, snapshot_name, wrong_resume}
 use Rattle.zst_plan.specs.declared.receive.RecvAsk.{RecvAsk}
 use Rattle.zst_replication.specs.Outcomes.{base_objects}
+
+-- there is room for one partial state more: the pool then is within its limits
+pub record IsRoomy (target : List ℕ) (pool : Pool) : Type 0 where
+  pub partials : length pool.partials + 1 ≤ most_partials
+  pub datasets : count_datasets pool + new_datasets target pool ≤ most_datasets
+  pub snapshots : length pool.snapshots + (length pool.partials + 1) ≤ most_snapshots
 
 -- the plan of a target without a partial state
 pub record Fresh (ask : RecvAsk) (header : Header) (pool : Pool) (plan : RecvPlan) : Type 0 where
@@ -38,17 +44,25 @@ pub record Fresh (ask : RecvAsk) (header : Header) (pool : Pool) (plan : RecvPla
   pub named : component_for ask header ≡ Ok component
   pub base : Base
   pub based : base_for ask header pool ≡ Ok base
+  pub contained : is_contained (redacted_for base.snapshot) header ≡ true
   pub new : snapshot_named (snapshot_name ask.target component) pool ≡ None
+  pub room : IsRoomy ask.target pool
   pub plan_is : plan ≡ Begins component base
 
-roomy : (ask : RecvAsk) (pool : Pool) (plan last : RecvPlan) → if_room ask.target pool (Ok last) ≡ Ok plan → last ≡ plan
+roomy : (ask : RecvAsk) (pool : Pool) (plan last : RecvPlan) → if_room ask.target pool (Ok last) ≡ Ok plan → IsRoomy ask.target pool × (last ≡ plan)
 roomy ask pool plan last e =
     let third = if_within quantities.Snapshots most_snapshots (length pool.snapshots + (length pool.partials + 1)) (Ok last) in
     let second = if_within quantities.Datasets most_datasets (count_datasets pool + new_datasets ask.target pool) third in
     let a = unless_ok (nat_lt most_partials (length pool.partials + 1)) (plans.Limit quantities.Partials most_partials) second plan e in
     let b = unless_ok (nat_lt most_datasets (count_datasets pool + new_datasets ask.target pool)) (plans.Limit quantities.Datasets most_datasets) third plan a.1 in
-    let c = unless_ok (nat_lt most_snapshots (length pool.snapshots + (length pool.partials + 1))) (plans.Limit quantities.Snapshots most_snapshots) (Ok last) plan b.1 in
-    ok_parts last plan c.1
+    let c = unless_ok (nat_lt most_snapshots (length pool.snapshots + (length pool.partials + 1))) (plans.Limit quantities.Snapshots most_snapshots) (Ok last) plan b.1 in (
+      record {
+        partials = ltb-false most_partials (length pool.partials + 1) a.0;
+        datasets = ltb-false most_datasets (count_datasets pool + new_datasets ask.target pool) b.0;
+        snapshots = ltb-false most_snapshots (length pool.snapshots + (length pool.partials + 1)) c.0;
+      },
+      ok_parts last plan c.1,
+    )
 
 fresh : (ask : RecvAsk) (header : Header) (pool : Pool) (plan : RecvPlan) (component : List ℕ) → component_for ask header ≡ Ok component → fresh_plan ask header component pool ≡ Ok plan → Fresh ask header pool plan
 fresh ask header pool plan component named e =
@@ -60,13 +74,16 @@ fresh ask header pool plan component named e =
     let found = bind_ok (base_for ask header pool) next plan plain.1 in
     let inside = unless_ok (not (planning.is_contained (planning.redacted_for found.0.snapshot) header)) (plans.NotContained (planning.outside_guid (planning.redacted_for found.0.snapshot) header)) (newed found.0) plan found.2 in
     let new = unless_ok (is_some (snapshot_named name pool)) (plans.Exists (present.Named (names.Snapshot name))) (roomed found.0) plan inside.1 in
+    let room = roomy ask pool plan (Begins component found.0) new.1 in
     record {
       component = component;
       named = named;
       base = found.0;
       based = found.1;
+      contained = not-false (planning.is_contained (planning.redacted_for found.0.snapshot) header) inside.0;
       new = none_there (snapshot_named name pool) new.0;
-      plan_is = sym (roomy ask pool plan (Begins component found.0) new.1);
+      room = room.0;
+      plan_is = sym room.1;
     }
 
 pub begins_anew : (ask : RecvAsk) (header : Header) (pool : Pool) (plan : RecvPlan) → partial_of ask.target pool ≡ None → recv_plan ask header pool ≡ Ok plan → Fresh ask header pool plan

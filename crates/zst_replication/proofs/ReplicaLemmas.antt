@@ -1,21 +1,20 @@
 -- A send that is received to its end, and every stop on its way, from its beginning or from the point of a partial state.
-use Rattle.std.proofs.Common.{◌≡◌, ◌⊎◌, inl, inr, ℕ, Bool, true, false, List, [], ◌∷◌, ◌++◌, Option, Some, None, option_map, Ok, refl, sym, ap, ◌∙◌, subst, append_assoc, append-nil}
+use Rattle.std.proofs.Common.{◌≡◌, ◌⊎◌, inl, inr, ℕ, Bool, true, false, List, [], ◌∷◌, ◌++◌, Option, None, Ok, refl, sym, ap, ◌∙◌, subst, append_assoc, append-nil}
 use Rattle.std.specs.List.{concat}
-use Rattle.std.proofs.Math.Path.{fun_ext}
 use Rattle.zst_laws.specs.ResumedSends.{IsAtOrAfter}
 use Rattle.zst_model.specs.declared.sends.header.Header.{Header}
 use Rattle.zst_model.specs.declared.sends.header.Point.{Point}
 use Rattle.zst_model.specs.declared.states.item.Item.{Item}
 use Rattle.zst_model.specs.pools.KeptPool.{kept_of}
-use Rattle.zst_model.specs.pools.Pool.{Bookmark, Pool, Partial, partial_of, snapshot_named}
-use Rattle.zst_model.specs.sends.Headers.{Sent, choice_of, header_of, redaction_list, sent_view}
+use Rattle.zst_model.specs.pools.Pool.{Pool, Partial, partial_of, snapshot_named}
+use Rattle.zst_model.specs.sends.Headers.{Sent, choice_of, header_of, sent_view}
 use Rattle.zst_model.specs.sends.Items.{items, single_items}
 use Rattle.zst_model.specs.sends.Points.{point_of}
 use Rattle.zst_model.specs.sends.CutReceives.{StandsFor}
-use Rattle.zst_model.specs.sends.Target.{BaseOk, CanRedact, redacted, redacted_object, target}
+use Rattle.zst_model.specs.sends.Target.{BaseOk, target}
 use Rattle.zst_model.specs.sends.View.{IsView}
 use Rattle.zst_model.specs.states.AppliedItems.{apply_all}
-use Rattle.zst_model.specs.states.State.{IsState, Object, State}
+use Rattle.zst_model.specs.states.State.{IsState, State}
 use Rattle.zst_model.proofs.Results.{ok_parts}
 use Rattle.zst_plan.specs.RecvPlan.{RecvPlan, recv_plan, snapshot_name}
 use Rattle.zst_plan.specs.declared.receive.RecvAsk.{RecvAsk}
@@ -30,7 +29,7 @@ use Rattle.zst_recv.specs.ReceiveSteps.{Stage, Waits, Lives, Ends, Fed, Goes, St
 use Rattle.zst_replication.specs.Grounds.{Grounds}
 use Rattle.zst_replication.specs.KeptReceives.{keep_by}
 use Rattle.zst_replication.specs.Outcomes.{HasOneMore, Progress, course_on}
-use Rattle.zst_replication.specs.Replicas.{AreOfStream, IsSendable}
+use Rattle.zst_replication.specs.Replicas.{AreOfStream, IsSendable, sent_state}
 use Rattle.zst_replication.specs.Resumption.{AppliedBehind}
 use Rattle.zst_replication.proofs.AppliedRecords.{Applied, BehindEnd}
 use Rattle.zst_replication.proofs.FinishedReceives.{one_more, one_more_kept}
@@ -57,25 +56,12 @@ pub record BeginsWith (sent : Sent) (at : Option Point) (ask : RecvAsk) (start :
 module _ (laws : Grounds) (sent : Sent) (at : Option Point) (can : IsSendable sent at) where
   -- ---- what is sent
 
-  can_redact : CanRedact sent.snapshot.objects.state (choice_of sent).redact
-  can_redact = subst (λ (o : Option Bookmark). CanRedact sent.snapshot.objects.state (redaction_list o)) (sym can.whole) can.redacted
-
-  none_redacted : (object : Option Object) → option_map (redacted_object (λ i. false)) object ≡ object
-  none_redacted None = refl
-  none_redacted (Some object) = refl
-
-  is_whole : redacted sent.snapshot.objects.state (choice_of sent).redact ≡ sent.snapshot.objects.state
-  is_whole =
-      ap (λ (o : Option Bookmark). redacted sent.snapshot.objects.state (redaction_list o)) can.whole
-      ∙ fun_ext (λ k. none_redacted (sent.snapshot.objects.state k))
-
   pub is_view : IsView (sent_view sent)
-  is_view = laws.views (header_of sent) sent.snapshot.objects (choice_of sent) can.stated.lawful can_redact
+  is_view = laws.views (header_of sent) sent.snapshot.objects (choice_of sent) can.stated.lawful can.redacted
 
-  -- over a base that is fit for it, the send makes its snapshot's state
-  pub made : (state : State) → IsState state → BaseOk state sent.snapshot.objects (choice_of sent) → target (sent_view sent) state ≡ Ok sent.snapshot.objects.state
-  made state lawful fit =
-      laws.exact state (header_of sent) sent.snapshot.objects (choice_of sent) lawful can.stated.lawful can_redact fit ∙ ap (λ (s : State). Ok s) is_whole
+  -- over a base that is fit for it, the send makes its snapshot's state, redacted as it was asked
+  pub made : (state : State) → IsState state → BaseOk state sent.snapshot.objects (choice_of sent) → target (sent_view sent) state ≡ Ok (sent_state sent)
+  made state lawful fit = laws.exact state (header_of sent) sent.snapshot.objects (choice_of sent) lawful can.stated.lawful can.redacted fit
 
   -- ---- its stream
 

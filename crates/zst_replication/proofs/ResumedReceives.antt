@@ -55,7 +55,7 @@ module _ (sent : Sent) (state : State) (ask : RecvAsk) (pool : Pool) (partial : 
   is_kept : keep_by ask pool ≡ true
   is_kept = ap (λ (o : Option Partial). option_map_or (λ old. old.keep) o ask.keep) underway.there ∙ underway.kept
 
-  begins_with : BeginsWith sent (Some partial.point) ask pool state partial
+  pub begins_with : BeginsWith sent (Some partial.point) ask pool state partial
   begins_with = record {
     plan = Resumes partial;
     only = λ other e. resumes ask (begun sent (Some partial.point)) pool partial other underway.there e;
@@ -68,7 +68,7 @@ module _ (sent : Sent) (state : State) (ask : RecvAsk) (pool : Pool) (partial : 
   }
 
 -- what is underway to what is sent is so to what another send gives of the same view
-also_underway : (sent also : Sent) (target : List ℕ) (state : State) (pool : Pool) (partial : Partial) → sent_view also ≡ sent_view sent → IsUnderway sent target state pool partial
+pub also_underway : (sent also : Sent) (target : List ℕ) (state : State) (pool : Pool) (partial : Partial) → sent_view also ≡ sent_view sent → IsUnderway sent target state pool partial
     → IsUnderway also target state pool partial
 also_underway sent also target state pool partial same underway =
     record { there = underway.there; kept = underway.kept; way = subst (λ (v : View). IsPartWay v state partial.point partial) (sym same) underway.way }

@@ -188,7 +188,7 @@ batch_ended ask pool (c ∷ rest) partial = batch_ended ask pool rest partial
 
 module _ (ask : RecvAsk) (start : Pool) where
   -- what a receive has under way is the target's only partial state
-  others_under : (partial other : Partial) (pool : Pool) → partial.target ≡ ask.target → other.target ≡ ask.target → AddsPartial ask start pool other → partials_of_others partial.target pool ≡ partials_of_others ask.target start
+  pub others_under : (partial other : Partial) (pool : Pool) → partial.target ≡ ask.target → other.target ≡ ask.target → AddsPartial ask start pool other → partials_of_others partial.target pool ≡ partials_of_others ask.target start
   others_under partial other pool own also under =
       ap (λ (t : List ℕ). partials_of_others t pool) own
       ∙ ap (λ (p : Pool). partials_of_others ask.target p) under.pool_is

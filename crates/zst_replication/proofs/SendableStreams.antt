@@ -1,32 +1,29 @@
 -- What is sent of a lawful pool can be stated, from its beginning and from each point.
-use Rattle.std.proofs.Common.{◌≡◌, ◌⊎◌, inl, inr, ℕ, suc, ◌+◌, ◌<◌, ◌^◌, ◌==◌, ◌||◌, not, nat_lt, Bool, true, false, List, [], ◌∷◌, length, Option, Some, None, is_some, option_map, Result, Ok, refl, sym, ap, ◌∙◌, subst, cond, find, arith}
+use Rattle.std.proofs.Common.{◌≡◌, inl, inr, ℕ, suc, ◌+◌, ◌<◌, ◌^◌, ◌==◌, ◌||◌, not, nat_lt, Bool, true, false, List, [], ◌∷◌, length, Option, Some, None, option_map, Result, Ok, refl, sym, ap, ◌∙◌, subst, cond, find, arith}
 use Rattle.std.specs.Prelude.{Contains, IfSome, bit_and, bit_or, bytes_eq, if◌then◌else◌}
 use Rattle.std.specs.List.{position_or_len}
 use Rattle.std.specs.Option.{ok_or, option_map_or, option_or}
-use Rattle.std.proofs.lemmas.Bool.{true≢false, and_parts, not-false}
+use Rattle.std.proofs.lemmas.Bool.{true≢false, and_parts, eqb-true, ltb-true, not-false}
 use Rattle.std.proofs.lemmas.Bool.Decides.{nat_tests}
 use Rattle.std.proofs.lemmas.List.Elements.{All-contains}
 use Rattle.zst_laws.specs.HeaderExample.{SentIsStated}
 use Rattle.zst_laws.specs.SendPlans.{PlansAreOfPool}
 use Rattle.zst_model.proofs.InsertedLaws.{contains_first, contains_later}
 use Rattle.zst_model.proofs.OrderLaws.{bytes_same, same_bytes}
-use Rattle.zst_model.specs.declared.refusals.faults.Lack.TheVariants as lacks
 use Rattle.zst_model.specs.declared.refusals.plan_fault.PlanFault.{PlanFault}
-use Rattle.zst_model.specs.declared.refusals.plan_fault.PlanFault.TheVariants as plans
-use Rattle.zst_model.specs.declared.sends.ask.SendAsk.{SendAsk}
 use Rattle.zst_model.specs.declared.sends.header.Header.{Header}
 use Rattle.zst_model.specs.declared.sends.header.Point.{Point}
 use Rattle.zst_model.specs.fields.Guids.{IsGuidSet}
 use Rattle.zst_model.specs.pools.Ancestry.{Source, OfSnapshot, OfBookmark, IsIn}
 use Rattle.zst_model.specs.pools.Pool.{Bookmark, Dataset, HasDataset, IsGuid, IsKind, IsPool, IsStated, Pool, Snapshot, dataset_named, dataset_of_snapshot}
 use Rattle.zst_model.specs.sends.Features.{redacts, resuming, sa_spill}
-use Rattle.zst_model.specs.sends.Headers.{IsOf, IsRedactionOf, Sent, choice_of, clone_flag, clone_part, features_of, flags_of, free_records, header_of, is_elsewhere, redacted_part, redaction_guids, redaction_list, source_guids, spill_block}
-use Rattle.zst_model.specs.sends.SendPlan.{comes_before, has_guids, if_before, if_no_relay, if_redaction, is_redacted, kind_of, redacts_snapshot, send_plan, sent_of}
+use Rattle.zst_model.specs.sends.Headers.{IsOf, IsRedactionOf, Sent, choice_of, clone_flag, clone_part, features_of, flags_of, free_records, header_of, is_elsewhere, redacted_part, redaction_list, spill_block}
+use Rattle.zst_model.specs.sends.SendPlan.{comes_before, has_guids, if_before, if_no_relay, if_redaction, is_redacted, kind_of, redacts_snapshot, sent_of}
 use Rattle.zst_model.specs.states.AppliedItems.{◌>>=◌}
 use Rattle.zst_model.specs.states.State.{IsState}
 use Rattle.zst_model.proofs.FoundElements.{found_passes, none_passes}
 use Rattle.zst_model.proofs.Results.{bind_ok, ok_parts, unless_ok}
-use Rattle.zst_plan.specs.ResumePlan.{find_from, find_marked, find_to, first_from, is_from, no_guid, resumed_send}
+use Rattle.zst_plan.specs.ResumePlan.{find_from, find_marked, find_to, first_from, is_from, is_marked, no_guid, resumed_send}
 use Rattle.zst_token.specs.declared.token.Token.{Token}
 use Rattle.zst_record.specs.Decoding.{needs_payload, others_of}
 use Rattle.zst_record.specs.RecordValues.{BeginFits}
@@ -34,41 +31,12 @@ use Rattle.zst_record.specs.Formats.{large_blocks}
 use Rattle.zst_record.specs.Laws.{PayloadHasLength}
 use Rattle.zst_record.specs.Payload.{StatesPayload, StatesResume, bare, begin_payload, has_payload, stated_point}
 use Rattle.zst_stream.specs.Image.{CanBegin}
-use Rattle.zst_stream.specs.Items.{IsUnredacted, PlainIsAllowed, keeps_spill}
-use Rattle.zst_send.specs.Openings.{built, is_plain, opening}
+use Rattle.zst_stream.specs.Items.{MayShowAll, SentIsAllowed, keeps_spill}
 use Rattle.zst_send.specs.Sends.{begun}
-use Rattle.zst_replication.specs.MatchingBases.{IsTokenPoint, PlainCanBeSent, RestCanBeSent}
+use Rattle.zst_replication.specs.MatchingBases.{IsTokenPoint, IsWithin, RestCanBeSent, SentCanBeSent}
 use Rattle.zst_replication.specs.Replicas.{IsSendable}
 use Rattle.zst_replication.proofs.ReceivePlans.{or_parts}
 use Rattle.zst_replication.proofs.MatchingBases.{not_full}
-
--- ---- what is opened is planned, and plain
-
-none_of : {A : Type 0} (o : Option A) → not (is_some o) ≡ true → o ≡ None
-none_of None e = refl
-none_of (Some x) e = absurd cc
-
-no_guids : (guids : List ℕ) → not (has_guids guids) ≡ true → guids ≡ []
-no_guids [] e = refl
-no_guids (guid ∷ rest) e = absurd (let some : nat_lt 0 (length (guid ∷ rest)) ≡ true = grind (arith, nat_tests) in let both = sym e ∙ ap not some in true≢false both)
-
--- no block of it is to be redacted, and its source isn't redacted
-record IsPlain (sent : Sent) : Type 0 where
-  whole : sent.redaction ≡ None
-  source : source_guids sent.source ≡ []
-
-built_plain : (planned sent : Sent) → built planned ≡ Ok sent → (planned ≡ sent) × IsPlain sent
-built_plain planned sent e =
-    let plain = unless_ok (not (is_plain planned)) (plans.Unsupported lacks.NotBuilt) (Ok planned) sent e in
-    let both = and_parts (not (is_some planned.redaction)) (not (has_guids (source_guids planned.source))) (not-false (is_plain planned) plain.0) in
-    let same = ok_parts planned sent plain.1 in
-    (same, subst IsPlain same (record { whole = none_of planned.redaction both.0; source = no_guids (source_guids planned.source) both.1 }))
-
-opens : (ask : SendAsk) (pool : Pool) (sent : Sent) → opening ask pool ≡ Ok sent → (send_plan ask pool ≡ Ok sent) × IsPlain sent
-opens ask pool sent e =
-    let found = bind_ok (send_plan ask pool) built sent e in
-    let plain = built_plain found.0 sent found.2 in
-    (found.1 ∙ ap (λ (s : Sent). Ok s) plain.0, plain.1)
 
 -- ---- what a token finds is of its pool
 
@@ -97,22 +65,45 @@ source_there token pool to source e = go (token.from == 0) e
     go false e =
         source_from pool.snapshots pool.bookmarks (λ snapshot. is_from token pool to (OfSnapshot snapshot)) (λ bookmark. is_from token pool to (OfBookmark bookmark)) (no_guid token.from) source pool refl refl e
 
+-- the redaction bookmark that a token finds is there
+marked_there : (token : Token) (pool : Pool) (redaction : Option Bookmark) → find_marked token pool ≡ Ok redaction → IfSome redaction (Contains pool.bookmarks)
+marked_there token pool redaction e = go (has_guids token.redact) e
+  where
+    found : (o : Option Bookmark) → find (is_marked token) pool.bookmarks ≡ o → ok_or (option_map Some o) (no_guid token.to) ≡ Ok redaction → IfSome redaction (Contains pool.bookmarks)
+    found None is e = absurd cc
+    found (Some bookmark) is e =
+        subst (λ (o : Option Bookmark). IfSome o (Contains pool.bookmarks)) (ok_parts (Some bookmark) redaction e) (found_passes (is_marked token) pool.bookmarks bookmark is).0
+
+    go : (t : Bool) → cond t (ok_or (option_map Some (find (is_marked token) pool.bookmarks)) (no_guid token.to)) (Ok None) ≡ Ok redaction → IfSome redaction (Contains pool.bookmarks)
+    go true e = found (find (is_marked token) pool.bookmarks) refl e
+    go false e = subst (λ (o : Option Bookmark). IfSome o (Contains pool.bookmarks)) (ok_parts None redaction e) tt
+
 -- what passes the checks of a send is what was found
 past_before : (pool : Pool) (snapshot : Snapshot) (source : Option Source) (rest : Result Sent PlanFault) (sent : Sent) → if_before pool snapshot source rest ≡ Ok sent → rest ≡ Ok sent
 past_before pool snapshot None rest sent e = e
 past_before pool snapshot (Some source) rest sent e = (unless_ok (not (comes_before pool source snapshot)) _ rest sent e).1
 
-past_redaction : (snapshot : Snapshot) (redaction : Option Bookmark) (rest : Result Sent PlanFault) (sent : Sent) → if_redaction snapshot redaction rest ≡ Ok sent → rest ≡ Ok sent
-past_redaction snapshot None rest sent e = e
-past_redaction snapshot (Some bookmark) rest sent e = (unless_ok (not (redacts_snapshot bookmark snapshot)) _ rest sent e).1
+-- and its redaction bookmark is one of the snapshot
+past_redaction : (pool : Pool) (snapshot : Snapshot) (redaction : Option Bookmark) (rest : Result Sent PlanFault) (sent : Sent) → IfSome redaction (Contains pool.bookmarks)
+    → if_redaction snapshot redaction rest ≡ Ok sent → IfSome redaction (IsRedactionOf pool snapshot) × (rest ≡ Ok sent)
+past_redaction pool snapshot None rest sent there e = (tt, e)
+past_redaction pool snapshot (Some bookmark) rest sent there e =
+    let passed = unless_ok (not (redacts_snapshot bookmark snapshot)) _ rest sent e in
+    let both = and_parts (has_guids bookmark.redact) (bookmark.guid == snapshot.guid) (not-false (redacts_snapshot bookmark snapshot) passed.0) in
+    (record { there = there; guid = eqb-true bookmark.guid snapshot.guid both.1; guids = ltb-true 0 (length bookmark.redact) both.0 }, passed.1)
 
-found_is : (pool : Pool) (snapshot : Snapshot) (source : Option Source) (redaction : Option Bookmark) (sent : Sent) → sent_of pool snapshot source redaction ≡ Ok sent
-    → record { snapshot = snapshot; kind = kind_of pool snapshot; source = source; redaction = redaction } ≡ sent
-found_is pool snapshot source redaction sent e =
+-- what was found, with its redaction bookmark
+record IsFound (pool : Pool) (snapshot : Snapshot) (source : Option Source) (redaction : Option Bookmark) (sent : Sent) : Type 0 where
+  same : record { snapshot = snapshot; kind = kind_of pool snapshot; source = source; redaction = redaction } ≡ sent
+  redacts : IfSome redaction (IsRedactionOf pool snapshot)
+
+found_is : (pool : Pool) (snapshot : Snapshot) (source : Option Source) (redaction : Option Bookmark) (sent : Sent) → IfSome redaction (Contains pool.bookmarks)
+    → sent_of pool snapshot source redaction ≡ Ok sent → IsFound pool snapshot source redaction sent
+found_is pool snapshot source redaction sent there e =
     let made : Result Sent PlanFault = Ok (record { snapshot = snapshot; kind = kind_of pool snapshot; source = source; redaction = redaction }) in
     let relay = if_no_relay snapshot source made in
-    let last = past_redaction snapshot redaction relay sent (past_before pool snapshot source (if_redaction snapshot redaction relay) sent e) in
-    ok_parts _ sent (unless_ok (has_guids snapshot.redact || is_redacted source) _ made sent last).1
+    let last = past_redaction pool snapshot redaction relay sent there (past_before pool snapshot source (if_redaction snapshot redaction relay) sent e) in
+    record { same = ok_parts _ sent (unless_ok (has_guids snapshot.redact || is_redacted source) _ made sent last.1).1; redacts = last.0 }
 
 -- the dataset of a snapshot is there
 record Owner (pool : Pool) (snapshot : Snapshot) : Type 0 where
@@ -137,26 +128,22 @@ owner pool snapshot has = go (dataset_named (dataset_of_snapshot snapshot) pool)
           kind = ap (λ (o : Option Dataset). option_map_or (λ d. d.kind) o 0) found;
         }
 
-of_token : (token : Token) (pool : Pool) (sent : Sent) → IsPool pool → resumed_send token pool ≡ Ok sent → sent.redaction ≡ None → IsOf pool sent
+of_found : (pool : Pool) (snapshot : Snapshot) (source : Option Source) (redaction : Option Bookmark) (sent : Sent) → IsPool pool → Contains pool.snapshots snapshot → IfSome source (IsIn pool)
+    → IsFound pool snapshot source redaction sent → IsOf pool sent
+of_found pool snapshot source redaction sent lawful there from is =
+    let own = owner pool snapshot (All-contains (λ (s : Snapshot). HasDataset pool (dataset_of_snapshot s)) pool.snapshots snapshot lawful.linked.snapshots there) in
+    subst (λ (s : Sent). IsOf pool s) is.same
+    (record { snapshot = there; dataset = own.dataset; there = own.there; named = own.named; kind = own.kind; source = from; redaction = is.redacts })
+
+of_token : (token : Token) (pool : Pool) (sent : Sent) → IsPool pool → resumed_send token pool ≡ Ok sent → IsOf pool sent
 unfolding resumed_send
-of_token token pool sent lawful e whole =
+of_token token pool sent lawful e =
     let marked : Snapshot → Option Source → Result Sent PlanFault = λ snapshot source. find_marked token pool >>= (λ redaction. sent_of pool snapshot source redaction) in
     let to = bind_ok (find_to token pool) (λ snapshot. find_from token pool snapshot >>= marked snapshot) sent e in
     let from = bind_ok (find_from token pool to.0) (marked to.0) sent to.2 in
     let mark = bind_ok (find_marked token pool) (λ redaction. sent_of pool to.0 from.0 redaction) sent from.2 in
-    let is = found_is pool to.0 from.0 mark.0 sent mark.2 in
-    let there = first_there (λ snapshot. snapshot.guid == token.to) pool.snapshots (no_guid token.to) to.0 to.1 in
-    let own = owner pool to.0 (All-contains (λ (s : Snapshot). HasDataset pool (dataset_of_snapshot s)) pool.snapshots to.0 lawful.linked.snapshots there) in
-    subst (λ (s : Sent). IsOf pool s) is
-    (record {
-      snapshot = there;
-      dataset = own.dataset;
-      there = own.there;
-      named = own.named;
-      kind = own.kind;
-      source = source_there token pool to.0 from.0 from.1;
-      redaction = subst (λ (o : Option Bookmark). IfSome o (IsRedactionOf pool to.0)) (sym (ap (λ (s : Sent). s.redaction) is ∙ whole)) tt;
-    })
+    of_found pool to.0 from.0 mark.0 sent lawful (first_there (λ snapshot. snapshot.guid == token.to) pool.snapshots (no_guid token.to) to.0 to.1) (source_there token pool to.0 from.0 from.1)
+    (found_is pool to.0 from.0 mark.0 sent (marked_there token pool mark.0 mark.1) mark.2)
 
 -- ---- its header
 
@@ -177,44 +164,54 @@ kind_test kind (inr e) = ap (λ (k : ℕ). (k == 2) || (k == 3)) e
 
 -- ---- a header that may have a point
 
--- features under which BEGIN of an unredacted stream can be stated
+-- features under which BEGIN can be stated
 record AreFit (features : ℕ) : Type 0 where
   small : features < 2 ^ 30
   accepted : others_of features ≡ 0
   small_blocks : bit_and features large_blocks ≡ 0
-  redacts_none : (bit_and features redacts == 0) ≡ true
 
-plain_fit : (redaction : Option Bookmark) → redaction ≡ None → AreFit (redacted_part redaction + sa_spill)
+first_fit : (redaction : Option Bookmark) → AreFit (redacted_part redaction + sa_spill)
 unfolding sa_spill resuming redacts
-plain_fit None e = record { small = omega arith; accepted = refl; small_blocks = refl; redacts_none = refl }
-plain_fit (Some bookmark) e = absurd cc
+first_fit None = record { small = omega arith; accepted = refl; small_blocks = refl }
+first_fit (Some bookmark) = record { small = omega arith; accepted = refl; small_blocks = refl }
 
-resumed_fit : (redaction : Option Bookmark) → redaction ≡ None → AreFit (bit_or (redacted_part redaction + sa_spill) resuming)
+resumed_fit : (redaction : Option Bookmark) → AreFit (bit_or (redacted_part redaction + sa_spill) resuming)
 unfolding sa_spill resuming redacts
-resumed_fit None e = record { small = omega arith; accepted = refl; small_blocks = refl; redacts_none = refl }
-resumed_fit (Some bookmark) e = absurd cc
+resumed_fit None = record { small = omega arith; accepted = refl; small_blocks = refl }
+resumed_fit (Some bookmark) = record { small = omega arith; accepted = refl; small_blocks = refl }
 
-says_resuming : (redaction : Option Bookmark) → redaction ≡ None → (bit_and (bit_or (redacted_part redaction + sa_spill) resuming) resuming == 0) ≡ false
-unfolding sa_spill resuming
-says_resuming None e = refl
-says_resuming (Some bookmark) e = absurd cc
+says_resuming : (redaction : Option Bookmark) → (bit_and (bit_or (redacted_part redaction + sa_spill) resuming) resuming == 0) ≡ false
+unfolding sa_spill resuming redacts
+says_resuming None = refl
+says_resuming (Some bookmark) = refl
 
-features_fit : (sent : Sent) (start : Option Point) → sent.redaction ≡ None → AreFit (begun sent start).features
+-- RESUMING leaves REDACTED as it is
+same_redacted : (redaction : Option Bookmark) → (bit_and (bit_or (redacted_part redaction + sa_spill) resuming) redacts == 0) ≡ (bit_and (redacted_part redaction + sa_spill) redacts == 0)
+unfolding sa_spill resuming redacts
+same_redacted None = refl
+same_redacted (Some bookmark) = refl
+
+features_fit : (sent : Sent) (start : Option Point) → AreFit (begun sent start).features
 unfolding features_of
-features_fit sent None whole = plain_fit sent.redaction whole
-features_fit sent (Some point) whole = resumed_fit sent.redaction whole
+features_fit sent None = first_fit sent.redaction
+features_fit sent (Some point) = resumed_fit sent.redaction
 
-states_resume : (sent : Sent) (start : Option Point) → IsStated (header_of sent) → sent.redaction ≡ None → IfSome start IsTokenPoint → StatesResume (begun sent start).features (begun sent start).resume
+states_resume : (sent : Sent) (start : Option Point) → IsStated (header_of sent) → IfSome start IsTokenPoint → StatesResume (begun sent start).features (begun sent start).resume
 unfolding features_of
-states_resume sent None stated whole fits = ap (λ (n : ℕ). n == 0) stated.unresumed
-states_resume sent (Some point) stated whole fits = record { resumed = says_resuming sent.redaction whole; object = fits.object; offset = fits.offset }
+states_resume sent None stated fits = ap (λ (n : ℕ). n == 0) stated.unresumed
+states_resume sent (Some point) stated fits = record { resumed = says_resuming sent.redaction; object = fits.object; offset = fits.offset }
+
+states_redacted : (sent : Sent) (start : Option Point) → IsStated (header_of sent) → (bit_and (begun sent start).features redacts == 0) ≡ (length (header_of sent).redact == 0)
+unfolding features_of
+states_redacted sent None stated = stated.redacted
+states_redacted sent (Some point) stated = same_redacted sent.redaction ∙ stated.redacted
 
 neither : (a b : Bool) → not (a || b) ≡ true → a ≡ false
 neither true b e = absurd cc
 neither false b e = refl
 
-module _ (lengths : PayloadHasLength) (header : Header) (features : ℕ) (resume : Option Point) (stated : IsStated header) (plain : header.redact ≡ []) (fit : AreFit features)
-    (states : StatesResume features resume)
+module _ (lengths : PayloadHasLength) (header : Header) (features : ℕ) (resume : Option Point) (stated : IsStated header) (redacted : (bit_and features redacts == 0) ≡ (length header.redact == 0))
+    (fit : AreFit features) (states : StatesResume features resume)
   where
     abbrev now : Header
     now = record header { features = features; resume = resume }
@@ -227,7 +224,7 @@ module _ (lengths : PayloadHasLength) (header : Header) (features : ℕ) (resume
       resume = states;
       redact = stated.redact;
       from_redact = stated.from_redact;
-      redacted = fit.redacts_none ∙ sym (ap (λ (guids : List ℕ). length guids == 0) plain);
+      redacted = redacted;
       source = stated.source;
     }
 
@@ -260,15 +257,13 @@ module _ (lengths : PayloadHasLength) (header : Header) (features : ℕ) (resume
     can_begin : CanBegin now
     can_begin = record { begins = fits_bare; payload = states_payload }
 
-begins : PayloadHasLength → (sent : Sent) (start : Option Point) → IsStated (header_of sent) → IsPlain sent → IfSome start IsTokenPoint → CanBegin (begun sent start)
-begins lengths sent start stated plain fits = go start fits (features_fit sent start plain.whole) (states_resume sent start stated plain.whole fits)
+begins : PayloadHasLength → (sent : Sent) (start : Option Point) → IsStated (header_of sent) → IfSome start IsTokenPoint → CanBegin (begun sent start)
+begins lengths sent start stated fits = go start fits (features_fit sent start) (states_resume sent start stated fits) (states_redacted sent start stated)
   where
-    no_redact : (header_of sent).redact ≡ []
-    no_redact = ap redaction_guids plain.whole
-
-    go : (start : Option Point) → IfSome start IsTokenPoint → AreFit (begun sent start).features → StatesResume (begun sent start).features (begun sent start).resume → CanBegin (begun sent start)
-    go None fits fit states = can_begin lengths (header_of sent) (features_of sent) None stated no_redact fit (subst (StatesResume (features_of sent)) stated.resume states)
-    go (Some point) fits fit states = can_begin lengths (header_of sent) (bit_or (features_of sent) resuming) (Some point) stated no_redact fit states
+    go : (start : Option Point) → IfSome start IsTokenPoint → AreFit (begun sent start).features → StatesResume (begun sent start).features (begun sent start).resume
+        → (bit_and (begun sent start).features redacts == 0) ≡ (length (header_of sent).redact == 0) → CanBegin (begun sent start)
+    go None fits fit states redacted = can_begin lengths (header_of sent) (features_of sent) None stated redacted fit (subst (StatesResume (features_of sent)) stated.resume states)
+    go (Some point) fits fit states redacted = can_begin lengths (header_of sent) (bit_or (features_of sent) resuming) (Some point) stated redacted fit states
 
 spills_stated : (sent : Sent) → keeps_spill (flags_of sent) ≡ false
 unfolding flags_of clone_flag free_records spill_block
@@ -284,35 +279,50 @@ spills_stated sent = go sent.source
 
 -- ---- the whole
 
-none_listed : (redaction : Option Bookmark) → redaction ≡ None → (k i : ℕ) → redaction_list redaction k i ≡ false
-none_listed None e k i = refl
-none_listed (Some bookmark) e k i = absurd cc
-
 same_flags : (sent : Sent) (start : Option Point) → keeps_spill (begun sent start).flags ≡ false
 same_flags sent None = spills_stated sent
 same_flags sent (Some point) = spills_stated sent
 
-module _ (stated : SentIsStated) (allowed : PlainIsAllowed) (lengths : PayloadHasLength) (pool : Pool) (sent : Sent) (lawful : IsPool pool) (of : IsOf pool sent) (plain : IsPlain sent)
-    (unredacted : IsUnredacted sent.snapshot.objects.state) (start : Option Point) (fits : IfSome start IsTokenPoint)
+-- a stream of a redaction bookmark may have REDACT, and one of none needs none
+has_redacted : (redaction : Option Bookmark) (bookmark : Bookmark) → redaction ≡ Some bookmark → not (bit_and (redacted_part redaction + sa_spill) redacts == 0) ≡ true
+unfolding sa_spill redacts
+has_redacted None bookmark e = absurd cc
+has_redacted (Some other) bookmark e = refl
+
+still_redacted : (redaction : Option Bookmark) (bookmark : Bookmark) → redaction ≡ Some bookmark → not (bit_and (bit_or (redacted_part redaction + sa_spill) resuming) redacts == 0) ≡ true
+unfolding sa_spill resuming redacts
+still_redacted None bookmark e = absurd cc
+still_redacted (Some other) bookmark e = refl
+
+begun_redacted : (sent : Sent) (start : Option Point) (bookmark : Bookmark) → sent.redaction ≡ Some bookmark → not (bit_and (begun sent start).features redacts == 0) ≡ true
+unfolding features_of
+begun_redacted sent None bookmark e = has_redacted sent.redaction bookmark e
+begun_redacted sent (Some point) bookmark e = still_redacted sent.redaction bookmark e
+
+may_show : (sent : Sent) (start : Option Point) → IsWithin sent → MayShowAll (begun sent start).features sent.snapshot.objects (choice_of sent)
+may_show sent start within = go sent.redaction refl
+  where
+    go : (o : Option Bookmark) → sent.redaction ≡ o → MayShowAll (begun sent start).features sent.snapshot.objects (choice_of sent)
+    go None e = inr (within.plain e, λ k i. ap (λ (o : Option Bookmark). redaction_list o k i) e)
+    go (Some bookmark) e = inl (begun_redacted sent start bookmark e)
+
+module _ (stated : SentIsStated) (allowed : SentIsAllowed) (lengths : PayloadHasLength) (pool : Pool) (sent : Sent) (lawful : IsPool pool) (of : IsOf pool sent) (within : IsWithin sent)
+    (start : Option Point) (fits : IfSome start IsTokenPoint)
   where
     is_sendable : IsSendable sent start
     is_sendable = record {
       stated = record {
         lawful = (All-contains (λ (s : Snapshot). IsGuid s.guid × IsGuidSet s.redact × IsState s.objects.state × (s.time < 2 ^ 64)) pool.snapshots sent.snapshot lawful.snapshots of.snapshot).2;
-        begins = begins lengths sent start (stated pool sent lawful of).0 plain fits;
+        begins = begins lengths sent start (stated pool sent lawful of).0 fits;
         flags = same_flags sent start;
-        allowed = allowed (begun sent start).features (begun sent start) sent.snapshot.objects (choice_of sent) (stated_point start) unredacted (none_listed sent.redaction plain.whole);
+        allowed = allowed (begun sent start).features (begun sent start) sent.snapshot.objects (choice_of sent) (stated_point start) (may_show sent start within);
       };
-      whole = plain.whole;
-      redacted = λ k object there. record { listed = λ i never. absurd cc; redacted = λ i gone. absurd (unredacted k i object there gone) };
+      redacted = within.may;
     }
 
-pub can_send : PlansAreOfPool → SentIsStated → PlainIsAllowed → PayloadHasLength → PlainCanBeSent
-can_send plans_are stated allowed lengths ask pool sent lawful e unredacted =
-    let is = opens ask pool sent e in
-    is_sendable stated allowed lengths pool sent lawful (plans_are ask pool sent lawful is.0).is_of is.1 unredacted None tt
+pub can_send : PlansAreOfPool → SentIsStated → SentIsAllowed → PayloadHasLength → SentCanBeSent
+can_send plans_are stated allowed lengths ask pool sent lawful e within = is_sendable stated allowed lengths pool sent lawful (plans_are ask pool sent lawful e).is_of within None tt
 
-pub rest_can_send : SentIsStated → PlainIsAllowed → PayloadHasLength → RestCanBeSent
-rest_can_send stated allowed lengths token pool sent point lawful e is_built unredacted fits =
-    let plain = (built_plain sent sent is_built).1 in
-    is_sendable stated allowed lengths pool sent lawful (of_token token pool sent lawful e plain.whole) plain unredacted (Some point) fits
+pub rest_can_send : SentIsStated → SentIsAllowed → PayloadHasLength → RestCanBeSent
+rest_can_send stated allowed lengths token pool sent point lawful e within fits =
+    is_sendable stated allowed lengths pool sent lawful (of_token token pool sent lawful e) within (Some point) fits

@@ -97,7 +97,7 @@ module _ (law : ReceivedIsApplied) (ask : RecvAsk) (pool : Pool) (is_name : IsDa
     fed_holds : (pieces : List (List ℕ)) → FedWell law ask pool lawful.linked sound Holds all is_name (receives ask pool pieces)
     fed_holds pieces = receive_well law ask pool lawful.linked sound Holds all is_name pieces
 
-    holds_after : (pieces : List (List ℕ)) → Holds (pool_of (receives ask pool pieces))
+    pub holds_after : (pieces : List (List ℕ)) → Holds (pool_of (receives ask pool pieces))
     holds_after pieces = go (receives ask pool pieces) (fed_holds pieces)
       where
         go : (f : Fed) → FedWell law ask pool lawful.linked sound Holds all is_name f → Holds (pool_of f)
@@ -126,7 +126,7 @@ module _ (law : ReceivedIsApplied) (ask : RecvAsk) (pool : Pool) (is_name : IsDa
       let is = stands.runs in
       record { number = is.number; target = stands.asked.target; there = new_there pool.snapshots after partial is.number (ap (λ (p : Pool). p.snapshots) is.pool_is) }
 
-kept : (pool : Pool) (partial : Partial) → Contains (kept_of pool).partials partial → Contains pool.partials partial
+pub kept : (pool : Pool) (partial : Partial) → Contains (kept_of pool).partials partial → Contains pool.partials partial
 kept pool partial there = filter_contains (λ (p : Partial). p.keep) pool.partials partial there
 
 pub receives_sound : ReceivedIsApplied → ReceivesKeepSound

@@ -182,7 +182,7 @@ module _ (start : Pool) (linked : IsLinked start) (named : AreOrdered start.snap
     origin_old : (origin : Snapshot) (name : List ℕ) → IsOrigin now origin name → Contains start.snapshots origin
     origin_old origin name is = old_of origin (origin_named is.dataset origin.name (dataset_cases is.dataset is.there) is.is_origin) is.snapshot_there
 
-    finished_origin : (origin : Snapshot) (name : List ℕ) → HasDataset start name → IsOrigin now origin name → IsOrigin start origin name
+    pub finished_origin : (origin : Snapshot) (name : List ℕ) → HasDataset start name → IsOrigin now origin name → IsOrigin start origin name
     finished_origin origin name has is = go (dataset_cases is.dataset is.there)
       where
         go : IsAfter start partial is.dataset → IsOrigin start origin name

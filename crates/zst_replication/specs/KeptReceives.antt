@@ -1,16 +1,18 @@
 -- What of a receive is kept, piece after piece (zfs-receive(8), -s), and the tokens that are told of it.
-use Rattle.std.specs.Prelude.{ℕ, ◌≡◌, ◌++◌, Bool, true, false, List, Some, None, Ok, Err}
+use Rattle.std.specs.Prelude.{ℕ, ◌≡◌, ◌++◌, Bool, true, false, List, take, Some, None, Ok, Err}
 use Rattle.std.specs.List.{concat}
 use Rattle.std.specs.Option.{option_map_or}
 use Rattle.zst_model.specs.declared.refusals.plan_fault.PlanFault.TheVariants.{NoPartial}
 use Rattle.zst_model.specs.pools.KeptPool.{kept_of}
 use Rattle.zst_model.specs.pools.Pool.{Pool, Partial, partial_of}
+use Rattle.zst_model.specs.sends.Headers.{Sent, sent_view}
 use Rattle.zst_model.specs.sends.Points.{point_of}
 use Rattle.zst_model.specs.states.AppliedItems.{apply_all}
 use Rattle.zst_plan.specs.declared.receive.RecvAsk.{RecvAsk}
 use Rattle.zst_record.specs.Heads.{Covered}
 use Rattle.zst_stream.specs.Items.{items_of}
 use Rattle.zst_stream.specs.Reading.{reading}
+use Rattle.zst_send.specs.Sends.{begun_text}
 use Rattle.zst_recv.specs.Feeds.{receives}
 use Rattle.zst_recv.specs.ReceiveSteps.{Lives, Goes}
 use Rattle.zst_recv.specs.Tokens.{token_told}
@@ -61,3 +63,21 @@ TokensAgree =
     (dataset other : List ℕ) (pool beside : Pool) (partial also : Partial)
     → partial_of dataset pool ≡ Some partial → partial_of other beside ≡ Some also → partial.keep ≡ true → also.keep ≡ true
     → partial.header ≡ also.header → partial.point ≡ also.point → token_told dataset pool ≡ token_told other beside
+
+-- Receives into targets without a partial state that have read the same bytes, in whatever pieces, and keep what they have, tell one token, whatever
+-- their pools hold.
+abbrev pub TextsHaveTokens : Type 0
+TextsHaveTokens =
+    (ask other : RecvAsk) (pool beside now later : Pool) (flags more : ℕ) (partial also : Partial) (pieces parts : List (List ℕ))
+    → partial_of ask.target pool ≡ None → partial_of other.target beside ≡ None → concat pieces ≡ concat parts
+    → receives ask pool pieces ≡ Goes now (Lives flags partial) → receives other beside parts ≡ Goes later (Lives more also) → partial.keep ≡ true → also.keep ≡ true
+    → token_told ask.target (kept_of now) ≡ token_told other.target (kept_of later)
+
+-- So do receives of two sends of one view that were cut at the same byte, whatever the redacted blocks of their snapshots held.
+abbrev pub ViewsHaveTokens : Type 0
+ViewsHaveTokens =
+    (sent twin : Sent) (ask other : RecvAsk) (pool beside now later : Pool) (flags more count : ℕ) (partial also : Partial) (pieces parts : List (List ℕ))
+    → sent_view sent ≡ sent_view twin → partial_of ask.target pool ≡ None → partial_of other.target beside ≡ None
+    → concat pieces ≡ take count (begun_text sent None) → concat parts ≡ take count (begun_text twin None)
+    → receives ask pool pieces ≡ Goes now (Lives flags partial) → receives other beside parts ≡ Goes later (Lives more also) → partial.keep ≡ true → also.keep ≡ true
+    → token_told ask.target (kept_of now) ≡ token_told other.target (kept_of later)

@@ -9,3 +9,5 @@ pub mod Soundness
 pub mod KeptReceives
 pub mod FeedFaults
 pub mod TakenSends
+pub mod PlannedReceives
+pub mod AlikeReceives

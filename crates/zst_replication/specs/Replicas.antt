@@ -6,8 +6,8 @@ use Rattle.zst_model.specs.declared.sends.header.Point.{Point}
 use Rattle.zst_model.specs.pools.KeptPool.{kept_of}
 use Rattle.zst_model.specs.pools.Pool.{Pool, Partial, IsPool, partial_of}
 use Rattle.zst_model.specs.sends.Headers.{Sent, header_of, choice_of, sent_view}
-use Rattle.zst_model.specs.sends.Inclusion.{no_pairs}
-use Rattle.zst_model.specs.sends.Target.{BaseOk, CanRedact}
+use Rattle.zst_model.specs.sends.Target.{BaseOk, CanRedact, redacted}
+use Rattle.zst_model.specs.states.State.{State}
 use Rattle.zst_plan.specs.RecvPlan.{Base, Begins, recv_plan}
 use Rattle.zst_plan.specs.declared.receive.RecvAsk.{RecvAsk}
 use Rattle.zst_record.specs.Payload.{stated_point}
@@ -18,11 +18,14 @@ use Rattle.zst_recv.specs.Feeds.{receives}
 use Rattle.zst_recv.specs.ReceiveSteps.{Stage, Ends, Fed, Goes, Stops, left_by, pool_of}
 use Rattle.zst_replication.specs.Outcomes.{HasNothing, HasOneMore, Progress, base_name, base_objects, course_from}
 
--- a stream can state what is sent, from its beginning or from a point, of which nothing is to be redacted, and what is redacted already is user data
+-- what a receiver gets of what is sent: the snapshot's state, of which the redaction bookmark's pairs are redacted
+abbrev pub sent_state : Sent → State
+sent_state sent = redacted sent.snapshot.objects.state (choice_of sent).redact
+
+-- a stream can state what is sent, from its beginning or from a point, and what is redacted of it, or is to be, is user data
 pub record IsSendable (sent : Sent) (start : Option Point) : Type 0 where
   pub stated : CanSend (begun sent start) sent.snapshot.objects (choice_of sent) (stated_point start)
-  pub whole : sent.redaction ≡ None
-  pub redacted : CanRedact sent.snapshot.objects.state no_pairs
+  pub redacted : CanRedact sent.snapshot.objects.state (choice_of sent).redact
 
 -- what the receiver begins with is fit for what is sent
 abbrev pub MatchesBase : Sent → RecvAsk → Pool → Type 0
@@ -34,15 +37,15 @@ MatchesBase sent ask pool =
 abbrev pub AreOfStream : List (List ℕ) → Sent → Option Point → Type 0
 AreOfStream pieces sent start = (unread behind : List ℕ) × (concat pieces ++ unread ≡ begun_text sent start ++ behind)
 
--- However it is cut into pieces, a stream that was sent and is received to its end makes one snapshot more: the one that was sent, of the
--- component and over the base that the receive was planned with.
+-- However it is cut into pieces, a stream that was sent and is received to its end makes one snapshot more: the one that was sent, redacted as it
+-- was asked, of the component and over the base that the receive was planned with.
 abbrev pub SentIsReceived : Type 0
 SentIsReceived =
     (sent : Sent) (ask : RecvAsk) (pool after : Pool) (partial : Partial) (pieces : List (List ℕ))
     → IsSendable sent None → IsPool pool → partial_of ask.target pool ≡ None → MatchesBase sent ask pool
     → AreOfStream pieces sent None → receives ask pool pieces ≡ Goes after (Ends partial)
     → (base : Base) × (recv_plan ask (header_of sent) pool ≡ Ok (Begins partial.component base))
-    × HasOneMore pool after ask.target partial.component (base_name base) (header_of sent) sent.snapshot.objects.state
+    × HasOneMore pool after ask.target partial.component (base_name base) (header_of sent) (sent_state sent)
 
 -- Every stop of a receive of a send, wherever its stream is cut off and however it is cut into pieces: what the image keeps is in its
 -- progress.

@@ -24,7 +24,7 @@ use Rattle.zst_recv.specs.ReceiveSteps.{Lives, Ends, Goes, opened, pool_of}
 use Rattle.zst_recv.specs.Tokens.{token_told}
 use Rattle.zst_token.specs.PartialToken.{token_for}
 use Rattle.zst_replication.specs.Outcomes.{HasOneMore, Progress, base_name, base_objects, course_on}
-use Rattle.zst_replication.specs.Replicas.{AreOfStream, IsSendable, MatchesBase}
+use Rattle.zst_replication.specs.Replicas.{AreOfStream, IsSendable, MatchesBase, sent_state}
 
 -- the target has a partial state that is kept, and that is part of the way to what is sent, from a base of this state
 pub record IsUnderway (sent : Sent) (target : List ℕ) (state : State) (pool : Pool) (partial : Partial) : Type 0 where
@@ -54,13 +54,13 @@ RestIsReceived =
     → receives ask pool pieces ≡ Goes after (Ends last)
     → (whole : State) × (target (sent_view sent) state ≡ Ok whole) × HasOneMore pool after ask.target partial.component partial.base (header_of sent) whole
 
--- So it makes the snapshot that was sent, where the base was fit for it.
+-- So it makes the snapshot that was sent, redacted as it was asked, where the base was fit for it.
 abbrev pub FitRestIsReceived : Type 0
 FitRestIsReceived =
     (sent also : Sent) (state : State) (ask : RecvAsk) (pool after : Pool) (partial last : Partial) (pieces : List (List ℕ))
     → IsPool pool → IsUnderway sent ask.target state pool partial → GivesRest sent also partial.point → AreOfStream pieces also (Some partial.point)
     → IsSendable sent None → IsState state → BaseOk state sent.snapshot.objects (choice_of sent) → receives ask pool pieces ≡ Goes after (Ends last)
-    → HasOneMore pool after ask.target partial.component partial.base (header_of sent) sent.snapshot.objects.state
+    → HasOneMore pool after ask.target partial.component partial.base (header_of sent) (sent_state sent)
 
 -- a partial state is what these items make of that with which a plan begins, at the point to which they lead
 pub record IsApplied (ask : RecvAsk) (pool : Pool) (flags : ℕ) (items : List Item) (partial : Partial) : Type 0 where
@@ -137,10 +137,10 @@ ChainsAreUnderway =
     → IsUnderway sent target (base_objects base).state pool partial × (partial.component ≡ component) × (partial.base ≡ base_name base)
 
 -- So a chain of cut and resumed sessions that comes to END makes one snapshot more: the one that was sent, with its guid, objects, contents and
--- holes, of the first one's component and over its base.
+-- holes, redacted as it was asked, of the first one's component and over its base.
 abbrev pub ChainsComplete : Type 0
 ChainsComplete =
     (sent also : Sent) (target component : List ℕ) (base : Base) (ask : RecvAsk) (pool after : Pool) (partial last : Partial) (pieces : List (List ℕ))
     → Chain sent target component base pool → ask.target ≡ target → IsPool pool → partial_of target pool ≡ Some partial
     → GivesRest sent also partial.point → AreOfStream pieces also (Some partial.point) → receives ask pool pieces ≡ Goes after (Ends last)
-    → HasOneMore pool after target component (base_name base) (header_of sent) sent.snapshot.objects.state
+    → HasOneMore pool after target component (base_name base) (header_of sent) (sent_state sent)

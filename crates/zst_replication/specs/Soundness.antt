@@ -4,6 +4,7 @@ use Rattle.zst_names.specs.Names.{IsDataset}
 use Rattle.zst_model.specs.pools.KeptPool.{kept_of}
 use Rattle.zst_model.specs.pools.Pool.{Pool, IsPool}
 use Rattle.zst_model.specs.pools.Soundness.{Sound}
+use Rattle.zst_laws.specs.RedactionLists.{AreListed, HaveNewGuids, HaveOwnGuids}
 use Rattle.zst_plan.specs.declared.receive.RecvAsk.{RecvAsk}
 use Rattle.zst_recv.specs.Feeds.{receives}
 use Rattle.zst_recv.specs.ReceiveSteps.{pool_of}
@@ -15,3 +16,11 @@ ReceivesKeepSound =
     (ask : RecvAsk) (pool : Pool) (pieces : List (List ℕ))
     → IsDataset ask.target → IsPool pool → Sound pool
     → Sound (pool_of (receives ask pool pieces)) × Sound (kept_of (pool_of (receives ask pool pieces)))
+
+-- Whatever is read, what the redaction bookmarks of a sound pool list stays so through a receive, as long as no two of its snapshots have one guid, and
+-- the new snapshot's guid is none that a redaction bookmark has: in the pool that runs, and in what the image keeps of it.
+abbrev pub ReceivesKeepLists : Type 0
+ReceivesKeepLists =
+    (ask : RecvAsk) (pool : Pool) (pieces : List (List ℕ))
+    → IsDataset ask.target → IsPool pool → Sound pool → HaveOwnGuids pool → HaveNewGuids pool (pool_of (receives ask pool pieces)) → AreListed pool
+    → AreListed (pool_of (receives ask pool pieces)) × AreListed (kept_of (pool_of (receives ask pool pieces)))

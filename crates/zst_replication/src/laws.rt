@@ -1,11 +1,12 @@
 ghost use Rattle.zst_replication.specs.RecordCounts.{RecordsAreCounted};
 ghost use Rattle.zst_replication.specs.Grounds.{Grounds};
 ghost use Rattle.zst_replication.specs.Histories.{EventsAreHistory, ReceivedRemembers, ReceivesRemember};
-ghost use Rattle.zst_replication.specs.MatchingBases.{BasesMatch, FullMatches, OneMoreIsKept, PlainCanBeSent, RestCanBeSent, SourceIsKnown};
+ghost use Rattle.zst_replication.specs.MatchingBases.{BasesMatch, FullMatches, OneMoreIsKept, SentCanBeSent, RestCanBeSent, SourceIsKnown};
+ghost use Rattle.zst_replication.specs.PlannedReceives.{FullIsPlanned, IncrementIsPlanned};
 ghost use Rattle.zst_replication.specs.Replicas.{CutLeavesNothing, LeftIsKept, SentIsReceived, StopsAreProgress};
 ghost use Rattle.zst_replication.specs.Resumption.{ChainsAreUnderway, ChainsComplete, EndsAreApplied, FitRestIsReceived, PiecesAreApplied, RestIsReceived, ResumedStopsAreProgress, TokensGoOn};
 ghost use Rattle.zst_replication.specs.Soundness.{ReceivesKeepSound};
-ghost use Rattle.zst_replication.specs.TakenSends.{SentIsTaken};
+ghost use Rattle.zst_replication.specs.TakenSends.{ReceivesStayInLimits, RestIsAccepted, RestIsTaken, SentIsAccepted, SentIsTaken};
 
 /// What a feed applies is counted by the records that its text covers.
 pub fn records_are_counted()
@@ -45,9 +46,40 @@ pub fn sent_is_taken()
     ensures { SentIsTaken }
 {
     grounds_stand();
-    zst_stream::plain_is_allowed();
     zst_stream::items_are_near();
 }
+
+/// A full send passes the plan of a receive into a pool where the target isn't there, and an increment where the target stands at
+/// its source.
+pub fn sent_is_planned()
+    ensures full { FullIsPlanned }
+    ensures increment { IncrementIsPlanned }
+{
+    zst_plan::streams_are_accepted();
+}
+
+/// Where its plan passes, which asks for room, and the pool's number can rise with each piece, it is refused by nothing at all.
+pub fn sent_is_accepted()
+    ensures { SentIsAccepted }
+{
+    grounds_stand();
+    zst_stream::items_are_near();
+}
+
+/// So it is of the rest of it, for a partial state on its way: a commit alone refuses it, and none does in a pool within its limits.
+pub fn rest_is_accepted()
+    ensures taken { RestIsTaken }
+    ensures accepted { RestIsAccepted }
+{
+    grounds_stand();
+    zst_stream::items_are_near();
+    tokens_go_on();
+}
+
+/// Whatever is read, a receive leaves a pool within its limits so.
+pub fn receives_stay_in_limits()
+    ensures { ReceivesStayInLimits }
+{}
 
 /// Of a receive without `-s` that hasn't come to END the image keeps nothing, whatever was read.
 pub fn cut_leaves_nothing()
@@ -121,13 +153,14 @@ pub fn one_more_is_kept()
     ensures { OneMoreIsKept }
 {}
 
-/// What is sent of a lawful pool can be stated and read, as long as no block of its snapshot is redacted.
-pub fn plain_can_be_sent()
-    ensures { PlainCanBeSent }
+/// What is planned of a lawful pool can be stated and read: what is redacted of it, or is to be, is user data, and a send without a
+/// redaction bookmark has nothing redacted.
+pub fn sent_can_be_sent()
+    ensures { SentCanBeSent }
 {
     zst_laws::plans_are_of_pool();
     zst_laws::sends_are_stated();
-    zst_stream::plain_is_allowed();
+    zst_stream::sent_is_allowed();
     zst_record::payload_has_length();
 }
 
@@ -136,7 +169,7 @@ pub fn rest_can_be_sent()
     ensures { RestCanBeSent }
 {
     zst_laws::sends_are_stated();
-    zst_stream::plain_is_allowed();
+    zst_stream::sent_is_allowed();
     zst_record::payload_has_length();
 }
 
