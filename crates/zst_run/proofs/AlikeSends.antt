@@ -1,15 +1,23 @@
 -- Sends of one view write alike.
-use Rattle.std.proofs.Common.{◌≡◌, ◌⊎◌, inl, inr, ⊎_elim, ℕ, Option, Result, List, [], ◌∷◌, ◌++◌, Ok, refl, sym, ap, ◌∙◌, subst}
+use Rattle.std.proofs.Common.{◌≡◌, ◌⊎◌, inl, inr, ⊎_elim, ℕ, Option, None, Result, List, [], ◌∷◌, ◌++◌, Ok, refl, sym, ap, ◌∙◌, subst}
 use Rattle.std.proofs.lemmas.List.{append-nil}
 use Rattle.zst_outside.specs.Images.{DiskState}
 use Rattle.zst_outside.specs.States.{SinkState}
 use Rattle.zst_outside.specs.Printing.{Printed, Wrote}
 use Rattle.zst_model.specs.declared.refusals.plan_fault.PlanFault.{PlanFault}
 use Rattle.zst_model.specs.declared.refusals.refusal.Refusal.{Refusal}
+use Rattle.zst_model.specs.declared.sends.ask.SendAsk.{SendAsk}
 use Rattle.zst_model.specs.declared.sends.header.Point.{Point}
+use Rattle.zst_model.specs.pools.Pool.{Pool}
 use Rattle.zst_model.specs.sends.Headers.{Sent}
+use Rattle.zst_image.specs.Reads.{free_by, kept_rows}
+use Rattle.zst_block.specs.Blocks.{Has}
+use Rattle.zst_pool.proofs.NamedPools.{rows_named}
+use Rattle.zst_send.specs.Openings.{RowsStandForSends}
 use Rattle.zst_send.specs.Sends.{SameViewsSameRest, begun_text}
-use Rattle.zst_run.specs.Sends.{SendEnds, SendsOf, SentAlike, start_of, text_for}
+use Rattle.zst_laws.specs.AlikePools.{AlikePoolsAreSentAlike}
+use Rattle.zst_run.specs.declared.send.SendRequest.TheVariants.{Named}
+use Rattle.zst_run.specs.Sends.{ReadsForSends, SendEnds, SendsOf, SentAlike, SentOf, TwoWorldsAreSentAlike, start_of, text_for}
 
 -- of two fronts of one text one is a front of the other
 fronts : (one left other behind : List ℕ) → one ++ left ≡ other ++ behind
@@ -58,3 +66,42 @@ sent_alike same here here' there there' = record {
         ∙ ap (λ (bytes : List ℕ). into.written ++ bytes) (sym (same sent also start views));
   };
 }
+
+-- ---- two worlds
+
+-- a run of what was asked by names is one of a send
+named_run : (ask : SendAsk) (pool : Pool) (sent : Sent) (here here' : DiskState) (out out' : SinkState) (result : Result (Unit {0}) Refusal) → SentOf ask pool sent here here' out out' result
+    → SendsOf sent None here here' out out' result
+named_run ask pool sent here here' out out' result s =
+    record { request = Named ask; begins = refl; pool = pool; honest = s.honest; reads = s.reads; is = s.is; sends = s.sends }
+
+pub worlds_alike : AlikePoolsAreSentAlike → SameViewsSameRest → (here here' there there' : DiskState) → TwoWorldsAreSentAlike here here' there there'
+worlds_alike alike same here here' there there' = record {
+  front = λ ask pool other sent also out out' into into' one another like s t.
+      (sent_alike same here here' there there').front sent also None out out' into into' one another (alike ask pool other sent also s.is t.is like)
+      (named_run ask pool sent here here' out out' one s) (named_run ask other also there there' into into' another t);
+  equal = λ ask pool other sent also out out' into into' like s t.
+      (sent_alike same here here' there there').equal sent also None out out' into into' (alike ask pool other sent also s.is t.is like)
+      (named_run ask pool sent here here' out out' (Ok tt) s) (named_run ask other also there there' into into' (Ok tt) t);
+}
+
+-- an image that reads as a pool has what each send needs
+pub reads_for_sends : RowsStandForSends → ReadsForSends
+reads_for_sends law request pool image is =
+    let uber = is.0 in
+    let rows = is.1 in
+    let reads = is.2 in
+    let all = reads.described in (
+      uber,
+      rows,
+      record {
+        stands = reads.stands;
+        fits = reads.fits;
+        in_range = reads.in_range;
+        extents = all.extents;
+        directory = all.directory;
+        named = record { id = all.id; number = all.number; guids = all.guids; are_named = rows_named (Has image (free_by uber)) (kept_rows rows) pool all.rows_are };
+        lawful = all.lawful;
+        sent = λ sent planned. law image (free_by uber) (kept_rows rows) pool sent all.rows_are;
+      },
+    )

@@ -1,5 +1,5 @@
 -- The rest of a stream, which a token asked for, received in any number of runs.
-use Rattle.std.specs.Prelude.{Bool, true, false, not, if◌then◌else◌, ◌≤◌, ◌<◌, ◌^◌, Result, Ok, Err}
+use Rattle.std.specs.Prelude.{Bool, true, false, if◌then◌else◌, ◌≤◌, ◌<◌, ◌^◌, Result, Ok, Err}
 use Rattle.std.specs.List.{concat}
 use Rattle.std.proofs.Common.{◌≡◌, ℕ, List, take, Option, Some, None, refl, sym, ap, ◌∙◌, subst}
 use Rattle.zst_outside.specs.Images.{DiskState}
@@ -11,11 +11,10 @@ use Rattle.zst_model.specs.declared.sends.header.Point.{Point}
 use Rattle.zst_model.specs.pools.KeptPool.{kept_of}
 use Rattle.zst_model.specs.pools.Pool.{Pool, IsPool, Partial, partial_of}
 use Rattle.zst_model.specs.sends.Headers.{Sent, header_of, sent_view}
-use Rattle.zst_model.specs.states.AppliedItems.{unless, ◌>>=◌}
+use Rattle.zst_model.specs.states.AppliedItems.{unless}
 use Rattle.zst_model.specs.states.State.{number_bound}
 use Rattle.zst_plan.specs.ResumePlan.{resumed_send}
 use Rattle.zst_plan.specs.declared.receive.RecvAsk.{RecvAsk}
-use Rattle.zst_send.specs.Openings.{built, is_plain, rest_of}
 use Rattle.zst_send.specs.Sends.{begun_text}
 use Rattle.zst_recv.specs.Feeds.{receives}
 use Rattle.zst_recv.specs.ReceiveSteps.{pool_of}
@@ -24,23 +23,14 @@ use Rattle.zst_token.specs.PartialToken.{token_for}
 use Rattle.zst_token.specs.declared.token.Token.{Token}
 use Rattle.zst_replication.specs.MatchingBases.{OneMoreIsKept, RestCanBeSent}
 use Rattle.zst_replication.specs.Outcomes.{HasOneMore, Progress, base_name, course_on}
-use Rattle.zst_replication.specs.Replicas.{AreOfStream}
+use Rattle.zst_replication.specs.Replicas.{AreOfStream, sent_state}
 use Rattle.zst_replication.specs.Resumption.{Begun, Chain, GivesRest, GoneOn, RestIsReceived, ResumedStopsAreProgress}
 use Rattle.zst_replication.specs.Resumption as resumption
 use Rattle.zst_run.specs.Replication.{ChainsComplete, IsReadOf, IsRestReceiver, IsRestSender, RestsAreProgress, RunsAreChained, SentRestStands}
 use Rattle.zst_run.specs.declared.send.SendRequest.TheVariants.{Rest}
-use Rattle.zst_run.proofs.PipedRuns.{Fits, KeepsWhole, each_image, first_of_stream, into_is, matches, pieces_read, planned_of, received_so, sendable, text_sent, whole}
+use Rattle.zst_run.proofs.PipedRuns.{Fits, KeepsWhole, each_image, first_of_stream, into_is, matches, pieces_read, received_so, sendable, text_sent, whole}
 
 -- ---- what a token asks for
-
--- what is built is planned so again
-built_again : (plan : Result Sent PlanFault) (sent : Sent) → plan >>= built ≡ Ok sent → built sent ≡ Ok sent
-built_again (Ok found) sent opens = go (not (is_plain found)) opens
-  where
-    go : (test : Bool) → unless test (plans.Unsupported lacks.NotBuilt) (Ok found) ≡ Ok sent → built sent ≡ Ok sent
-    go true is = absurd cc
-    go false is = let same : found ≡ sent = cc in subst (λ (s : Sent). built s ≡ Ok sent) same opens
-built_again (Err fault) sent opens = absurd cc
 
 -- a token without large blocks asks for what its plan gives
 looked_up : (large : Bool) (plan : Result Sent PlanFault) (sent : Sent) → unless large (plans.Unsupported lacks.LargeBlocks) plan ≡ Ok sent → plan ≡ Ok sent
@@ -75,8 +65,8 @@ module _ (can : RestCanBeSent) (tight : Bool) (token : Token) (receive : RecvAsk
   gives_at : (point : Point) → point ≡ token.point → GivesRest sent also point
   gives_at point same = record {
     same_view = sender.same_view;
-    sendable = can token from also point sender.reads.2.described.lawful
-        (looked_up token.large (resumed_send token from) also (planned_of (rest_of token from) also sender.is)) (built_again (rest_of token from) also sender.is) sender.plain
+    sendable = can token from also point sender.reads.2.lawful
+        (looked_up token.large (resumed_send token from) also sender.is) sender.within
         (record {
           object = subst (λ (p : Point). p.object ≤ number_bound) (sym same) sender.is_token.object;
           offset = subst (λ (p : Point). p.offset < 2 ^ 64) (sym same) sender.is_token.offset;
@@ -162,7 +152,7 @@ chains_so keeps can law kept here there there' tight token receive from into sen
     (gives can tight token receive from into sent also here there there' sender receiver) (of_rest can tight token receive from into sent also here there there' sender receiver run.pieces input input' read run.consumed) done.is in (
       done.after,
       done.keeps,
-      subst (λ (p : Pool). HasOneMore p (kept_of done.after) receive.target component (base_name base) (header_of sent) sent.snapshot.objects.state)
+      subst (λ (p : Pool). HasOneMore p (kept_of done.after) receive.target component (base_name base) (header_of sent) (sent_state sent))
           (whole keeps tight receiver.uber receiver.rows into there.seen receiver.reads)
-          (kept into done.after receive.target component (base_name base) (header_of sent) sent.snapshot.objects.state one),
+          (kept into done.after receive.target component (base_name base) (header_of sent) (sent_state sent) one),
     )

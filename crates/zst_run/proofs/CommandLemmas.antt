@@ -1,6 +1,6 @@
 -- What stands after a command on the pool of an image, from what opening and stepping say.
 use Rattle.std.specs.Prelude.{false, Some, None, Result, Ok, Err}
-use Rattle.std.proofs.Common.{◌≡◌, ◌≢◌, ◌⊎◌, inl, inr, ⊎_elim, ℕ, ◌≤◌, List, [], refl, sym, ap, ◌∙◌, subst, arith, Bool}
+use Rattle.std.proofs.Common.{◌≡◌, ◌≢◌, ◌⊎◌, inl, inr, ⊎_elim, ℕ, ◌≤◌, List, [], ◌∷◌, refl, sym, ap, ◌∙◌, subst, arith, Bool}
 use Rattle.zst_outside.specs.Causes.{Rose-earlier}
 use Rattle.zst_outside.specs.Images.{DiskState, Leaves, Leaves-weaker, Leaves-then, OnlyReads, OnlyReads-then, IsSynced}
 use Rattle.zst_space.specs.FreeSectors.{FreeSectors}
@@ -19,6 +19,7 @@ use Rattle.zst_model.proofs.PlanFaults.{plan_cases, plan_of, plan_is}
 use Rattle.zst_laws.specs.StepInvariants.{StepsKeepKept}
 use Rattle.zst_tree.specs.Damage.{IsSeen, NamesNode, SumsUp}
 use Rattle.zst_objset.specs.Damage.{IsDamagedBlock, IsDamagedObject, IsDamagedSet}
+use Rattle.zst_redact.specs.Damage.{IsDamagedAmong}
 use Rattle.zst_dir.specs.Rows.{Rows}
 use Rattle.zst_pool.proofs.PoolsAtRest.{rest_plain}
 use Rattle.zst_image.specs.Faults.{open_refusal}
@@ -32,7 +33,8 @@ use Rattle.zst_pool.specs.Calls.{IsAtRest}
 use Rattle.zst_pool.specs.Cost.{FindsLess, FindsNoRoom, Grows, HasNoRoom, cost_of, most_sectors}
 use Rattle.zst_pool.specs.Damage.{IsOf, OfHead, OfSet, TellsDamage}
 use Rattle.zst_pool.specs.Faults.{HasDiskCause, StepFault, pool_refusal}
-use Rattle.zst_pool.specs.Plans.{Plans, indices_end, numbers_end}
+use Rattle.zst_pool.specs.Plans.{Plans, indices_end, makes_list, numbers_end}
+use Rattle.zst_pool.specs.Redactions.{rows_of, sets_of}
 use Rattle.zst_pool.specs.StepAnswers.{BeforeOrAfter, StepAnswer}
 use Rattle.zst_pool.specs.declared.fault.PoolFault.{PoolFault}
 use Rattle.zst_pool.specs.declared.fault.PoolFault.TheVariants as faults
@@ -188,7 +190,7 @@ with_rows P kept rows same is = subst P same is
 
 -- what a refused command leaves
 pub answers_refused : {tight : Bool} (command : Command) (here' : DiskState) (kept : PoolState) (rows : Rows) (pool : Pool) (after : Result Stepped Refusal) (fault : PoolFault) → kept.dir ≡ kept_rows rows
-    → ((left : FreeSectors) × FindsNoRoom (cost_of command).cells ((cost_of command).block pool) kept left fault) → FindsLess (cost_of command).cells ((cost_of command).block pool) kept.body after fault → (fault ≢ faults.DiskFault → IsAtRest tight here' kept pool → Rests tight here' kept.body rows pool) → StepFault (IsAtRest tight here' kept pool) after fault
+    → ((left : FreeSectors) × FindsNoRoom (cost_of command).cells ((cost_of command).block pool) ((cost_of command).list pool) kept left fault) → FindsLess (cost_of command).cells ((cost_of command).block pool) ((cost_of command).list pool) kept.body after fault → (fault ≢ faults.DiskFault → IsAtRest tight here' kept pool → Rests tight here' kept.body rows pool) → StepFault (IsAtRest tight here' kept pool) after fault
     → Answers tight command kept.body rows pool here' after (Err (pool_refusal fault))
 answers_refused {tight = tight} command here' kept rows pool after (faults.Plan fault) same room less still is =
     let rests = still (λ e. absurd (cc e)) is.1 in
@@ -199,7 +201,7 @@ answers_refused {tight = tight} command here' kept rows pool after (faults.Full 
   record {
     done = is.0.0;
     accepts = is.0.1;
-    short = (room.0, with_rows (λ r. HasNoRoom (cost_of command).cells ((cost_of command).block pool) kept.body r room.0 need largest) kept rows same (room.1 need largest refl));
+    short = (room.0, with_rows (λ r. HasNoRoom (cost_of command).cells ((cost_of command).block pool) ((cost_of command).list pool) kept.body r room.0 need largest) kept rows same (room.1 need largest refl));
     costs = less need largest refl;
   },
   still (λ e. absurd (cc e)) is.1,
@@ -239,6 +241,8 @@ told_of_start here mid rows space sector stated found (commands.Free dataset fir
 told_of_start here mid rows space sector stated found (commands.Snapshot name) reads is = is
 told_of_start here mid rows space sector stated found (commands.Clone origin dataset) reads is = is
 told_of_start here mid rows space sector stated found (commands.Bookmark snapshot bookmark) reads is = is
+told_of_start here mid rows space sector stated found (commands.Redact snapshot bookmark redactions) reads is =
+    told_before here mid (λ seen size. IsDamagedAmong (IsSeen seen) size (sets_of (rows_of (snapshot ∷ redactions) rows)) sector stated found) reads is
 told_of_start here mid rows space sector stated found (commands.Rollback destroys snapshot) reads is = is
 told_of_start here mid rows space sector stated found (commands.Destroy name) reads is = is
 told_of_start here mid rows space sector stated found (commands.Abort dataset) reads is = is
@@ -250,7 +254,7 @@ told_of_start here mid rows space sector stated found (commands.ListObjects name
 
 -- what a plan refuses, as a refusal of the whole
 planned_refused : (now : ℕ) (command : Command) (kept : PoolState) (rows : Rows) (fault : PoolFault) → kept.dir ≡ kept_rows rows
-    → Plans {T = List (List ℕ)} (λ pool. stepped [] now command pool) (numbers_end command) (indices_end command) kept (Err fault)
+    → Plans {T = List (List ℕ)} (λ pool. stepped [] now command pool) (numbers_end command) (indices_end command) (makes_list command) kept (Err fault)
     → Planned now command kept.body rows (Err (pool_refusal fault))
 planned_refused now command kept rows fault same is = record {
   exact = λ pool plan named told.
@@ -262,7 +266,7 @@ planned_refused now command kept rows fault same is = record {
 }
 
 planned_done : (now : ℕ) (command : Command) (kept : PoolState) (rows : Rows) (lines : List (List ℕ)) → kept.dir ≡ kept_rows rows
-    → Plans {T = List (List ℕ)} (λ pool. stepped [] now command pool) (numbers_end command) (indices_end command) kept (Ok lines)
+    → Plans {T = List (List ℕ)} (λ pool. stepped [] now command pool) (numbers_end command) (indices_end command) (makes_list command) kept (Ok lines)
     → Planned now command kept.body rows (Ok lines)
 planned_done now command kept rows lines same is = record {
   exact = λ pool plan named told. (
@@ -274,9 +278,9 @@ planned_done now command kept rows lines same is = record {
 
 -- a command that was refused on what was opened
 ran_refused : (now : ℕ) (command : Command) (here mid here' : DiskState) (kept : PoolState) (rows : Rows) (fault : PoolFault) → kept.dir ≡ kept_rows rows → Opens here kept.body rows → OnlyReads here mid
-    → SparesTaken (free_by kept.body) here.seen here'.seen → ((left : FreeSectors) × (block : ℕ) × (block ≤ (cost_of command).most) × FindsNoRoom (cost_of command).cells block kept left fault)
+    → SparesTaken (free_by kept.body) here.seen here'.seen → ((left : FreeSectors) × (block : ℕ) × (block ≤ (cost_of command).most) × FindsNoRoom (cost_of command).cells block (cost_of command).most_list kept left fault)
     → IsOf (TellsDamage command kept.dir mid (free_by kept.body)) fault
-    → (fault ≢ faults.OutOfMemory → Plans {T = List (List ℕ)} (λ pool. stepped [] now command pool) (numbers_end command) (indices_end command) kept (Err fault))
+    → (fault ≢ faults.OutOfMemory → Plans {T = List (List ℕ)} (λ pool. stepped [] now command pool) (numbers_end command) (indices_end command) (makes_list command) kept (Err fault))
     → Ran now command here here' (Err (pool_refusal fault)) kept.body rows
 ran_refused now command here mid here' kept rows fault same opens reads spares room damaged plan = record {
   opens = opens;
@@ -284,7 +288,7 @@ ran_refused now command here mid here' kept rows fault same opens reads spares r
   full = λ need largest is. (
     room.1,
     room.2,
-    (room.0, with_rows (λ r. HasNoRoom (cost_of command).cells room.1 kept.body r room.0 need largest) kept rows same (room.3 need largest (full_only fault need largest (cc is)))),
+    (room.0, with_rows (λ r. HasNoRoom (cost_of command).cells room.1 (cost_of command).most_list kept.body r room.0 need largest) kept rows same (room.3 need largest (full_only fault need largest (cc is)))),
   );
   damaged = λ sector stated found is.
       told_of_start here mid (kept_rows rows) (free_by kept.body) sector stated found command reads
@@ -293,7 +297,7 @@ ran_refused now command here mid here' kept rows fault same opens reads spares r
 }
 
 ran_done : (now : ℕ) (command : Command) (here here' : DiskState) (kept : PoolState) (rows : Rows) (lines : List (List ℕ)) → kept.dir ≡ kept_rows rows → Opens here kept.body rows
-    → Plans {T = List (List ℕ)} (λ pool. stepped [] now command pool) (numbers_end command) (indices_end command) kept (Ok lines)
+    → Plans {T = List (List ℕ)} (λ pool. stepped [] now command pool) (numbers_end command) (indices_end command) (makes_list command) kept (Ok lines)
     → Ran now command here here' (Ok lines) kept.body rows
 ran_done now command here here' kept rows lines same opens plan = record {
   opens = opens;
@@ -369,7 +373,7 @@ module _ (laws : KeepLaws) (one : ReadsOne) (stay : ReadsStay) (now : ℕ) (comm
   images tight pool told is = images_after here here' (OldOrReads tight here pool (stepped [] now command pool)) (moments tight pool told is) (λ c image. inl image) only now_left
 
   done : (tight : Bool) (uber : Uber) (rows : Rows) (pool : Pool) (lines : List (List ℕ)) → GivesPool uber rows (Ok kept) → KeepsAll pool
-      → Grows (most_sectors (cost_of command).cells ((cost_of command).block pool) kept.dir) kept.body kept'.body → StepAnswer tight here' kept' pool (stepped [] now command pool) (Ok lines)
+      → Grows (most_sectors (cost_of command).cells ((cost_of command).block pool) ((cost_of command).list pool) kept.dir) kept.body kept'.body → StepAnswer tight here' kept' pool (stepped [] now command pool) (Ok lines)
       → Answers tight command uber rows pool here' (stepped [] now command pool) (Ok lines)
   done tight uber rows pool lines same all grows is = for_kept (λ u. Answers tight command u rows pool here' (stepped [] now command pool) (Ok lines)) kept uber rows same (record {
     done = is.0;
@@ -378,12 +382,12 @@ module _ (laws : KeepLaws) (one : ReadsOne) (stay : ReadsStay) (now : ℕ) (comm
     body = kept'.body;
     directory = is.3.rows;
     rests = subst (λ (p : Pool). Rests tight here' kept'.body is.3.rows p) (kept_done laws now command pool is.0 all is.1) is.3.rests;
-    grows = with_rows (λ r. Grows (most_sectors (cost_of command).cells ((cost_of command).block pool) r) kept.body kept'.body) kept rows same.1 grows;
+    grows = with_rows (λ r. Grows (most_sectors (cost_of command).cells ((cost_of command).block pool) ((cost_of command).list pool) r) kept.body kept'.body) kept rows same.1 grows;
   })
 
   pub stepping_done : (lines : List (List ℕ)) → mid.faults ≤ here'.faults
-      → Plans {T = List (List ℕ)} (λ pool. stepped [] now command pool) (numbers_end command) (indices_end command) kept (Ok lines)
-      → ((pool : Pool) → here'.honest → IsAtRest false mid kept pool → Grows (most_sectors (cost_of command).cells ((cost_of command).block pool) kept.dir) kept.body kept'.body)
+      → Plans {T = List (List ℕ)} (λ pool. stepped [] now command pool) (numbers_end command) (indices_end command) (makes_list command) kept (Ok lines)
+      → ((pool : Pool) → here'.honest → IsAtRest false mid kept pool → Grows (most_sectors (cost_of command).cells ((cost_of command).block pool) ((cost_of command).list pool) kept.dir) kept.body kept'.body)
       → ((tight : Bool) (pool : Pool) → here'.honest → IsAtRest tight mid kept pool → StepAnswer tight here' kept' pool (stepped [] now command pool) (Ok lines))
       → Stepping now command here here' (Ok lines)
   stepping_done lines after plan grows did = record {
@@ -413,11 +417,11 @@ module _ (laws : KeepLaws) (one : ReadsOne) (stay : ReadsStay) (now : ℕ) (comm
 
   pub stepping_refused : (fault : PoolFault) → kept' ≡ kept → HasDiskCause {T = List (List ℕ)} mid.faults here'.faults (Err fault) → fault ≢ faults.Failed
       → (fault ≢ faults.DiskFault → SparesTaken (free_by kept.body) mid.seen here'.seen)
-      → ((left : FreeSectors) × (block : ℕ) × (block ≤ (cost_of command).most) × FindsNoRoom (cost_of command).cells block kept left fault)
+      → ((left : FreeSectors) × (block : ℕ) × (block ≤ (cost_of command).most) × FindsNoRoom (cost_of command).cells block (cost_of command).most_list kept left fault)
       → (here'.honest → IsOf (TellsDamage command kept.dir mid (free_by kept.body)) fault)
-      → (fault ≢ faults.OutOfMemory → Plans {T = List (List ℕ)} (λ pool. stepped [] now command pool) (numbers_end command) (indices_end command) kept (Err fault))
-      → ((pool : Pool) → here'.honest → IsAtRest false mid kept pool → (left : FreeSectors) × FindsNoRoom (cost_of command).cells ((cost_of command).block pool) kept left fault)
-      → ((pool : Pool) → here'.honest → IsAtRest false mid kept pool → FindsLess (cost_of command).cells ((cost_of command).block pool) kept.body (stepped [] now command pool) fault)
+      → (fault ≢ faults.OutOfMemory → Plans {T = List (List ℕ)} (λ pool. stepped [] now command pool) (numbers_end command) (indices_end command) (makes_list command) kept (Err fault))
+      → ((pool : Pool) → here'.honest → IsAtRest false mid kept pool → (left : FreeSectors) × FindsNoRoom (cost_of command).cells ((cost_of command).block pool) ((cost_of command).list pool) kept left fault)
+      → ((pool : Pool) → here'.honest → IsAtRest false mid kept pool → FindsLess (cost_of command).cells ((cost_of command).block pool) ((cost_of command).list pool) kept.body (stepped [] now command pool) fault)
       → ((tight : Bool) (pool : Pool) → here'.honest → IsAtRest tight mid kept pool → StepAnswer tight here' kept' pool (stepped [] now command pool) (Err fault))
       → Stepping now command here here' (Err (pool_refusal fault))
   stepping_refused fault same cause alive spares bounded damaged plan room less did = record {

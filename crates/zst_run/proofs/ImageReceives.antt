@@ -1,7 +1,7 @@
 -- What a receive into an image leaves, from what opening the pool and feeding say.
 use Rattle.std.specs.Prelude.{Result, Ok, Err, IfErr}
 use Rattle.std.specs.List.{concat}
-use Rattle.std.proofs.Common.{◌≡◌, ◌≢◌, inl, inr, ℕ, ◌<◌, ◌≤◌, Bool, true, false, List, [], refl, sym, ap, ◌∙◌, subst, arith}
+use Rattle.std.proofs.Common.{◌≡◌, ◌≢◌, inl, inr, ℕ, ◌<◌, ◌≤◌, Bool, false, List, [], refl, sym, ap, ◌∙◌, subst, arith}
 use Rattle.std.proofs.lemmas.List.{append-nil}
 use Rattle.zst_outside.specs.Causes.{Rose-earlier}
 use Rattle.zst_outside.specs.Images.{DiskState, IsSynced, Leaves, Leaves-then, Leaves-weaker, OnlyReads}
@@ -183,7 +183,7 @@ module _ (ask : RecvAsk) (here mid here' : DiskState) (input input' : SourceStat
     (stands : (tight : Bool) (uber : Uber) (rows : Rows) (pool : Pool) → mid.honest → ReadsAs tight uber rows pool here.seen → Rests tight mid kept.body rows pool)
     (at_rest : (tight : Bool) (rows : Rows) (pool : Pool) → Rests tight mid kept.body rows pool → kept.dir ≡ kept_rows rows → IsAtRest tight mid kept pool)
     (later : here.faults ≤ mid.faults) (falls : here'.honest → mid.honest) (f : Fed (λ tight. IsReady ask tight mid kept) kept mid here' ask input input' (told result)) (plans : (text : List ℕ) → Gave input input' text → SaysOfPlan kept.dir ask text (told result))
-    (damaged : (sector : ℕ) (stated found : List ℕ) → here'.honest → result ≡ Err (refusals.Damaged sector stated found) → IsDamagedReceive mid.seen mid.size kept.body kept.dir ask.target sector stated found)
+    (damaged : (text : List ℕ) → Gave input input' text → (sector : ℕ) (stated found : List ℕ) → here'.honest → result ≡ Err (refusals.Damaged sector stated found) → IsDamagedReceive mid.seen mid.size kept.body kept.dir ask text sector stated found)
     (stood : ¬ (result ≡ Err refusals.DiskFault) → KeepsBlocks mid.seen (free_by kept.body) here'.seen (free_by kept.body))
     (only : (c : List ℕ) → here.left_since here.moment c → here.images c) (now_left : (t : ℕ) (c : List ℕ) → t ≤ here'.moment → here'.images c → here'.left_since t c) where
   ready : (tight : Bool) (uber : Uber) (rows : Rows) (pool : Pool) → here'.honest → ReadsAs tight uber rows pool here.seen → IsTightOrNew tight ask pool → IsReady ask tight mid kept pool
@@ -217,8 +217,8 @@ module _ (ask : RecvAsk) (here mid here' : DiskState) (input input' : SourceStat
                 full = λ need largest is. full_in here mid here' input input' (told result) need largest ends is;
                 planned = subst (λ (r : Rows). SaysOfPlan r ask (concat f.pieces) (told result)) was.4 (plans (concat f.pieces) f.consumed);
                 damaged = λ sector stated found is.
-                    damaged_here here.seen mid.seen here.size mid.size kept.body kept.dir (kept_rows was.1) ask.target sector stated found reads.seen reads.size was.4
-                    (damaged sector stated found honest (told_damaged result (refusals.Damaged sector stated found) is));
+                    damaged_here here.seen mid.seen here.size mid.size kept.body kept.dir (kept_rows was.1) ask (concat f.pieces) sector stated found reads.seen reads.size was.4
+                    (damaged (concat f.pieces) f.consumed sector stated found honest (told_damaged result (refusals.Damaged sector stated found) is));
                 stood = λ apart. subst (λ (s : List ℕ). KeepsBlocks s (free_by kept.body) here'.seen (free_by kept.body)) reads.seen (stood (told_apart result apart));
               },
             ) (behind_opening here mid here' input input' (told result) ends);

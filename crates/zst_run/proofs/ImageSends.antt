@@ -1,5 +1,5 @@
 -- What a send from an image leaves, from what opening the pool and giving its text say.
-use Rattle.std.proofs.Common.{◌≡◌, ◌≢◌, inl, inr, ⊎_elim, ℕ, ◌≤◌, Bool, true, false, Result, List, [], Ok, Err, IfErr, refl, sym, ap, ◌∙◌, subst, arith, None, Option}
+use Rattle.std.proofs.Common.{◌≡◌, ◌≢◌, ◌⊎◌, inl, inr, ⊎_elim, ℕ, ◌≤◌, Bool, true, false, Result, List, [], length, Ok, Err, IfErr, refl, sym, ap, ◌∙◌, subst, arith, Option}
 use Rattle.std.proofs.lemmas.Bool.{false≢true}
 use Rattle.zst_outside.specs.Causes.{Rose, Rose-earlier}
 use Rattle.zst_outside.specs.Images.{DiskState, OnlyReads, OnlyReads-then}
@@ -19,7 +19,7 @@ use Rattle.zst_dir.specs.Rows.{Rows}
 use Rattle.zst_image.specs.Faults.{open_refusal}
 use Rattle.zst_uber.specs.DiskCalls as disk_calls
 use Rattle.zst_image.specs.OpenAnswers.{GivesPool, OpenAnswers, ReadFault}
-use Rattle.zst_image.specs.Reads.{ReadsAs, RunsBy, free_by, kept_rows}
+use Rattle.zst_image.specs.Reads.{free_by, kept_rows}
 use Rattle.zst_image.specs.declared.pool_state.PoolState.{PoolState}
 use Rattle.zst_image.specs.declared.open_fault.OpenFault.{OpenFault}
 use Rattle.zst_image.specs.declared.open_fault.OpenFault.TheVariants as opens
@@ -29,12 +29,14 @@ use Rattle.zst_pool.specs.Faults.{pool_refusal}
 use Rattle.zst_pool.specs.declared.fault.PoolFault.{PoolFault}
 use Rattle.zst_pool.specs.declared.fault.PoolFault.TheVariants as faults
 use Rattle.zst_send.specs.Damage.{IsDamagedSend}
+use Rattle.zst_send.specs.Openings.{IsDamagedOpening, StandsPlanned, StandsSent}
 use Rattle.zst_send.specs.Sends.{begun_text}
 use Rattle.zst_run.specs.Commands.{Opens, SaysOfOpening}
 use Rattle.zst_run.specs.SendPieces.{IfUnplanned}
 use Rattle.zst_run.specs.declared.send.SendRequest.{SendRequest}
-use Rattle.zst_run.specs.Sends.{HasSet, IsDamagedRequest, IsSendRefusal, OfGiving, OfSending, RefusalEnds, SendRan, Sends, SendsBy, TellsOf, start_of, to_send}
+use Rattle.zst_run.specs.Sends.{HasSet, IsDamagedRequest, IsSendRefusal, OfGiving, OfSending, ReadsForAs, RefusalEnds, SendRan, Sends, SendsBy, TellsOf, start_of, to_send}
 use Rattle.zst_run.proofs.CommandLemmas.{open_alive, open_disk, told_before}
+use Rattle.zst_run.proofs.NamedImages.{OneDirectory, OneText, gives_pool}
 use Rattle.zst_run.proofs.SendLemmas.{sent_earlier}
 
 -- ---- where the pool can't be opened
@@ -73,14 +75,14 @@ open_never_full (opens.BadVersion version) need largest is = absurd (cc is)
 open_never_full opens.DiskFault need largest is = absurd (cc is)
 open_never_full opens.OutOfMemory need largest is = absurd (cc is)
 
-pub unopened : (request : SendRequest) (here here' : DiskState) (out : SinkState) (fault : OpenFault)
-    → ((tight : Bool) (uber : Uber) (rows : Rows) (pool : Pool) → here'.honest → ReadsAs tight uber rows pool here.seen → GivesPool uber rows (Err fault))
+pub unopened : OneText → OneDirectory → (request : SendRequest) (here here' : DiskState) (out : SinkState) (fault : OpenFault) → length here.seen ≡ here.size
     → (here'.honest → OpenAnswers here (Err fault)) → OnlyReads here here' → disk_calls.HasDiskCause {T = PoolState} opens.DiskFault here.faults here'.faults (Err fault)
     → Sends request here here' out out (Err (open_refusal fault))
-unopened request here here' out fault there answer reads cause = record {
+unopened text directory request here here' out fault long answer reads cause = record {
   reads = reads;
   sends = λ pool told is.
-      unopened_ends (start_of request) (to_send request pool) here.faults here'.faults out fault (there false is.0 is.1 pool told is.2) (λ e. cause.fault (ap (λ (f : OpenFault). Err f) e));
+      unopened_ends (start_of request) (to_send request pool) here.faults here'.faults out fault (gives_pool text directory here long request is.0 is.1 pool is.2 (Err fault) (answer told))
+      (λ e. cause.fault (ap (λ (f : OpenFault). Err f) e));
   opened = λ told. idle_says (Unit {0}) (out ≡ out) here (SendRan request here out out (Err (open_refusal fault))) fault refl (answer told);
   refused = record {
     pool = record { one = inl (fault, refl); alive = open_alive fault; cause = λ is. cause.fault (ap (λ (f : OpenFault). Err f) (open_disk fault is)) };
@@ -113,21 +115,22 @@ is_open refusal is =
     ⊎_elim (λ pool. ap is_of_opening pool.1 ∙ pool_is_open pool.0) (⊎_elim (λ sink. ap is_of_opening sink) (λ limit. ap is_of_opening limit)) is
 
 -- what an answer says of each plan of the rows in memory, and of damage
-pub record SaysOfRows (request : SendRequest) (dir : Rows) (disk disk' : DiskState) (out out' : SinkState) (result : Result (Unit {0}) Refusal) : Type 0 where
+pub record SaysOfRows (request : SendRequest) (end : ℕ) (dir : Rows) (disk disk' : DiskState) (out out' : SinkState) (result : Result (Unit {0}) Refusal) : Type 0 where
   pub planned : (pool : Pool) → AreNamed dir pool → IfUnplanned (to_send request pool) out out' result
   pub because : (pool : Pool) (fault : PlanFault) → AreNamed dir pool → result ≡ Err (refusals.Plan fault) → to_send request pool ≡ Err fault
-  pub damaged : disk'.honest → TellsOf (IsDamagedRequest request dir disk) result
+  pub damaged : disk'.honest → TellsOf (IsDamagedRequest request end dir disk) result
 
 -- so it is of the body and the rows that a pool was opened by
 ran : (request : SendRequest) (here mid here' : DiskState) (out out' : SinkState) (kept : PoolState) (rows : Rows) (result : Result (Unit {0}) Refusal) → kept.dir ≡ kept_rows rows → Opens here kept.body rows
-    → OnlyReads here mid → here'.honest → SaysOfRows request kept.dir mid here' out out' result → SendRan request here out out' result kept.body rows
+    → OnlyReads here mid → here'.honest → SaysOfRows request kept.body.end kept.dir mid here' out out' result → SendRan request here out out' result kept.body rows
 ran request here mid here' out out' kept rows result same opens reads honest says = record {
   opens = opens;
   planned = λ pool fault named refused. rw refused at (says.planned pool (rw same named.are_named));
   because = λ pool fault named is. says.because pool fault (rw same named.are_named) is;
   damaged = λ sector stated found is.
-      told_before here mid (λ seen size. (set : ObjSet) × HasSet request (kept_rows rows) set × IsDamagedSend (IsSeen seen) size set sector stated found) reads
-      (subst (λ (r : Rows). IsDamagedRequest request r mid sector stated found) same (says.damaged honest sector stated found is));
+      told_before here mid (λ seen size. ((set : ObjSet) × HasSet request (kept_rows rows) set × IsDamagedSend (IsSeen seen) size set sector stated found)
+      ⊎ IsDamagedOpening kept.body.end seen size (kept_rows rows) (to_send request) sector stated found) reads
+      (subst (λ (r : Rows). IsDamagedRequest request kept.body.end r mid sector stated found) same (says.damaged honest sector stated found is));
 }
 
 -- what is answered once a pool was opened
@@ -166,25 +169,30 @@ sends_earlier : (start : Option Point) (planned : Result Sent PlanFault) (before
 sends_earlier start (Ok sent) before mid after out out' result later s = sent_earlier start sent before mid after out out' result later s
 sends_earlier start (Err fault) before mid after out out' result later s = record { front = s.front; ends = (plan_earlier fault before mid after result later s.ends.0, s.ends.1) }
 
--- the rows in memory stand for the pool that the image reads as
-runs : (here mid : DiskState) (kept : PoolState) (uber : Uber) (rows : Rows) (pool : Pool) → OnlyReads here mid → GivesPool uber rows (Ok kept) → ReadsAs false uber rows pool here.seen
-    → RunsBy None (Has mid.seen (free_by kept.body)) kept.dir pool
-runs here mid kept uber rows pool reads same is =
-    subst (λ (seen : List ℕ). RunsBy None (Has seen (free_by kept.body)) kept.dir pool) (sym reads.seen)
-    (subst (λ (u : Uber). RunsBy None (Has here.seen (free_by u)) kept.dir pool) (sym same.0)
-    (subst (λ (r : Rows). RunsBy None (Has here.seen (free_by uber)) r pool) (sym same.1) is.described.rows_are))
+-- the rows in memory name the pool that the image reads as, and what a send needs stands by them
+module _ (request : SendRequest) (here mid : DiskState) (kept : PoolState) (uber : Uber) (rows : Rows) (pool : Pool) (reads : OnlyReads here mid) (same : GivesPool uber rows (Ok kept))
+    (is : ReadsForAs request uber rows pool here.seen) where
+  named : AreNamed kept.dir pool
+  named = subst (λ (r : Rows). AreNamed r pool) (sym same.1) is.named.are_named
 
-pub opened : (request : SendRequest) (here mid here' : DiskState) (out out' : SinkState) (kept : PoolState) (result : Result (Unit {0}) Refusal)
-    → ((tight : Bool) (uber : Uber) (rows : Rows) (pool : Pool) → mid.honest → ReadsAs tight uber rows pool here.seen → GivesPool uber rows (Ok kept))
+  stands : StandsPlanned (Has mid.seen (free_by kept.body)) kept.dir pool (to_send request pool)
+  stands = λ sent planned.
+      subst (λ (seen : List ℕ). StandsSent (Has seen (free_by kept.body)) kept.dir pool sent) (sym reads.seen)
+      (subst (λ (u : Uber). StandsSent (Has here.seen (free_by u)) kept.dir pool sent) (sym same.0)
+      (subst (λ (r : Rows). StandsSent (Has here.seen (free_by uber)) r pool sent) (sym same.1) (is.sent sent planned)))
+
+pub opened : OneText → OneDirectory → (request : SendRequest) (here mid here' : DiskState) (out out' : SinkState) (kept : PoolState) (result : Result (Unit {0}) Refusal) → length here.seen ≡ here.size
     → (mid.honest → OpenAnswers here (Ok kept)) → OnlyReads here mid → here.faults ≤ mid.faults → OnlyReads mid here' → mid.faults ≤ here'.faults
-    → ((pool : Pool) → here'.honest → RunsBy None (Has mid.seen (free_by kept.body)) kept.dir pool → SendsBy (start_of request) (to_send request pool) mid.faults here'.faults out out' result)
-    → IfErr result (IsSendRefusal OfGiving mid here' out out') → SaysOfRows request kept.dir mid here' out out' result
+    → ((pool : Pool) → here'.honest → AreNamed kept.dir pool → StandsPlanned (Has mid.seen (free_by kept.body)) kept.dir pool (to_send request pool)
+    → SendsBy (start_of request) (to_send request pool) mid.faults here'.faults out out' result)
+    → IfErr result (IsSendRefusal OfGiving mid here' out out') → SaysOfRows request kept.body.end kept.dir mid here' out out' result
     → Sends request here here' out out' result
-opened request here mid here' out out' kept result there answer reads later gave still gives refused says = record {
+opened text directory request here mid here' out out' kept result long answer reads later gave still gives refused says = record {
   reads = OnlyReads-then here mid here' reads gave;
   sends = λ pool told is.
+      let same = gives_pool text directory here long request is.0 is.1 pool is.2 (Ok kept) (answer (gave.honest told)) in
       sends_earlier (start_of request) (to_send request pool) here.faults mid.faults here'.faults out out' result later
-      (gives pool told (runs here mid kept is.0 is.1 pool reads (there false is.0 is.1 pool (gave.honest told) is.2) is.2));
+      (gives pool told (named request here mid kept is.0 is.1 pool reads same is.2) (stands request here mid kept is.0 is.1 pool reads same is.2));
   opened = λ told. let was = answer (gave.honest told) in
       ran_says (out' ≡ out) here (SendRan request here out out' result) result (kept.body, was.1, ran request here mid here' out out' kept was.1 result was.4 (was.0, was.2, was.3) reads told says)
       (behind_opening mid here' out out' result refused);

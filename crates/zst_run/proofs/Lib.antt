@@ -7,6 +7,7 @@ pub mod NewPools
 pub mod ReplyLines
 pub mod LaterDisks
 pub mod SendLemmas
+pub mod NamedImages
 pub mod ImageSends
 pub mod AlikeSends
 pub mod LineEffects
@@ -22,7 +23,10 @@ pub mod ImageReceives
 pub mod ReceiptLine
 pub mod PipedRuns
 pub mod ChainedRuns
+pub mod AlikeTokens
+pub mod Unreadable
 pub mod ImageTokens
 pub mod CompleteRuns
+pub mod CompleteTransfers
 pub mod TurnEnds
-pub mod RestLemmas
+pub mod OpenedSends

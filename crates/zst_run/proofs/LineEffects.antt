@@ -3,7 +3,7 @@ use Rattle.std.proofs.Common.{◌≡◌, ℕ, List, Some, Result, sym, subst}
 use Rattle.zst_outside.specs.Images.{DiskState}
 use Rattle.zst_model.specs.declared.refusals.refusal.Refusal.{Refusal}
 use Rattle.zst_line.specs.declared.line.Line.{Line}
-use Rattle.zst_line.specs.declared.line.Line.TheVariants.{Dump, Create, Step, Redact, Send, Resume, Receive, Token, Check, Gen, Reclaim, Replay}
+use Rattle.zst_line.specs.declared.line.Line.TheVariants.{Dump, Create, Step, Send, Resume, Receive, Token, Check, Gen, Reclaim, Replay}
 use Rattle.zst_run.specs.Devices.{Devices}
 use Rattle.zst_plan.specs.declared.receive.RecvAsk.{RecvAsk}
 use Rattle.zst_script.specs.Asks.{ask_of, receipt_of}
@@ -23,7 +23,6 @@ does_send state now (Send image from redacts snapshot) ask old new result is sen
 does_send state now Dump ask old new result is sends input = absurd (cc is)
 does_send state now (Create image sectors id) ask old new result is sends input = absurd (cc is)
 does_send state now (Step image command) ask old new result is sends input = absurd (cc is)
-does_send state now (Redact image snapshot bookmark kept) ask old new result is sends input = absurd (cc is)
 does_send state now (Resume image token) ask old new result is sends input =
     let same : Rest token ≡ ask = cc is in
     (subst (λ (a : SendRequest). Sends a (state old.here) (state new.here) old.out new.out result) (sym same) sends, input)
@@ -42,7 +41,6 @@ does_receive state now (Receive image keeps forces origin target) ask old new re
 does_receive state now Dump ask old new result is receives = absurd (cc is)
 does_receive state now (Create image sectors id) ask old new result is receives = absurd (cc is)
 does_receive state now (Step image command) ask old new result is receives = absurd (cc is)
-does_receive state now (Redact image snapshot bookmark kept) ask old new result is receives = absurd (cc is)
 does_receive state now (Send image from redacts snapshot) ask old new result is receives = absurd (cc is)
 does_receive state now (Resume image token) ask old new result is receives = absurd (cc is)
 does_receive state now (Token image dataset) ask old new result is receives = absurd (cc is)
@@ -59,7 +57,6 @@ does_tell state now (Token image name) dataset old new result is tells input =
 does_tell state now Dump dataset old new result is tells input = absurd (cc is)
 does_tell state now (Create image sectors id) dataset old new result is tells input = absurd (cc is)
 does_tell state now (Step image command) dataset old new result is tells input = absurd (cc is)
-does_tell state now (Redact image snapshot bookmark kept) dataset old new result is tells input = absurd (cc is)
 does_tell state now (Send image from redacts snapshot) dataset old new result is tells input = absurd (cc is)
 does_tell state now (Resume image token) dataset old new result is tells input = absurd (cc is)
 does_tell state now (Receive image keeps forces origin target) dataset old new result is tells input = absurd (cc is)

@@ -12,7 +12,7 @@ use Rattle.zst_line.specs.WordFaults.{IsLine, Takes}
 use Rattle.zst_line.specs.Line.{LineIs, as_name, name_of, value_behind}
 use Rattle.zst_line.specs.NameKinds.{kind_of_name, takes}
 use Rattle.zst_line.specs.declared.line.Line.{Line}
-use Rattle.zst_line.specs.declared.line.Line.TheVariants.{Dump, Create, Step, Redact, Send, Resume, Receive, Token, Check, Gen, Reclaim, Replay}
+use Rattle.zst_line.specs.declared.line.Line.TheVariants.{Dump, Create, Step, Send, Resume, Receive, Token, Check, Gen, Reclaim, Replay}
 use Rattle.zst_line.proofs.FirstWords.{same_kind}
 use Rattle.zst_line.proofs.OptionPlaces.{last_takes, value_fits}
 use Rattle.zst_model.specs.declared.refusals.subjects.Name.{Name}
@@ -75,7 +75,6 @@ pub in_range : (line : Line) (words : List (List ℕ)) → IsLine words → Line
 in_range Dump words said is = tt
 in_range (Create image sectors id) words said is = is.1
 in_range (Step image command) words said is = is.1
-in_range (Redact image snapshot bookmark kept) words said is = tt
 in_range (Send image from redacts snapshot) words said is = from_source words said.rest (is.0.0 ++ image ∷ snapshot ∷ []) said.kind from said.spelled is.0.1 is.1 is.2 said.fact
 in_range (Resume image token) words said is = tt
 in_range (Receive image keeps forces origin target) words said is =

@@ -1,5 +1,5 @@
 -- What one run sent and another received.
-use Rattle.std.specs.Prelude.{Bool, true, not, Result, Ok, Err, ◌-◌}
+use Rattle.std.specs.Prelude.{Bool, Result, Ok, Err, ◌-◌}
 use Rattle.std.proofs.Common.{◌≡◌, ◌≢◌, inl, inr, ◌⊎◌, ⊎_elim, ℕ, zero, suc, false, List, [], ◌∷◌, ◌++◌, length, take, Option, None, refl, sym, ap, ◌∙◌, subst, append_assoc}
 use Rattle.std.specs.List.{concat}
 use Rattle.std.proofs.lemmas.List.{append-nil, append_cancel_left}
@@ -7,9 +7,7 @@ use Rattle.zst_outside.specs.Images.{DiskState, Leaves, Leaves-weaker}
 use Rattle.zst_outside.specs.States.{SourceState, SinkState, Gave}
 use Rattle.zst_uber.specs.declared.uber.Uber.{Uber}
 use Rattle.zst_model.specs.declared.refusals.faults.Quantity.TheVariants as quantities
-use Rattle.zst_model.specs.declared.refusals.faults.Lack.TheVariants as lacks
 use Rattle.zst_model.specs.declared.refusals.plan_fault.PlanFault.{PlanFault}
-use Rattle.zst_model.specs.declared.refusals.plan_fault.PlanFault.TheVariants as plans
 use Rattle.zst_model.specs.declared.refusals.refusal.Refusal.{Refusal}
 use Rattle.zst_model.specs.declared.refusals.refusal.Refusal.TheVariants as refusals
 use Rattle.zst_model.specs.declared.refusals.stream_fault.StreamFault.TheVariants.{Truncated}
@@ -19,20 +17,17 @@ use Rattle.zst_model.specs.pools.KeptPool.{KeepsAll, kept_of}
 use Rattle.zst_model.specs.pools.Pool.{Pool, IsPool, partial_of}
 use Rattle.zst_model.specs.pools.Soundness.{Sound}
 use Rattle.zst_model.specs.sends.Headers.{Sent, header_of, sent_view}
-use Rattle.zst_model.specs.sends.SendPlan.{send_plan}
-use Rattle.zst_model.specs.states.AppliedItems.{unless, ◌>>=◌}
 use Rattle.zst_laws.specs.KeptPools.{KeepingIsDone}
 use Rattle.zst_dir.specs.Rows.{Rows}
 use Rattle.zst_image.specs.Reads.{Reads, ReadsAs}
 use Rattle.zst_plan.specs.declared.receive.RecvAsk.{RecvAsk}
-use Rattle.zst_send.specs.Openings.{built, is_plain}
 use Rattle.zst_send.specs.Sends.{begun_text}
 use Rattle.zst_recv.specs.Feeds.{receives}
 use Rattle.zst_recv.specs.ReceiveSteps.{left_by, pool_of}
 use Rattle.zst_replication.specs.Histories.{ReceivesRemember, StillRemembers}
-use Rattle.zst_replication.specs.MatchingBases.{BasesMatch, OneMoreIsKept, PlainCanBeSent}
+use Rattle.zst_replication.specs.MatchingBases.{BasesMatch, OneMoreIsKept, SentCanBeSent}
 use Rattle.zst_replication.specs.Outcomes.{HasNothing, HasOneMore, Progress, base_name, course_from}
-use Rattle.zst_replication.specs.Replicas.{AreOfStream, CutLeavesNothing, IsSendable, LeftIsKept, MatchesBase, SentIsReceived, WaitedForEach}
+use Rattle.zst_replication.specs.Replicas.{AreOfStream, CutLeavesNothing, IsSendable, LeftIsKept, MatchesBase, SentIsReceived, WaitedForEach, sent_state}
 use Rattle.zst_replication.specs.Replicas as replicas
 use Rattle.zst_replication.specs.Soundness.{ReceivesKeepSound}
 use Rattle.zst_run.specs.Receives.{IsTightOrNew, IsOnTheWay, Keeps, ReceiveEnds, Received, Receiving, Refused, Stopped, Waited}
@@ -40,7 +35,7 @@ use Rattle.zst_run.specs.Replication.{IsReadOf, IsReceiver, IsSender, RefusedLea
 use Rattle.zst_run.specs.Replies.{Replied, Replies}
 use Rattle.zst_run.specs.declared.send.SendRequest.{SendRequest}
 use Rattle.zst_run.specs.declared.send.SendRequest.TheVariants.{Named}
-use Rattle.zst_run.specs.Sends.{SendEnds, Sends, start_of, to_send}
+use Rattle.zst_run.specs.Sends.{ReadsFor, SendEnds, Sends, start_of, to_send}
 use Rattle.zst_run.proofs.FedPieces.{open_live}
 
 -- ---- what an image keeps of its pool
@@ -59,7 +54,7 @@ whole laws tight uber rows pool image reads = laws.0.0 pool (laws.1 tight uber r
 
 -- a run that sends with status 0 writes the whole text
 pub text_sent : (request : SendRequest) (from : Pool) (sent : Sent) (here here' : DiskState) (out out' : SinkState) (text : List ℕ)
-    → Reads false from here.seen → to_send request from ≡ Ok sent → here'.honest → Sends request here here' out out' (Ok tt) → out'.written ≡ out.written ++ text
+    → ReadsFor request from here.seen → to_send request from ≡ Ok sent → here'.honest → Sends request here here' out out' (Ok tt) → out'.written ≡ out.written ++ text
     → text ≡ begun_text sent (start_of request)
 text_sent request from sent here here' out out' text reads plan honest sends is =
     let ends = subst (λ (planned : Result Sent PlanFault). SendEnds (start_of request) planned here.faults here'.faults out out' (Ok tt)) plan (sends.sends from honest reads).ends in
@@ -89,32 +84,23 @@ first_of_stream n pieces sent start of =
 
 -- ---- a send that is received
 
--- what is opened was planned
-pub planned_of : (plan : Result Sent PlanFault) (sent : Sent) → plan >>= built ≡ Ok sent → plan ≡ Ok sent
-planned_of (Ok found) sent opens = let same = go (not (is_plain found)) opens in cc
-  where
-    go : (test : Bool) → unless test (plans.Unsupported lacks.NotBuilt) (Ok found) ≡ Ok sent → found ≡ sent
-    go true is = absurd cc
-    go false is = cc
-planned_of (Err fault) sent opens = absurd cc
-
 -- the laws of what can be sent, and of which bases match it
 abbrev pub Fits : Type 0
-Fits = PlainCanBeSent × BasesMatch
+Fits = SentCanBeSent × BasesMatch
 
 module _ (fits : Fits) (tight : Bool) (ask : SendAsk) (receive : RecvAsk) (from into : Pool) (sent : Sent) (here there there' : DiskState)
     (sender : IsSender (Named ask) from sent here) (receiver : IsReceiver tight receive into from sent there there') where
   from_is : IsPool from
-  from_is = sender.reads.2.described.lawful
+  from_is = sender.reads.2.lawful
 
   pub into_is : IsPool into
   into_is = receiver.reads.described.lawful
 
   pub sendable : IsSendable sent None
-  sendable = fits.0 ask from sent from_is sender.is sender.plain
+  sendable = fits.0 ask from sent from_is sender.is sender.within
 
   pub matches : MatchesBase sent receive into
-  matches = fits.1 ask from sent receive into from_is into_is receiver.alone (planned_of (send_plan ask from) sent sender.is) receiver.knows
+  matches = fits.1 ask from sent receive into from_is into_is receiver.alone sender.is receiver.knows
 
 -- a run that receives with status 0 received
 pub received_so : (tight : Bool) (ask : RecvAsk) (pool : Pool) (pieces : List (List ℕ)) (there' : DiskState) (input input' : SourceState) (out out' : SinkState) (answer : Result (List (List ℕ)) Refusal)
@@ -140,9 +126,9 @@ snapshot_stands keeps fits law kept here here' there there' tight ask receive fr
       base = one.0;
       planned = one.1;
       more =
-          subst (λ (p : Pool). HasOneMore p (kept_of done.after) receive.target done.partial.component (base_name one.0) (header_of sent) sent.snapshot.objects.state)
+          subst (λ (p : Pool). HasOneMore p (kept_of done.after) receive.target done.partial.component (base_name one.0) (header_of sent) (sent_state sent))
           (whole keeps tight receiver.uber receiver.rows into there.seen receiver.reads)
-          (kept into done.after receive.target done.partial.component (base_name one.0) (header_of sent) sent.snapshot.objects.state one.2);
+          (kept into done.after receive.target done.partial.component (base_name one.0) (header_of sent) (sent_state sent) one.2);
     }
 
 -- ---- a receive that is refused

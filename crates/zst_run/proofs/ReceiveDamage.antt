@@ -1,6 +1,6 @@
 -- Which damage a receive tells.
 use Rattle.std.specs.Prelude.{Option, None, Some, Result, Ok, Err}
-use Rattle.std.proofs.Common.{◌≡◌, ℕ, zero, suc, Bool, true, false, List, refl, sym, ap, ◌∙◌, subst}
+use Rattle.std.proofs.Common.{◌≡◌, ℕ, zero, suc, true, false, List, ◌++◌, refl, sym, ap, ◌∙◌, subst}
 use Rattle.zst_outside.specs.Images.{DiskState}
 use Rattle.zst_space.specs.FreeSectors.{FreeSectors}
 use Rattle.zst_block.specs.Blocks.{KeepsBlocks, SparesTaken}
@@ -16,6 +16,7 @@ use Rattle.zst_model.specs.declared.refusals.refusal.Refusal.{Refusal}
 use Rattle.zst_model.specs.declared.refusals.refusal.Refusal.TheVariants as refusals
 use Rattle.zst_model.proofs.PlanFaults.{plan_cases}
 use Rattle.zst_pool.specs.declared.fault.PoolFault.TheVariants as pools
+use Rattle.zst_plan.specs.declared.receive.RecvAsk.{RecvAsk}
 use Rattle.zst_recv.specs.Damage.{BeginsWith, IsBegun, IsDamagedFeed, MakesStage, PieceMakes}
 use Rattle.zst_recv.specs.Faults.{recv_refusal, stop_at}
 use Rattle.zst_recv.specs.declared.fault.RecvFault.{RecvFault}
@@ -24,6 +25,7 @@ use Rattle.zst_recv.specs.Stages.{waits_at}
 use Rattle.zst_recv.specs.declared.recv.FeedReport.{FeedReport}
 use Rattle.zst_recv.specs.declared.stage.Stage as coded
 use Rattle.zst_recv.specs.declared.stage.Stage.TheVariants as stages
+use Rattle.zst_recv.proofs.SetOrigins.{begun_later}
 use Rattle.zst_run.specs.Receives.{IsDamagedReceive, MadeBy}
 use Rattle.zst_run.specs.ReceiveTurns.{Traced, cut_refusal, is_damaged, told, turn_behind}
 use Rattle.zst_run.specs.declared.receive.End.{End}
@@ -74,55 +76,69 @@ told_damaged (Ok receipt) refusal is = absurd (cc is)
 told_damaged (Err other) refusal is = let same : other ≡ refusal = cc (is) in ap (λ (r : Refusal). Err r) same
 
 -- opening only read
-pub damaged_here : (image other : List ℕ) (size same : ℕ) (uber : Uber) (rows listed : Rows) (target : List ℕ) (sector : ℕ) (stated found : List ℕ) → other ≡ image → same ≡ size → rows ≡ listed
-    → IsDamagedReceive other same uber rows target sector stated found → IsDamagedReceive image size uber listed target sector stated found
-damaged_here image other size same uber rows listed target sector stated found seen long rows_are is =
-    subst (λ (i : List ℕ). IsDamagedReceive i size uber listed target sector stated found) seen
-    (subst (λ (n : ℕ). IsDamagedReceive other n uber listed target sector stated found) long
-    (subst (λ (r : Rows). IsDamagedReceive other same uber r target sector stated found) rows_are is))
+pub damaged_here : (image other : List ℕ) (size same : ℕ) (uber : Uber) (rows listed : Rows) (ask : RecvAsk) (text : List ℕ) (sector : ℕ) (stated found : List ℕ) → other ≡ image → same ≡ size → rows ≡ listed
+    → IsDamagedReceive other same uber rows ask text sector stated found → IsDamagedReceive image size uber listed ask text sector stated found
+damaged_here image other size same uber rows listed ask text sector stated found seen long rows_are is =
+    subst (λ (i : List ℕ). IsDamagedReceive i size uber listed ask text sector stated found) seen
+    (subst (λ (n : ℕ). IsDamagedReceive other n uber listed ask text sector stated found) long
+    (subst (λ (r : Rows). IsDamagedReceive other same uber r ask text sector stated found) rows_are is))
 
 -- ---- the sets that pieces make
 
 -- nothing was made of a stage that stays
-pub idle_makes : (rows : Rows) (target seen : List ℕ) (free : FreeSectors) (size : ℕ) (stage : coded.Stage) → MakesStage rows target seen free size stage seen free stage
-idle_makes rows target seen free size stages.Waits = tt
-idle_makes rows target seen free size (stages.Lives flags row) =
+pub idle_makes : (rows : Rows) (ask : RecvAsk) (text seen : List ℕ) (free : FreeSectors) (size : ℕ) (stage : coded.Stage) → MakesStage rows ask text seen free size stage seen free stage
+idle_makes rows ask text seen free size stages.Waits = tt
+idle_makes rows ask text seen free size (stages.Lives flags row) =
     (row.objects, refl, record { mid = seen; less = free; spares = SparesTaken-same free seen; within = λ sector stated found damaged. damaged; blocks = λ ptr bytes has. has })
-idle_makes rows target seen free size (stages.Ends row) = tt
-idle_makes rows target seen free size (stages.Done received) = tt
-idle_makes rows target seen free size stages.Over = tt
+idle_makes rows ask text seen free size (stages.Ends row) = tt
+idle_makes rows ask text seen free size (stages.Done received) = tt
+idle_makes rows ask text seen free size stages.Over = tt
 
 -- before BEGIN the rows are those at the start
-pub unfed_traced : (start : DiskState) (first : PoolState) (target seen : List ℕ) (stage : coded.Stage) → waits_at stage ≡ true → Traced start first target seen first stage
-unfed_traced start first target seen stages.Waits waits = refl
-unfed_traced start first target seen (stages.Lives flags row) waits = absurd (cc waits)
-unfed_traced start first target seen (stages.Ends row) waits = absurd (cc waits)
-unfed_traced start first target seen (stages.Done received) waits = absurd (cc waits)
-unfed_traced start first target seen stages.Over waits = absurd (cc waits)
+pub unfed_traced : (start : DiskState) (first : PoolState) (ask : RecvAsk) (text seen : List ℕ) (stage : coded.Stage) → waits_at stage ≡ true → Traced start first ask text seen first stage
+unfed_traced start first ask text seen stages.Waits waits = refl
+unfed_traced start first ask text seen (stages.Lives flags row) waits = absurd (cc waits)
+unfed_traced start first ask text seen (stages.Ends row) waits = absurd (cc waits)
+unfed_traced start first ask text seen (stages.Done received) waits = absurd (cc waits)
+unfed_traced start first ask text seen stages.Over waits = absurd (cc waits)
 
-still_first : (kept first : PoolState) (start : DiskState) (target seen : List ℕ) (before : coded.Stage) → waits_at before ≡ true → Traced start first target seen kept before → kept ≡ first
-still_first kept first start target seen stages.Waits waits traced = traced
-still_first kept first start target seen (stages.Lives flags row) waits traced = absurd (cc waits)
-still_first kept first start target seen (stages.Ends row) waits traced = absurd (cc waits)
-still_first kept first start target seen (stages.Done received) waits traced = absurd (cc waits)
-still_first kept first start target seen stages.Over waits traced = absurd (cc waits)
+still_first : (kept first : PoolState) (start : DiskState) (ask : RecvAsk) (text seen : List ℕ) (before : coded.Stage) → waits_at before ≡ true → Traced start first ask text seen kept before → kept ≡ first
+still_first kept first start ask text seen stages.Waits waits traced = traced
+still_first kept first start ask text seen (stages.Lives flags row) waits traced = absurd (cc waits)
+still_first kept first start ask text seen (stages.Ends row) waits traced = absurd (cc waits)
+still_first kept first start ask text seen (stages.Done received) waits traced = absurd (cc waits)
+still_first kept first start ask text seen stages.Over waits traced = absurd (cc waits)
 
-module _ (start : DiskState) (first : PoolState) (target : List ℕ) (old : List ℕ) (size : ℕ) (kept : PoolState) (same : size ≡ start.size) (blocks : KeepsBlocks start.seen (free_by first.body) old (free_by kept.body)) where
+-- as a text goes on, a set that was made so far is made so
+made_later : (pieces : ℕ) (image : List ℕ) (size : ℕ) (free : FreeSectors) (rows : Rows) (ask : RecvAsk) (text more seen : List ℕ) (left : FreeSectors) (set : ObjSet) → MadeBy pieces image size free rows ask text seen left set
+    → MadeBy pieces image size free rows ask (text ++ more) seen left set
+made_later zero image size free rows ask text more seen left set made = (begun_later rows ask text more set made.0, made.1)
+made_later (suc pieces) image size free rows ask text more seen left set made = (made.0, made.1, made.2, made_later pieces image size free rows ask text more made.0 made.1 made.2 made.3, made.4)
+
+pub traced_later : (start : DiskState) (first : PoolState) (ask : RecvAsk) (text more seen : List ℕ) (kept : PoolState) (stage : coded.Stage) → Traced start first ask text seen kept stage → Traced start first ask (text ++ more) seen kept stage
+traced_later start first ask text more seen kept stages.Waits traced = traced
+traced_later start first ask text more seen kept (stages.Lives flags row) traced =
+    (traced.0, made_later traced.0 start.seen start.size (free_by first.body) first.dir ask text more seen (free_by kept.body) row.objects traced.1)
+traced_later start first ask text more seen kept (stages.Ends row) traced = tt
+traced_later start first ask text more seen kept (stages.Done received) traced = tt
+traced_later start first ask text more seen kept stages.Over traced = tt
+
+module _ (start : DiskState) (first : PoolState) (ask : RecvAsk) (text : List ℕ) (old : List ℕ) (size : ℕ) (kept : PoolState) (same : size ≡ start.size) (blocks : KeepsBlocks start.seen (free_by first.body) old (free_by kept.body)) where
   -- the set that a turn begins with
-  made_so_far : (before : coded.Stage) → Traced start first target old kept before → (set : ObjSet) → BeginsWith kept.dir target before set
-      → (pieces : ℕ) × MadeBy pieces start.seen start.size (free_by first.body) first.dir target old (free_by kept.body) set
-  made_so_far stages.Waits traced set begins = (0, (subst (λ (k : PoolState). IsBegun k.dir target set) traced begins, blocks))
+  made_so_far : (before : coded.Stage) → Traced start first ask text old kept before → (set : ObjSet) → BeginsWith kept.dir ask text before set
+      → (pieces : ℕ) × MadeBy pieces start.seen start.size (free_by first.body) first.dir ask text old (free_by kept.body) set
+  made_so_far stages.Waits traced set begins = (0, (subst (λ (k : PoolState). IsBegun k.dir ask text set) traced begins, blocks))
   made_so_far (stages.Lives flags row) traced set begins =
-      (traced.0, subst (λ (s : ObjSet). MadeBy traced.0 start.seen start.size (free_by first.body) first.dir target old (free_by kept.body) s) (sym begins) traced.1)
+      (traced.0, subst (λ (s : ObjSet). MadeBy traced.0 start.seen start.size (free_by first.body) first.dir ask text old (free_by kept.body) s) (sym begins) traced.1)
   made_so_far (stages.Ends row) traced set begins = absurd begins
   made_so_far (stages.Done received) traced set begins = absurd begins
   made_so_far stages.Over traced set begins = absurd begins
 
-  module _ (before : coded.Stage) (traced : Traced start first target old kept before) where
+  module _ (before : coded.Stage) (traced : Traced start first ask text old kept before) where
     -- a turn that goes on
     pub traced_on : (new : List ℕ) (next : PoolState) (after : coded.Stage) → (waits_at after ≡ true → (next ≡ kept) × (waits_at before ≡ true))
-        → MakesStage kept.dir target old (free_by kept.body) size before new (free_by next.body) after → Traced start first target new next after
-    traced_on new next stages.Waits waits makes = let idle = waits refl in idle.0 ∙ still_first kept first start target old before idle.1 traced
+        → MakesStage kept.dir ask text old (free_by kept.body) size before new (free_by next.body) after → Traced start first ask text new next after
+    traced_on new next stages.Waits waits makes = let idle = waits refl in idle.0 ∙ still_first kept first start ask text old before idle.1 traced
     traced_on new next (stages.Lives flags row) waits makes =
         let so_far = made_so_far before traced makes.0 makes.1 in (
           suc so_far.0,
@@ -133,8 +149,8 @@ module _ (start : DiskState) (first : PoolState) (target : List ℕ) (old : List
     traced_on new next stages.Over waits makes = tt
 
     -- one that is refused for a damage
-    pub damaged_behind : (disk : DiskState) → disk.seen ≡ old → disk.size ≡ size → (sector : ℕ) (stated found : List ℕ) → IsDamagedFeed disk (free_by kept.body) kept.dir target before sector stated found
-        → IsDamagedReceive start.seen start.size first.body first.dir target sector stated found
+    pub damaged_behind : (disk : DiskState) → disk.seen ≡ old → disk.size ≡ size → (sector : ℕ) (stated found : List ℕ) → IsDamagedFeed disk (free_by kept.body) kept.dir ask text before sector stated found
+        → IsDamagedReceive start.seen start.size first.body first.dir ask text sector stated found
     damaged_behind disk seen_is size_is sector stated found is =
         let so_far = made_so_far before traced is.set is.begins in
         record {

@@ -32,6 +32,7 @@ use Rattle.zst_reader.specs.InputReads.{stream_limit}
 use Rattle.zst_send.proofs.KnownPointers.{send_more}
 use Rattle.zst_send.specs.Damage.{IsDamagedSend}
 use Rattle.zst_send.specs.KnownPointers.{IsAmong, Knows}
+use Rattle.zst_send.specs.Openings.{IsPlanned}
 use Rattle.zst_send.specs.Sends as given
 use Rattle.zst_send.specs.Sends.{begun_text, sent_set}
 use Rattle.zst_send.specs.declared.send.Send.{Send}
@@ -39,7 +40,7 @@ use Rattle.zst_tree.specs.Indices.{Blocks}
 use Rattle.zst_run.specs.Replies.{HandsOn}
 use Rattle.zst_run.specs.declared.send.SendRequest.{SendRequest}
 use Rattle.zst_run.specs.Sends.{HasSet, IsDamagedRequest, IsSendRefusal, OfGiving, RefusalEnds, SendsBy, TellsOf, TextEnds}
-use Rattle.zst_run.specs.SendPieces.{IfUnplanned, IsOpenRefusal, OpensBy, Passed, PieceWritten, PlansOpen, Sending, WhySendEnds, WritesPiece}
+use Rattle.zst_run.specs.SendPieces.{IfUnplanned, OpensBy, Passed, PieceWritten, Sending, TellsLists, WhySendEnds, WritesPiece}
 use Rattle.zst_run.proofs.CommandLemmas.{damaged_only, disk_fault, failed_before, full_only, plan_named}
 
 -- ---- refusals
@@ -263,28 +264,38 @@ sent_earlier start sent before mid after out out' result later s = record { fron
 -- ---- opening
 
 -- a send that was opened has all of its text left
-pub sends_from : (has : Blocks) (start : Option Point) (planned : Result Sent PlanFault) (send : Send) (before after : ℕ) (out out' : SinkState) (result : Result (Unit {0}) Refusal) → OpensBy has start planned (Ok send)
-    → ((sent : Sent) → Sending has start sent send out out 0 → SendsBy start (Ok sent) before after out out' result) → SendsBy start planned before after out out' result
-sends_from has start (Ok sent) send before after out out' result opens gives =
-    gives sent (record { text = []; left = begun_text sent start; stands = opens; counted = refl; printed = Printed-start out })
-sends_from has start (Err fault) send before after out out' result opens gives = absurd opens
-
-pub wants_memory : (has : Blocks) (start : Option Point) (planned : Result Sent PlanFault) → OpensBy has start planned (Err refusals.OutOfMemory)
-wants_memory has start (Ok sent) = refl
-wants_memory has start (Err fault) = inr refl
+pub sends_from : (has : Blocks) (start : Option Point) (planned : Result Sent PlanFault) (send : Send) (before mid after : ℕ) (out out' : SinkState) (result : Result (Unit {0}) Refusal) → before ≤ mid
+    → OpensBy has start planned (Ok send) → ((sent : Sent) → Sending has start sent send out out 0 → SendsBy start (Ok sent) mid after out out' result) → SendsBy start planned before after out out' result
+sends_from has start planned send before mid after out out' result later opens gives =
+    subst (λ (p : Result Sent PlanFault). SendsBy start p before after out out' result) (sym opens.1)
+    (sent_earlier start opens.0 before mid after out out' result later
+    (gives opens.0 (record { text = []; left = begun_text opens.0 start; stands = opens.2; counted = refl; printed = Printed-start out })))
 
 -- a plan's refusal is how its send ends
 by_plan : (fault : PlanFault) (before after : ℕ) → RefusalEnds fault before after (Err (refusal_of fault))
 by_plan fault before after = plan_cases (λ f r. r ≡ refusal_of fault → RefusalEnds fault before after (Err r)) (λ f is. is) (λ which number is. is) fault refl
 
 -- a send that isn't opened writes nothing
-pub unopened_by : (has : Blocks) (start : Option Point) (planned : Result Sent PlanFault) (before after : ℕ) (out : SinkState) (refusal : Refusal) → OpensBy has start planned (Err refusal)
-    → SendsBy start planned before after out out (Err refusal)
-unopened_by has start (Ok sent) before after out refusal is = rw is (record { front = (begun_text sent start, Wrote-start out (begun_text sent start)); ends = refl })
-unopened_by has start (Err fault) before after out refusal is =
-    ⊎_elim (λ plan. rw plan (record { front = ([], Wrote-start out []); ends = (by_plan fault before after, refl) }))
-    (λ memory. rw memory (record { front = ([], Wrote-start out []); ends = (tt, refl) }))
-    is
+unread : (start : Option Point) (planned : Result Sent PlanFault) (before after : ℕ) (out : SinkState) → Rose before after → SendsBy start planned before after out out (Err refusals.DiskFault)
+unread start (Ok sent) before after out rose = record { front = (begun_text sent start, Wrote-start out (begun_text sent start)); ends = (rose, inl refl) }
+unread start (Err fault) before after out rose = record { front = ([], Wrote-start out []); ends = (rose, refl) }
+
+pub no_memory : (start : Option Point) (planned : Result Sent PlanFault) (before after : ℕ) (out : SinkState) → SendsBy start planned before after out out (Err refusals.OutOfMemory)
+no_memory start (Ok sent) before after out = record { front = (begun_text sent start, Wrote-start out (begun_text sent start)); ends = refl }
+no_memory start (Err fault) before after out = record { front = ([], Wrote-start out []); ends = (tt, refl) }
+
+pub unopened_by : (has : Blocks) (start : Option Point) (planned : Result Sent PlanFault) (before after : ℕ) (out : SinkState) (fault : PoolFault) → OpensBy has start planned (Err fault)
+    → (fault ≡ faults.DiskFault → Rose before after) → SendsBy start planned before after out out (Err (pool_refusal fault))
+unopened_by has start planned before after out (faults.Plan fault) is rose =
+    subst (λ (p : Result Sent PlanFault). SendsBy start p before after out out (Err (refusal_of fault))) (sym is)
+    (record { front = ([], Wrote-start out []); ends = (by_plan fault before after, refl) })
+unopened_by has start planned before after out (faults.CannotApply fault) is rose = absurd is
+unopened_by has start planned before after out (faults.Redacted object block) is rose = absurd is
+unopened_by has start planned before after out (faults.Full need largest) is rose = absurd is
+unopened_by has start planned before after out (faults.Damaged sector stated found) is rose = absurd is
+unopened_by has start planned before after out faults.DiskFault is rose = unread start planned before after out (rose refl)
+unopened_by has start planned before after out faults.Failed is rose = absurd is
+unopened_by has start planned before after out faults.OutOfMemory is rose = no_memory start planned before after out
 
 pub memory_refused : (here here' : DiskState) (out out' : SinkState) → IsSendRefusal OfGiving here here' out out' refusals.OutOfMemory
 memory_refused here here' out out' = record {
@@ -293,30 +304,34 @@ memory_refused here here' out out' = record {
   cause = λ is. absurd (cc is);
 }
 
-pub open_refused : (here here' : DiskState) (out out' : SinkState) (refusal : Refusal) → IsOpenRefusal refusal → IsSendRefusal OfGiving here here' out out' refusal
-open_refused here here' out out' refusal (inl plan) = rw plan.1 (record {
+pub open_refused : (old new : IoState) (out out' : SinkState) (fault : PoolFault) → Looks old new (stop_of {T = Send} (Err fault)) → (fault ≡ faults.Failed → ⊥)
+    → IsSendRefusal OfGiving old.disk new.disk out out' (pool_refusal fault)
+open_refused old new out out' fault looks alive = record {
   pool = record {
-    one = inl (faults.Plan plan.0, refl);
-    alive = λ is. let same = failed_before (faults.Plan plan.0) is in absurd (cc same);
-    cause = λ is. let same = disk_fault (faults.Plan plan.0) is in absurd (cc same);
+    one = inl (fault, refl);
+    alive = λ is. alive (failed_before fault is);
+    cause = λ is. looks.cause.fault (ap (λ (f : PoolFault). stop_of {T = Send} (Err f)) (disk_fault fault is));
   };
-  never_full = λ need largest is. let same = full_only (faults.Plan plan.0) need largest is in absurd (cc same);
-  cause = λ is. absurd (no_sink (faults.Plan plan.0) is);
-})
-open_refused here here' out out' refusal (inr memory) = rw memory (memory_refused here here' out out')
+  never_full = λ need largest is. looks.never_full need largest (ap (λ (f : PoolFault). stop_of {T = Send} (Err f)) (full_only fault need largest is));
+  cause = λ is. absurd (no_sink fault is);
+}
 
 -- ---- what its plan says of a send, whatever the image
 
 -- what wasn't opened ends as its plan says
-pub unopened_planned : (planned : Result Sent PlanFault) (out : SinkState) (refusal : Refusal) → PlansOpen planned (Err refusal) → IfUnplanned planned out out (Err refusal)
-unopened_planned (Ok sent) out refusal is = tt
-unopened_planned (Err fault) out refusal is =
-    ⊎_elim (λ plan. let one : plan.0 ≡ fault = cc plan.1 in (ap (λ (r : Refusal). Err r) (plan.2 ∙ ap refusal_of one), refl))
-    (λ memory. let passed = memory.1 in absurd (cc passed))
-    is
+pub unopened_planned : (planned : Result Sent PlanFault) (out : SinkState) (fault : PoolFault) → IsPlanned planned (Err fault) → IfUnplanned planned out out (Err (pool_refusal fault))
+unopened_planned (Ok sent) out fault is = tt
+unopened_planned (Err plan) out (faults.Plan fault) is = let same : fault ≡ plan = cc is in (ap (λ (f : PlanFault). Err (refusal_of f)) same, refl)
+unopened_planned (Err plan) out (faults.CannotApply fault) is = absurd is
+unopened_planned (Err plan) out (faults.Redacted object block) is = absurd is
+unopened_planned (Err plan) out (faults.Full need largest) is = absurd is
+unopened_planned (Err plan) out (faults.Damaged sector stated found) is = let passed = is.1 in absurd (cc passed)
+unopened_planned (Err plan) out faults.DiskFault is = let passed = is.1 in absurd (cc passed)
+unopened_planned (Err plan) out faults.Failed is = absurd is
+unopened_planned (Err plan) out faults.OutOfMemory is = let passed = is.1 in absurd (cc passed)
 
 -- what was opened has a plan that passes
-pub opened_planned : (planned : Result Sent PlanFault) (send : Send) (out out' : SinkState) (result : Result (Unit {0}) Refusal) → PlansOpen planned (Ok send)
+pub opened_planned : (planned : Result Sent PlanFault) (send : Send) (out out' : SinkState) (result : Result (Unit {0}) Refusal) → IsPlanned planned (Ok send)
     → IfUnplanned planned out out' result
 opened_planned (Ok sent) send out out' result is = tt
 opened_planned (Err fault) send out out' result is = let passed = is.1 in absurd (cc passed)
@@ -324,19 +339,22 @@ opened_planned (Err fault) send out out' result is = let passed = is.1 in absurd
 -- ---- why a plan's refusal comes, and of what E25
 
 -- what wasn't opened for a plan's refusal has that plan
-pub unopened_because : (planned : Result Sent PlanFault) (refusal : Refusal) → PlansOpen planned (Err refusal) → (fault : PlanFault) → refusal ≡ refusals.Plan fault → planned ≡ Err fault
-unopened_because planned refusal is fault same =
-    ⊎_elim (λ plan. plan.1 ∙ ap (λ (f : PlanFault). Err f) (plan_named plan.0 fault (sym plan.2 ∙ same)))
-    (λ memory. absurd (cc (memory.2, same)))
-    is
+pub unopened_because : (planned : Result Sent PlanFault) (fault : PoolFault) → IsPlanned planned (Err fault) → (plan : PlanFault) → pool_refusal fault ≡ refusals.Plan plan → planned ≡ Err plan
+unopened_because planned (faults.Plan fault) is plan same = is ∙ ap (λ (f : PlanFault). Err f) (plan_named fault plan same)
+unopened_because planned (faults.CannotApply fault) is plan same = absurd (cc same)
+unopened_because planned (faults.Redacted object block) is plan same = absurd (cc same)
+unopened_because planned (faults.Full need largest) is plan same = absurd (cc same)
+unopened_because planned (faults.Damaged sector stated found) is plan same = absurd (cc same)
+unopened_because planned faults.DiskFault is plan same = absurd (cc same)
+unopened_because planned faults.Failed is plan same = absurd (cc same)
+unopened_because planned faults.OutOfMemory is plan same = absurd (cc same)
 
--- and tells no damage
-pub unopened_damage : (Is : DamageFact) (refusal : Refusal) → IsOpenRefusal refusal → TellsOf Is (Err refusal)
-unopened_damage Is refusal is = λ sector stated found same.
-    let told : refusal ≡ refusals.Damaged sector stated found = cc same in
-    ⊎_elim (λ plan. absurd (plan_cases (λ f r. r ≡ refusals.Damaged sector stated found → ⊥) (λ f e. absurd (cc e)) (λ w n e. absurd (cc e)) plan.0 (sym plan.1 ∙ told)))
-    (λ memory. absurd (cc (memory, told)))
-    is
+-- and tells a damage of a list alone
+pub unopened_damage : (request : SendRequest) (rows : Rows) (old : IoState) (fault : PoolFault) → TellsLists request old rows (Err fault)
+    → TellsOf (IsDamagedRequest request old.space.end rows old.disk) (Err (pool_refusal fault))
+unopened_damage request rows old fault is = λ sector stated found same.
+    let told : pool_refusal fault ≡ refusals.Damaged sector stated found = cc same in
+    inr (is sector stated found (damaged_only fault sector stated found told))
 
 -- an image alone is among itself, and nothing else is
 pub among_one : (seen : List ℕ) → Contains (seen ∷ []) seen
@@ -350,7 +368,7 @@ is_one seen image among = go among.0 among.1 among.2
     go (suc k) below is = absurd (omega (arith, below))
 
 -- the damage of the set of what is asked is told of that
-pub set_damage : (rows : Rows) (request : SendRequest) (disk : DiskState) (set : ObjSet) (result : Result (Unit {0}) Refusal) → HasSet request rows set
-    → TellsOf (IsDamagedSend (IsAmong (disk.seen ∷ [])) disk.size set) result → TellsOf (IsDamagedRequest request rows disk) result
-set_damage rows request disk set result named told = λ sector stated found is.
-    (set, named, send_more (IsAmong (disk.seen ∷ [])) (IsSeen disk.seen) (is_one disk.seen) disk.size set sector stated found (told sector stated found is))
+pub set_damage : (rows : Rows) (request : SendRequest) (end : ℕ) (disk : DiskState) (set : ObjSet) (result : Result (Unit {0}) Refusal) → HasSet request rows set
+    → TellsOf (IsDamagedSend (IsAmong (disk.seen ∷ [])) disk.size set) result → TellsOf (IsDamagedRequest request end rows disk) result
+set_damage rows request end disk set result named told = λ sector stated found is.
+    inl (set, named, send_more (IsAmong (disk.seen ∷ [])) (IsSeen disk.seen) (is_one disk.seen) disk.size set sector stated found (told sector stated found is))

@@ -28,21 +28,18 @@ use Rattle.zst_record.specs.Laws.{AreBytes}
 use Rattle.zst_record.specs.declared.head.Head.{Head}
 use Rattle.zst_stream.specs.Findings.{IsFound}
 use Rattle.zst_stream.specs.Reading.{Reading, Ruling, after, last, more, reading, reading_from, refuse, ruling, wait}
-use Rattle.zst_tree.specs.Indices.{Blocks}
 use Rattle.zst_send.proofs.SetDates.{rows_tell}
 use Rattle.zst_recv.specs.Answers.{FeedFault, Feeds, GoesOn, IsStopped, applied_of, is_done}
 use Rattle.zst_recv.specs.Faults.{IsFeedFault, recv_refusal}
 use Rattle.zst_recv.specs.Feeds.{fed_piece, new_records, receives}
 use Rattle.zst_recv.specs.ReceiveSteps.{Stage, Waits, Lives, Ends, Batch, Fed, Goes, Stops, at_stage, batch_of, committed, fed, left_by, pool_of, put, put_at, settled}
 use Rattle.zst_recv.specs.Stages as standing
-use Rattle.zst_recv.specs.Stages.{IsStage, TellsBefore}
+use Rattle.zst_recv.specs.Stages.{TellsBefore}
 use Rattle.zst_recv.specs.TakenRecords.{fault_in}
 use Rattle.zst_recv.specs.declared.fault.RecvFault.{RecvFault}
 use Rattle.zst_recv.specs.declared.fault.RecvFault.TheVariants as faults
 use Rattle.zst_recv.specs.declared.recv.FeedReport as coded
 use Rattle.zst_recv.specs.declared.recv.Recv.{Recv}
-use Rattle.zst_recv.specs.declared.stage.Stage as stages
-use Rattle.zst_recv.specs.declared.stage.Stage.TheVariants as variants
 use Rattle.zst_replication.specs.RecordCounts.{Counts, RecordsAreCounted}
 use Rattle.zst_uber.specs.declared.uber.Uber.{Uber}
 use Rattle.zst_run.specs.Receives.{IsOpen, IsTightOrNew, LastFindsNoRoom, ReceiveEnds, Refused, Stopped, piece_size}

@@ -30,7 +30,7 @@ use Rattle.zst_image.specs.declared.pool_state.PoolState.{PoolState}
 use Rattle.zst_pool.specs.Cost.{CostsMore, Grows, HasNoRoom, cost_of, most_sectors}
 use Rattle.zst_pool.specs.Damage.{TellsDamage}
 use Rattle.zst_pool.specs.Faults.{pool_refusal}
-use Rattle.zst_pool.specs.Plans.{IsLimitOf, indices_end, is_by_rows, numbers_end}
+use Rattle.zst_pool.specs.Plans.{IsLimitOf, indices_end, is_by_rows, makes_list, numbers_end}
 use Rattle.zst_pool.specs.declared.fault.PoolFault.{PoolFault}
 
 -- an image that stood before a command, or one that reads as the pool before it or as the pool after it
@@ -54,7 +54,7 @@ pub record IsPoolRefusal (Is : Refusal → Type 0) (here here' : DiskState) (ref
 
 -- so many sectors a command takes at most in this pool, whose directory has these rows that last
 abbrev pub most_of : Command → Rows → Pool → ℕ
-most_of command rows pool = most_sectors (cost_of command).cells ((cost_of command).block pool) (kept_rows rows)
+most_of command rows pool = most_sectors (cost_of command).cells ((cost_of command).block pool) ((cost_of command).list pool) (kept_rows rows)
 
 -- The command was done: the lines and the pool are the definition's, and no more sectors are taken than it costs.
 pub record IsDone (tight : Bool) (command : Command) (uber : Uber) (rows : Rows) (pool : Pool) (here' : DiskState) (after : Result Stepped Refusal) (lines : List (List ℕ)) : Type 0 where
@@ -66,16 +66,16 @@ pub record IsDone (tight : Bool) (command : Command) (uber : Uber) (rows : Rows)
   pub rests : Rests tight here' body directory done.pool
   pub grows : Grows (most_of command rows pool) uber body
 
--- there was no room for the sectors that are needed, by a command that costs so many cells and so many sectors of data
-abbrev pub IsShort : ℕ → ℕ → Uber → Rows → ℕ → ℕ → Type 0
-IsShort cells block uber rows need largest = (left : FreeSectors) × HasNoRoom cells block uber (kept_rows rows) left need largest
+-- there was no room for the sectors that are needed, by a command that costs so many cells and so many sectors of data and of a list
+abbrev pub IsShort : (cells block list : ℕ) → Uber → Rows → (need largest : ℕ) → Type 0
+IsShort cells block list uber rows need largest = (left : FreeSectors) × HasNoRoom cells block list uber (kept_rows rows) left need largest
 
 -- E24: the definition accepts, and there was less room than the command takes at most, and than it takes with the directory that it would leave
 pub record IsFull (command : Command) (uber : Uber) (rows : Rows) (pool : Pool) (after : Result Stepped Refusal) (need largest : ℕ) : Type 0 where
   pub done : Stepped
   pub accepts : after ≡ Ok done
-  pub short : IsShort (cost_of command).cells ((cost_of command).block pool) uber rows need largest
-  pub costs : CostsMore (cost_of command).cells ((cost_of command).block pool) uber after
+  pub short : IsShort (cost_of command).cells ((cost_of command).block pool) ((cost_of command).list pool) uber rows need largest
+  pub costs : CostsMore (cost_of command).cells ((cost_of command).block pool) ((cost_of command).list pool) uber after
 
 -- What stands after a command on the pool of this body and these rows. A refusal leaves the pool as it was, unless the
 -- disk failed, and is the definition's, unless the disk is full or no memory is left.
@@ -97,22 +97,22 @@ pub record HasVersion (here : DiskState) (number : ℕ) : Type 0 where
 abbrev pub Opens : DiskState → Uber → Rows → Type 0
 Opens here uber rows = (body : List ℕ) × (latest here.seen ≡ Some body) × IsOpened here body uber rows
 
--- What the directory tells alone: E3 to E6, E14, and E23 of datasets, snapshots, bookmarks and guids come exactly where the definition
--- refuses a pool that the body and the rows name, whatever its object sets hold. Any other E23 is past a limit.
+-- What the directory tells alone: E3 to E6, E8, E14, E19, and E23 of datasets, snapshots, bookmarks and guids come exactly where the
+-- definition refuses a pool that the body and the rows name, whatever its object sets hold. Any other E23 is past a limit.
 pub record Planned (now : ℕ) (command : Command) (uber : Uber) (rows : Rows) (answer : Result (List (List ℕ)) Refusal) : Type 0 where
   pub exact : (pool : Pool) (fault : PlanFault) → IsNamedBy uber (kept_rows rows) pool → is_by_rows fault ≡ true
       → (stepped [] now command pool ≡ Err (refusal_of fault)) ↔ (answer ≡ Err (refusal_of fault))
   pub limits : (fault : PlanFault) → answer ≡ Err (refusal_of fault)
-      → (is_by_rows fault ≡ true) ⊎ IsLimitOf (numbers_end command) (indices_end command) uber fault
+      → (is_by_rows fault ≡ true) ⊎ IsLimitOf (numbers_end command) (indices_end command) (makes_list command) uber fault
 
 -- A command on a pool that was opened by this body and these rows, whether or not the image reads as a pool: a refusal, but
 -- for E28, wrote into sectors alone that the body leaves free; E24 comes only where there is less room than the command may
--- cost, and E25 only of a block that is damaged in the object set that the command names.
+-- cost, and E25 only of a block that is damaged in an object set that the command names.
 pub record Ran (now : ℕ) (command : Command) (here here' : DiskState) (answer : Result (List (List ℕ)) Refusal) (uber : Uber) (rows : Rows) : Type 0 where
   pub opens : Opens here uber rows
   pub spares : OnErr answer (SparesTaken (free_by uber) here.seen here'.seen)
   pub full : (need largest : ℕ) → answer ≡ Err (refusals.Full need largest)
-      → (block : ℕ) × (block ≤ (cost_of command).most) × IsShort (cost_of command).cells block uber rows need largest
+      → (block : ℕ) × (block ≤ (cost_of command).most) × IsShort (cost_of command).cells block (cost_of command).most_list uber rows need largest
   pub damaged : (sector : ℕ) (stated found : List ℕ) → answer ≡ Err (refusals.Damaged sector stated found)
       → TellsDamage command (kept_rows rows) here (free_by uber) sector stated found
   pub planned : answer ≢ Err refusals.OutOfMemory → Planned now command uber rows answer

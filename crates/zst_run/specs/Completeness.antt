@@ -9,17 +9,20 @@ use Rattle.zst_uber.specs.declared.uber.Uber.{Uber}
 use Rattle.zst_model.specs.declared.pools.command.Command.{Command}
 use Rattle.zst_model.specs.declared.refusals.refusal.Refusal.{Refusal}
 use Rattle.zst_model.specs.declared.refusals.refusal.Refusal.TheVariants as refusals
+use Rattle.zst_model.specs.declared.sends.ask.SendAsk.{SendAsk}
 use Rattle.zst_model.specs.pools.Pool.{Pool}
 use Rattle.zst_model.specs.pools.Step.{Stepped, stepped}
-use Rattle.zst_model.specs.sends.Headers.{Sent}
+use Rattle.zst_model.specs.sends.Headers.{Sent, header_of}
 use Rattle.zst_dir.specs.Rows.{Rows}
 use Rattle.zst_image.specs.Reads.{Reads, ReadsAs, kept_rows}
+use Rattle.zst_plan.specs.RecvPlan.{Base, Begins, recv_plan}
 use Rattle.zst_plan.specs.declared.receive.RecvAsk.{RecvAsk}
 use Rattle.zst_pool.specs.Cost.{CostsMore, cost_of}
 use Rattle.zst_reader.specs.InputReads.{stream_limit}
 use Rattle.zst_recv.specs.Feeds.{receives}
 use Rattle.zst_recv.specs.ReceiveSteps.{Stops}
 use Rattle.zst_recv.specs.Tokens.{token_told}
+use Rattle.zst_replication.specs.TakenSends.{IsOfCommit}
 use Rattle.zst_send.specs.Sends.{begun_text}
 use Rattle.zst_stream.specs.Reading.{complete, reading}
 use Rattle.zst_token.specs.declared.token.Token.{Token}
@@ -29,7 +32,9 @@ use Rattle.zst_run.specs.Receives.{ArePieces, CostMore, IsTightOrNew, Receiving}
 use Rattle.zst_run.specs.Replies.{Replies}
 use Rattle.zst_run.specs.Runs.{Told}
 use Rattle.zst_run.specs.declared.send.SendRequest.{SendRequest}
-use Rattle.zst_run.specs.Sends.{Sends, start_of, to_send}
+use Rattle.zst_run.specs.declared.send.SendRequest.TheVariants.{Named}
+use Rattle.zst_run.specs.Replication.{IsReceiver, IsSender}
+use Rattle.zst_run.specs.Sends.{ReadsFor, Sends, start_of, to_send}
 use Rattle.zst_run.specs.Tokens.{Tokens}
 
 -- no fault was counted in between
@@ -46,12 +51,12 @@ DoneIsTold = (note note' : SinkState) (status : ℕ) (result : Result (Unit {0})
 
 -- ---- sends
 
--- A run of `send` from an image that reads as a pool: where its plan passes, what is to be sent is no longer than a stream may be, and neither
+-- A run of `send` from an image that reads as a pool for it: where its plan passes, what is to be sent is no longer than a stream may be, and neither
 -- the disk nor the output counted a fault, it is done, or no memory was left.
 abbrev pub SendsComplete : (here here' : DiskState) → Type 0
 SendsComplete here here' =
     (request : SendRequest) (pool : Pool) (sent : Sent) (out out' : SinkState) (result : Result (Unit {0}) Refusal)
-    → here'.honest → Reads false pool here.seen → to_send request pool ≡ Ok sent → length (begun_text sent (start_of request)) ≤ stream_limit
+    → here'.honest → ReadsFor request pool here.seen → to_send request pool ≡ Ok sent → length (begun_text sent (start_of request)) ≤ stream_limit
     → NoneCounted here.faults here'.faults → NoneCounted out.faults out'.faults
     → Sends request here here' out out' result → DoneOrNoMemory result
 
@@ -89,11 +94,51 @@ ReceivesComplete here here' =
     → NoneCounted here.faults here'.faults → NoneCounted input.faults input'.faults → NoneCounted out.faults out'.faults
     → Replies (Receiving ask here here' input input') out out' result → DoneOrNoMemory result
 
+-- ---- what was sent
+
+-- a run of `send` of what is asked, in which neither the disk nor the output counted a fault
+pub record SendsWell (request : SendRequest) (here here' : DiskState) (out out' : SinkState) (result : Result (Unit {0}) Refusal) : Type 0 where
+  pub honest : here'.honest
+  pub sends : Sends request here here' out out' result
+  pub disk : NoneCounted here.faults here'.faults
+  pub sink : NoneCounted out.faults out'.faults
+
+-- a run of `receive` of what is asked, in which none of the disk, the input and the output counted a fault
+pub record ReceivesWell (ask : RecvAsk) (here here' : DiskState) (input input' : SourceState) (out out' : SinkState) (result : Result (Unit {0}) Refusal) : Type 0 where
+  pub receives : Replies (Receiving ask here here' input input') out out' result
+  pub disk : NoneCounted here.faults here'.faults
+  pub source : NoneCounted input.faults input'.faults
+  pub sink : NoneCounted out.faults out'.faults
+
+-- no commit of a receive of a front of this text passes a limit of the pool: of partial states, datasets, snapshots or commits (E23)
+abbrev pub PassesNoLimit : RecvAsk → Pool → List ℕ → Type 0
+PassesNoLimit ask pool text =
+    (pieces : List (List ℕ)) (after : Pool) (refusal : Refusal) → AreOfFront text pieces → receives ask pool pieces ≡ Stops after refusal → ¬ (IsOfCommit refusal)
+
+-- a receive of what is sent is planned, and there is room for its stream, which is no longer than one may be: on the image, and within the limits of the pool
+pub record CanTake (ask : RecvAsk) (pool : Pool) (sent : Sent) (here : DiskState) : Type 0 where
+  pub component : List ℕ
+  pub base : Base
+  pub planned : recv_plan ask (header_of sent) pool ≡ Ok (Begins component base)
+  pub short : length (begun_text sent None) ≤ stream_limit
+  pub limits : PassesNoLimit ask pool (begun_text sent None)
+  pub room : HasRoom here (begun_text sent None)
+
+-- A snapshot that one run sends another receives: where the plans of both pass, there is room, and no fault was counted, the run of `send` is done, or no memory
+-- was left; and where it is done, so is each run of `receive` whose input has what it wrote. That its records apply needs no premise.
+abbrev pub TransfersComplete : (here here' there there' : DiskState) → Type 0
+TransfersComplete here here' there there' =
+    (tight : Bool) (ask : SendAsk) (receive : RecvAsk) (from into : Pool) (sent : Sent) (text : List ℕ) (out out' other other' : SinkState) (input input' : SourceState)
+    (result answer : Result (Unit {0}) Refusal)
+    → IsSender (Named ask) from sent here → IsReceiver tight receive into from sent there there' → CanTake receive into sent there
+    → SendsWell (Named ask) here here' out out' result → ReceivesWell receive there there' input input' other other' answer
+    → DoneOrNoMemory result × (result ≡ Ok tt → out'.written ≡ out.written ++ text → HasText text input input' → DoneOrNoMemory answer)
+
 -- ---- the other lines
 
 -- there is room for a command: as many sectors are free by this body as it takes at most, or as it takes with each directory of rows that name the pool that it makes
 abbrev pub HasRoomFor : Command → Uber → Rows → Pool → Result Stepped Refusal → Type 0
-HasRoomFor command uber rows pool after = (most_of command rows pool ≤ uber.sectors - uber.end) ⊎ ¬ (CostsMore (cost_of command).cells ((cost_of command).block pool) uber after)
+HasRoomFor command uber rows pool after = (most_of command rows pool ≤ uber.sectors - uber.end) ⊎ ¬ (CostsMore (cost_of command).cells ((cost_of command).block pool) ((cost_of command).list pool) uber after)
 
 -- A run of a command on an image that reads as a pool: where the definition accepts it, there is room for it by the latest body, and neither
 -- the disk nor the output counted a fault, it is done, or no memory was left.

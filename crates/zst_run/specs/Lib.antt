@@ -1,6 +1,7 @@
 pub mod Dumps
 pub mod Receives
 pub mod Replication
+pub mod Unreadable
 pub mod Completeness
 pub mod Replies
 pub mod Commands
@@ -12,5 +13,6 @@ pub mod Runs
 pub mod DumpTurns
 pub mod Sends
 pub mod Tokens
+pub mod AlikeTokens
 pub mod SendPieces
 pub mod ReceiveTurns

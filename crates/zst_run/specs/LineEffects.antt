@@ -47,7 +47,7 @@ token_dataset_of (Token image dataset) = Some dataset
 token_dataset_of line = None
 
 -- What a line does: `dump` reads the input and leaves the image alone, `receive` reads the input, and all others leave it alone. Those
--- that redact, check, make room or run scripts aren't built yet: they are refused (E19), and nothing is done.
+-- that check, make content, make room or run scripts aren't built yet: they are refused (E19), and nothing is done.
 abbrev pub DoesLine : {D : Type 0} → (D → DiskState) → ℕ → Line → Devices D → Devices D → Result (Unit {0}) Refusal → Type 0
 DoesLine state now Dump old new result = Dumps old.input new.input old.out new.out result × (new.here ≡ old.here)
 DoesLine state now (Create image sectors id) old new result =

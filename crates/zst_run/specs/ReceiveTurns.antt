@@ -245,25 +245,28 @@ module _ {D : Type 0} {g : Ghosts D} where
 
 module _ {D : Type 0} {g : Ghosts D} where
   -- What a turn leaves of the blocks, whatever the image: one that goes on each that was there, over the sectors that the latest body leaves free, and any, unless
-  -- the disk failed, each in sectors that the body before left not free; one that waits for BEGIN committed nothing. The set of a partial state that goes on was made
-  -- of the one that the turn began with, and E25 tells a damage of that one.
+  -- the disk failed, each in sectors that the body before left not free; one that waits for BEGIN committed nothing.
   pub record TurnBlocks (old new : OpenedPool D g) (recv recv' : Recv) (turn : Turn) : Type 0 where
     pub blocks : turn ≡ turns.More → KeepsBlocks (disk_of old.io).seen (free_by old.kept.body) (disk_of new.io).seen (free_by new.kept.body)
     pub stood : ¬ (turn ≡ turns.Refused refusals.DiskFault) → KeepsBlocks (disk_of old.io).seen (free_by old.kept.body) (disk_of new.io).seen (free_by old.kept.body)
     pub size : (disk_of new.io).size ≡ (disk_of old.io).size
     pub waits : is_waiting recv' ≡ true → (new.kept ≡ old.kept) × (is_waiting recv ≡ true)
-    pub makes : IsHonest new.io → turn ≡ turns.More
-        → MakesStage old.kept.dir (ask_of recv).target (disk_of old.io).seen (free_by old.kept.body) (disk_of old.io).size (stage_of recv) (disk_of new.io).seen (free_by new.kept.body) (stage_of recv')
-    pub damaged : (sector : ℕ) (stated found : List ℕ) → IsHonest new.io → turn ≡ turns.Refused (refusals.Damaged sector stated found)
-        → IsDamagedFeed (disk_of old.io) (free_by old.kept.body) old.kept.dir (ask_of recv).target (stage_of recv) sector stated found
 
--- the set of a partial state that is under way was made from the rows at the start; and while BEGIN is waited for, these still are
-abbrev pub Traced : DiskState → PoolState → (target : List ℕ) → List ℕ → PoolState → coded.Stage → Type 0
-Traced start first target seen kept stages.Waits = kept ≡ first
-Traced start first target seen kept (stages.Lives flags row) = (pieces : ℕ) × MadeBy pieces start.seen start.size (free_by first.body) first.dir target seen (free_by kept.body) row.objects
-Traced start first target seen kept (stages.Ends row) = Unit {0}
-Traced start first target seen kept (stages.Done received) = Unit {0}
-Traced start first target seen kept stages.Over = Unit {0}
+  -- What a turn makes of the set, whatever the image, behind which all of this text was fed: the set of a partial state that goes on was made of the one that the
+  -- turn began with, and E25 tells a damage of that one.
+  pub record TurnSets (old new : OpenedPool D g) (recv recv' : Recv) (text : List ℕ) (turn : Turn) : Type 0 where
+    pub makes : IsHonest new.io → turn ≡ turns.More
+        → MakesStage old.kept.dir (ask_of recv) text (disk_of old.io).seen (free_by old.kept.body) (disk_of old.io).size (stage_of recv) (disk_of new.io).seen (free_by new.kept.body) (stage_of recv')
+    pub damaged : (sector : ℕ) (stated found : List ℕ) → IsHonest new.io → turn ≡ turns.Refused (refusals.Damaged sector stated found)
+        → IsDamagedFeed (disk_of old.io) (free_by old.kept.body) old.kept.dir (ask_of recv) text (stage_of recv) sector stated found
+
+-- the set of a partial state that is under way by this text was made from the rows at the start; and while BEGIN is waited for, these still are
+abbrev pub Traced : DiskState → PoolState → RecvAsk → (text : List ℕ) → List ℕ → PoolState → coded.Stage → Type 0
+Traced start first ask text seen kept stages.Waits = kept ≡ first
+Traced start first ask text seen kept (stages.Lives flags row) = (pieces : ℕ) × MadeBy pieces start.seen start.size (free_by first.body) first.dir ask text seen (free_by kept.body) row.objects
+Traced start first ask text seen kept (stages.Ends row) = Unit {0}
+Traced start first ask text seen kept (stages.Done received) = Unit {0}
+Traced start first ask text seen kept stages.Over = Unit {0}
 
 -- a receive that was given nothing yet
 pub record IsUnfed (recv : Recv) : Type 0 where
@@ -290,14 +293,14 @@ IsEnd old now input input' refusal =
     IsFeedRefusal old now refusal ⊎ (((at : ℕ) × (refusal ≡ refusals.Stream (Truncated at))) ⊎ ((refusal ≡ refusals.SourceFault) × Rose input.faults input'.faults))
 
 module _ {D : Type 0} {g : Ghosts D} where
-  -- Why a receive for this target ends by this answer, whatever the image: each refusal has its cause, E25 tells a damage of a set that was made from the rows at
-  -- the start, and unless the disk failed each block still stands that stood in sectors which the body left not free.
-  pub record WhyReceiveEnds (old new : OpenedPool D g) (target : List ℕ) (input input' : SourceState) (result : Result Receipt Refusal) : Type 0 where
+  -- Why a receive of what is asked ends by this answer, whatever the image: each refusal has its cause, E25 tells a damage of a set that was made from the rows at
+  -- the start by what was read, and unless the disk failed each block still stands that stood in sectors which the body left not free.
+  pub record WhyReceiveEnds (old new : OpenedPool D g) (ask : RecvAsk) (input input' : SourceState) (result : Result Receipt Refusal) : Type 0 where
     pub refused : IfErr result (IsEnd (disk_of old.io) (disk_of new.io) input input')
     -- a block that is found damaged is told so
     pub told : ends_damaged result ≡ false → new.io.checksum_errors ≡ old.io.checksum_errors
-    pub damaged : (sector : ℕ) (stated found : List ℕ) → IsHonest new.io → result ≡ Err (refusals.Damaged sector stated found)
-        → IsDamagedReceive (disk_of old.io).seen (disk_of old.io).size old.kept.body old.kept.dir target sector stated found
+    pub damaged : (text : List ℕ) → Gave input input' text → (sector : ℕ) (stated found : List ℕ) → IsHonest new.io → result ≡ Err (refusals.Damaged sector stated found)
+        → IsDamagedReceive (disk_of old.io).seen (disk_of old.io).size old.kept.body old.kept.dir ask text sector stated found
     pub stood : ¬ (result ≡ Err refusals.DiskFault) → KeepsBlocks (disk_of old.io).seen (free_by old.kept.body) (disk_of new.io).seen (free_by old.kept.body)
 
 -- what ends a receive whose input gave no more

@@ -1,5 +1,5 @@
 -- What a receive reads, what it leaves of an image, and why it ends.
-use Rattle.std.specs.Prelude.{ℕ, zero, suc, ◌+◌, ◌-◌, ◌≡◌, ◌⊎◌, ◌<◌, ◌≤◌, Bool, true, false, IsTrue, IfErr, List, [], ◌∷◌, ◌++◌, length, take, codes, decimal, Option, None, Result, Ok, Err}
+use Rattle.std.specs.Prelude.{ℕ, zero, suc, ◌+◌, ◌-◌, ◌≡◌, ◌⊎◌, ◌<◌, ◌≤◌, Bool, true, false, IsTrue, IfErr, List, [], ◌∷◌, ◌++◌, length, take, codes, decimal, None, Result, Ok, Err}
 use Rattle.std.specs.List.{concat}
 use Rattle.zst_outside.specs.Causes.{Rose}
 use Rattle.zst_outside.specs.Images.{DiskState, Leaves, OnlyReads}
@@ -173,22 +173,22 @@ pub record SaysOfPlan (rows : Rows) (ask : RecvAsk) (text : List ℕ) (answer : 
   pub planned : (fault : PlanFault) → length text ≤ stream_limit → RefusesOne rows ask text fault → answer ≡ Err (refusal_of fault)
   pub because : (fault : PlanFault) → answer ≡ Err (refusals.Plan fault) → RefusesEach rows ask text fault
 
--- A set that so many pieces made, from an image of so many bytes, over the sectors that are free there, on which these rows stand: it is the target's partial
--- state's, a snapshot's or none, as the rows list them; and each piece made it of the one that the pieces before had made.
-abbrev pub MadeBy : (pieces : ℕ) → (image : List ℕ) → (size : ℕ) → FreeSectors → Rows → (target : List ℕ) → (seen : List ℕ) → (left : FreeSectors) → ObjSet → Type 0
-MadeBy zero image size free rows target seen left set = IsBegun rows target set × KeepsBlocks image free seen left
-MadeBy (suc pieces) image size free rows target seen left set =
-    (old : List ℕ) × (more : FreeSectors) × (base : ObjSet) × MadeBy pieces image size free rows target old more base × PieceMakes old more size base seen left set
+-- A set that so many pieces made, from an image of so many bytes, over the sectors that are free there, on which these rows stand: it is the one with which the
+-- stream of this text begins, by its plan over the rows: the target's partial state's, the base's, or none; and each piece made it of the one that the pieces before had made.
+abbrev pub MadeBy : (pieces : ℕ) → (image : List ℕ) → (size : ℕ) → FreeSectors → Rows → RecvAsk → (text : List ℕ) → (seen : List ℕ) → (left : FreeSectors) → ObjSet → Type 0
+MadeBy zero image size free rows ask text seen left set = IsBegun rows ask text set × KeepsBlocks image free seen left
+MadeBy (suc pieces) image size free rows ask text seen left set =
+    (old : List ℕ) × (more : FreeSectors) × (base : ObjSet) × MadeBy pieces image size free rows ask text old more base × PieceMakes old more size base seen left set
 
--- E25 of a receive: of a set that some pieces made from the rows that were opened, as the disk read when the refused piece began; each block that stood as the
--- run began still stood then.
-pub record IsDamagedReceive (image : List ℕ) (size : ℕ) (uber : Uber) (rows : Rows) (target : List ℕ) (sector : ℕ) (stated found : List ℕ) : Type 0 where
+-- E25 of a receive of a text: of a set that some pieces made from the rows that were opened, as the disk read when the refused piece began; each block that stood
+-- as the run began still stood then.
+pub record IsDamagedReceive (image : List ℕ) (size : ℕ) (uber : Uber) (rows : Rows) (ask : RecvAsk) (text : List ℕ) (sector : ℕ) (stated found : List ℕ) : Type 0 where
   pub pieces : ℕ
   pub seen : List ℕ
   pub left : FreeSectors
   pub set : ObjSet
   pub blocks : KeepsBlocks image (free_by uber) seen left
-  pub made : MadeBy pieces image size (free_by uber) rows target seen left set
+  pub made : MadeBy pieces image size (free_by uber) rows ask text seen left set
   pub damaged : apply_damage (SparesTaken left seen) size set sector stated found
 
 -- a receive of what is asked, by these pieces, into a pool that was opened by this body and these rows, whether or not the image reads as a pool: E24 comes only
@@ -199,7 +199,7 @@ pub record ReceiveRan (ask : RecvAsk) (pieces : List (List ℕ)) (here here' : D
   pub stood : ¬ (answer ≡ Err refusals.DiskFault) → KeepsBlocks here.seen (free_by uber) here'.seen (free_by uber)
   pub full : (need largest : ℕ) → answer ≡ Err (refusals.Full need largest) → largest < need
   pub planned : SaysOfPlan (kept_rows rows) ask (concat pieces) answer
-  pub damaged : (sector : ℕ) (stated found : List ℕ) → answer ≡ Err (refusals.Damaged sector stated found) → IsDamagedReceive here.seen here.size uber (kept_rows rows) ask.target sector stated found
+  pub damaged : (sector : ℕ) (stated found : List ℕ) → answer ≡ Err (refusals.Damaged sector stated found) → IsDamagedReceive here.seen here.size uber (kept_rows rows) ask (concat pieces) sector stated found
 
 -- What an answer says of the pieces that were read, whatever the image: a fault that is found in a stream is that of their reading, E20 comes where their
 -- reading waits for more, and tells the count of their bytes at the end of an input that didn't fail, and there is a line only where their reading is complete.

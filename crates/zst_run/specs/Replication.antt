@@ -18,12 +18,12 @@ use Rattle.zst_dir.specs.Rows.{Rows}
 use Rattle.zst_image.specs.Reads.{Reads, ReadsAs}
 use Rattle.zst_plan.specs.RecvPlan.{Base, Begins, recv_plan}
 use Rattle.zst_plan.specs.declared.receive.RecvAsk.{RecvAsk}
-use Rattle.zst_stream.specs.Items.{IsUnredacted}
 use Rattle.zst_send.specs.Sends.{begun_text}
 use Rattle.zst_recv.specs.Tokens.{token_told}
 use Rattle.zst_replication.specs.Histories.{StillRemembers}
-use Rattle.zst_replication.specs.MatchingBases.{KnowsSource}
+use Rattle.zst_replication.specs.MatchingBases.{IsWithin, KnowsSource}
 use Rattle.zst_replication.specs.Outcomes.{Course, HasNothing, HasOneMore, Progress, base_name, course_from, course_on}
+use Rattle.zst_replication.specs.Replicas.{sent_state}
 use Rattle.zst_replication.specs.Resumption.{Chain, IsUnderway}
 use Rattle.zst_token.specs.Spelling.{IsToken}
 use Rattle.zst_token.specs.declared.token.Token.{Token}
@@ -31,14 +31,14 @@ use Rattle.zst_run.specs.Receives.{IsTightOrNew, Keeps, Receiving}
 use Rattle.zst_run.specs.Replies.{Replies}
 use Rattle.zst_run.specs.declared.send.SendRequest.{SendRequest}
 use Rattle.zst_run.specs.declared.send.SendRequest.TheVariants.{Named, Rest}
-use Rattle.zst_run.specs.Sends.{Sends, to_send}
+use Rattle.zst_run.specs.Sends.{ReadsFor, Sends, to_send}
 
--- an image is read as this pool, and this is what a send of it that is asked so is to give, from its beginning or from a token's point; no block
--- of the snapshot is redacted
+-- an image is read as this pool for what is asked, and this is what a send of it is to give, from its beginning or from a token's point, which is
+-- within what a stream can say
 pub record IsSender (request : SendRequest) (from : Pool) (sent : Sent) (here : DiskState) : Type 0 where
-  pub reads : Reads false from here.seen
+  pub reads : ReadsFor request from here.seen
   pub is : to_send request from ≡ Ok sent
-  pub plain : IsUnredacted sent.snapshot.objects.state
+  pub within : IsWithin sent
 
 -- an image is read as this pool, whose sets are tight, or which lacks the target; the target has no partial state, and the receiver's
 -- snapshots with the source's guid have what the source remembers
@@ -51,13 +51,13 @@ pub record IsReceiver (tight : Bool) (ask : RecvAsk) (into from : Pool) (sent : 
   pub alone : partial_of ask.target into ≡ None
   pub knows : KnowsSource from sent.source into
 
--- an image is read as this pool, and what a token asks for gives there the same view as what was sent; no block of the snapshot is redacted
+-- an image is read as this pool for what a token asks, and that gives there the same view as what was sent, and is within what a stream can say
 pub record IsRestSender (token : Token) (from : Pool) (sent also : Sent) (here : DiskState) : Type 0 where
   pub is_token : IsToken token
-  pub reads : Reads false from here.seen
+  pub reads : ReadsFor (Rest token) from here.seen
   pub is : to_send (Rest token) from ≡ Ok also
   pub same_view : sent_view also ≡ sent_view sent
-  pub plain : IsUnredacted also.snapshot.objects.state
+  pub within : IsWithin also
 
 -- an image is read as this pool, whose sets are tight, or which lacks the target, and which tells this token of it
 pub record IsRestReceiver (tight : Bool) (token : Token) (ask : RecvAsk) (into : Pool) (there there' : DiskState) : Type 0 where
@@ -80,17 +80,17 @@ pub record IsReadOf (text : List ℕ) (input input' : SourceState) : Type 0 wher
 abbrev pub IsPiped : (out out' : SinkState) → (input input' : SourceState) → Type 0
 IsPiped out out' input input' = (text : List ℕ) × (out'.written ≡ out.written ++ text) × IsReadOf text input input'
 
--- one snapshot more stands: the one that was sent, under the name and over the base that the plan gives it
+-- one snapshot more stands: the one that was sent, redacted as it was asked, under the name and over the base that the plan gives it
 pub record IsReplicated (tight : Bool) (ask : RecvAsk) (into : Pool) (sent : Sent) (there' : DiskState) : Type 0 where
   pub after : Pool
   pub keeps : Keeps tight there' after
   pub component : List ℕ
   pub base : Base
   pub planned : recv_plan ask (header_of sent) into ≡ Ok (Begins component base)
-  pub more : HasOneMore into (kept_of after) ask.target component (base_name base) (header_of sent) sent.snapshot.objects.state
+  pub more : HasOneMore into (kept_of after) ask.target component (base_name base) (header_of sent) (sent_state sent)
 
 -- A run of `send` that ended with status 0, and one of `receive` that read what it wrote and ended with status 0, leave one snapshot more: the one that
--- was sent, with its guid, objects, contents and holes; and all else as it was.
+-- was sent, with its guid, objects, contents and holes, but for the pairs of the redaction bookmark, which are redacted; and all else as it was.
 abbrev pub SentSnapshotStands : (here here' there there' : DiskState) → Type 0
 SentSnapshotStands here here' there there' =
     (tight : Bool) (ask : SendAsk) (receive : RecvAsk) (from into : Pool) (sent : Sent) (out out' other other' : SinkState) (input input' : SourceState)
@@ -177,8 +177,8 @@ pub record RunsAreChained (here there there' : DiskState) : Type 0 where
       → Replies (Receiving receive there there' input input') out out' result → IsReadOf (begun_text also (Some token.point)) input input'
       → AreChained tight sent receive.target component base there there'
 
--- And where its last run ends with status 0, one snapshot more stands: the one that was sent, with its guid, objects, contents and holes, of the first
--- run's component and over its base.
+-- And where its last run ends with status 0, one snapshot more stands: the one that was sent, with its guid, objects, contents and holes, redacted as it
+-- was asked, of the first run's component and over its base.
 abbrev pub ChainsComplete : (here there there' : DiskState) → Type 0
 ChainsComplete here there there' =
     (tight : Bool) (token : Token) (receive : RecvAsk) (from into : Pool) (sent also : Sent) (component : List ℕ) (base : Base)
@@ -186,7 +186,7 @@ ChainsComplete here there there' =
     → Chain sent receive.target component base into
     → IsRestSender token from sent also here → IsRestReceiver tight token receive into there there'
     → Replies (Receiving receive there there' input input') out out' (Ok tt) → IsReadOf (begun_text also (Some token.point)) input input'
-    → (after : Pool) × Keeps tight there' after × HasOneMore into (kept_of after) receive.target component (base_name base) (header_of sent) sent.snapshot.objects.state
+    → (after : Pool) × Keeps tight there' after × HasOneMore into (kept_of after) receive.target component (base_name base) (header_of sent) (sent_state sent)
 
 -- Whatever is read: of a receive into a sound pool each image on the way, and in the end, stood before or reads as a sound pool.
 abbrev pub IsSoundAfter : (tight : Bool) → DiskState → List ℕ → Type 0

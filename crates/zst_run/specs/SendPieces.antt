@@ -1,48 +1,48 @@
 -- A send that is under way, piece by piece.
-use Rattle.std.specs.Prelude.{ℕ, ◌+◌, ◌≡◌, ◌≢◌, ◌⊎◌, ◌<◌, ◌≤◌, Bool, true, false, Contains, IfErr, List, [], length, Option, None, Some, Result, Ok, Err}
+use Rattle.std.specs.Prelude.{ℕ, ◌+◌, ◌≡◌, ◌≢◌, ◌<◌, ◌≤◌, Bool, true, false, Contains, IfErr, IfOk, List, [], length, Option, None, Some, Result, Ok, Err}
 use Rattle.zst_outside.specs.Causes.{Rose}
 use Rattle.zst_outside.specs.Printing.{Printed, Wrote}
 use Rattle.zst_outside.specs.States.{SinkState, HandedOn}
 use Rattle.zst_outside.specs.declared.disk.Disk.{Ghosts}
-use Rattle.zst_block.specs.IoStates.{IsHonest, disk_of}
+use Rattle.zst_block.specs.IoStates.{IoState, IsHonest, blocks_of, disk_of, io_of}
+use Rattle.zst_dir.specs.RowNames.{AreNamed}
 use Rattle.zst_dir.specs.Rows.{Rows}
 use Rattle.zst_model.specs.declared.refusals.faults.Quantity.TheVariants.{Stream}
 use Rattle.zst_model.specs.declared.refusals.plan_fault.PlanFault.{PlanFault}
 use Rattle.zst_model.specs.declared.refusals.refusal.Refusal.{Refusal}
 use Rattle.zst_model.specs.declared.refusals.refusal.Refusal.TheVariants as refusals
 use Rattle.zst_model.specs.declared.sends.header.Point.{Point}
+use Rattle.zst_model.specs.pools.Pool.{Pool as Plain}
 use Rattle.zst_model.specs.refusals.Refusal.{refusal_of}
 use Rattle.zst_model.specs.sends.Headers.{Sent}
+use Rattle.zst_pool.specs.Damage.{IsOf}
+use Rattle.zst_pool.specs.declared.fault.PoolFault.{PoolFault}
+use Rattle.zst_pool.specs.declared.fault.PoolFault.TheVariants as faults
 use Rattle.zst_pool.specs.declared.pool.Pool.{Pool}
 use Rattle.zst_reader.specs.InputReads.{stream_limit}
 use Rattle.zst_send.specs.Damage.{IsDamagedSend}
 use Rattle.zst_send.specs.KnownPointers.{IsAmong, Knows}
+use Rattle.zst_send.specs.Openings.{IsDamagedOpening, IsPlanned, ReadsLists, StandsPlanned}
 use Rattle.zst_send.specs.Sends as given
 use Rattle.zst_send.specs.Sends.{SendFits, begun_text, sent_set}
 use Rattle.zst_send.specs.declared.send.Send.{Send}
 use Rattle.zst_tree.specs.Indices.{Blocks}
 use Rattle.zst_run.specs.declared.send.SendRequest.{SendRequest}
-use Rattle.zst_run.specs.Sends.{HasSet, IsOut, IsSendRefusal, OfGiving, SendsBy, TellsOf}
+use Rattle.zst_run.specs.Sends.{HasSet, IsOut, IsSendRefusal, OfGiving, SendsBy, TellsOf, start_of, to_send}
 
 -- ---- opening
 
--- a plan's refusal, or want of memory
-abbrev pub IsOpenRefusal : Refusal → Type 0
-IsOpenRefusal refusal = ((fault : PlanFault) × (refusal ≡ refusal_of fault)) ⊎ (refusal ≡ refusals.OutOfMemory)
-
--- a send is opened by its plan, and all of its text is left; it is refused by its plan, unless no memory is left
-abbrev pub OpensBy : Blocks → Option Point → Result Sent PlanFault → Result Send Refusal → Type 0
-OpensBy has start (Ok sent) (Ok send) = given.SendsFrom has send sent start [] (begun_text sent start)
-OpensBy has start (Ok sent) (Err refusal) = refusal ≡ refusals.OutOfMemory
-OpensBy has start (Err fault) (Ok send) = ⊥
-OpensBy has start (Err fault) (Err refusal) = (refusal ≡ refusal_of fault) ⊎ (refusal ≡ refusals.OutOfMemory)
-
--- whatever the image, it is refused by its plan, or that passes: then it is opened, unless no memory is left
-abbrev pub PlansOpen : Result Sent PlanFault → Result Send Refusal → Type 0
-PlansOpen planned (Ok send) = (sent : Sent) × (planned ≡ Ok sent)
-PlansOpen planned (Err refusal) =
-    ((fault : PlanFault) × (planned ≡ Err fault) × (refusal ≡ refusal_of fault))
-    ⊎ ((sent : Sent) × (planned ≡ Ok sent) × (refusal ≡ refusals.OutOfMemory))
+-- where the plan passes, a send is opened and all of its text is left, unless the disk failed or no memory is left; its other refusals are the plan's
+abbrev pub OpensBy : Blocks → Option Point → Result Sent PlanFault → Result Send PoolFault → Type 0
+OpensBy has start planned (Ok send) = (sent : Sent) × (planned ≡ Ok sent) × given.SendsFrom has send sent start [] (begun_text sent start)
+OpensBy has start planned (Err (faults.Plan fault)) = planned ≡ Err fault
+OpensBy has start planned (Err (faults.CannotApply fault)) = ⊥
+OpensBy has start planned (Err (faults.Redacted object block)) = ⊥
+OpensBy has start planned (Err (faults.Full need largest)) = ⊥
+OpensBy has start planned (Err (faults.Damaged sector stated found)) = ⊥
+OpensBy has start planned (Err faults.DiskFault) = Unit {0}
+OpensBy has start planned (Err faults.Failed) = ⊥
+OpensBy has start planned (Err faults.OutOfMemory) = Unit {0}
 
 -- a send was opened for a request over these rows: it has the object set that is requested, it keeps no pointer yet that wouldn't stand in whatever
 -- images, and what it keeps is in its ranges
@@ -50,6 +50,22 @@ pub record IsOpenedFor (request : SendRequest) (rows : Rows) (send : Send) : Typ
   pub set : HasSet request rows (sent_set send)
   pub knows : (images : List (List ℕ)) → Knows (IsAmong images) send
   pub fits : SendFits send
+
+-- E25 of an opening comes only of the list of a bookmark by which the request is planned, as the disk had it
+abbrev pub TellsLists : SendRequest → IoState → Rows → Result Send PoolFault → Type 0
+TellsLists request io rows result = IfErr result (IsOf (IsDamagedOpening io.space.end io.disk.seen io.disk.size rows (to_send request)))
+
+module _ {D : Type 0} {g : Ghosts D} where
+  -- how a request is opened of a pool that works, which is only read
+  pub record OpensFor (request : SendRequest) (old new : Pool D g) (result : Result Send PoolFault) : Type 0 where
+    -- where what it needs stands it is opened by its plan, whatever else is damaged
+    pub opens : (running : Plain) → IsHonest new.io → AreNamed old.kept.dir running → StandsPlanned (blocks_of old.io) old.kept.dir running (to_send request running)
+        → OpensBy (blocks_of new.io) (start_of request) (to_send request running) result
+    -- whatever the object sets and the lists hold, its refusals are the plan's, and where that passes it is opened, unless a list can't be read
+    pub planned : (running : Plain) → AreNamed old.kept.dir running → IsPlanned (to_send request running) result
+    pub damaged : IsHonest new.io → TellsLists request (io_of old.io) old.kept.dir result
+    pub opened : IfOk result (IsOpenedFor request old.kept.dir)
+    pub reads : ReadsLists old new result
 
 -- where its plan refuses a send, that is its answer, and nothing is written
 abbrev pub IfUnplanned : Result Sent PlanFault → SinkState → SinkState → Result (Unit {0}) Refusal → Type 0

@@ -4,6 +4,9 @@ use Rattle.zst_outside.specs.Causes.{Rose}
 use Rattle.zst_outside.specs.Images.{DiskState, OnlyReads}
 use Rattle.zst_outside.specs.Printing.{Printed, Wrote}
 use Rattle.zst_outside.specs.States.{SinkState, HandedOn}
+use Rattle.zst_block.specs.Blocks.{Has}
+use Rattle.zst_uber.specs.Body.{InRange, UberFits}
+use Rattle.zst_uber.specs.Slots.{Stands}
 use Rattle.zst_uber.specs.declared.uber.Uber.{Uber}
 use Rattle.zst_model.specs.declared.refusals.faults.Quantity.TheVariants.{Stream}
 use Rattle.zst_model.specs.declared.refusals.subjects.Name.{Name}
@@ -11,23 +14,26 @@ use Rattle.zst_model.specs.declared.refusals.subjects.Name.TheVariants as names
 use Rattle.zst_model.specs.declared.refusals.plan_fault.PlanFault.{PlanFault}
 use Rattle.zst_model.specs.declared.refusals.refusal.Refusal.{Refusal}
 use Rattle.zst_model.specs.declared.refusals.refusal.Refusal.TheVariants as refusals
+use Rattle.zst_model.specs.declared.sends.ask.SendAsk.{SendAsk}
 use Rattle.zst_model.specs.declared.sends.header.Point.{Point}
-use Rattle.zst_model.specs.pools.Pool.{Pool}
+use Rattle.zst_model.specs.pools.Pool.{Pool, IsPool}
 use Rattle.zst_model.specs.refusals.Refusal.{refusal_of}
-use Rattle.zst_model.specs.sends.Headers.{Sent, sent_view}
+use Rattle.zst_model.specs.sends.Headers.{Sent, choice_of, sent_view}
+use Rattle.zst_model.specs.sends.SendPlan.{send_plan}
+use Rattle.zst_laws.specs.AlikePools.{AlikeFor}
 use Rattle.zst_tree.specs.Damage.{IsSeen}
 use Rattle.zst_tree.specs.declared.tree.ObjSet.{ObjSet}
 use Rattle.zst_objset.specs.Damage.{DamageFact}
 use Rattle.zst_dir.specs.Rows.{Rows}
 use Rattle.zst_image.specs.Faults.{open_refusal}
-use Rattle.zst_image.specs.Reads.{IsNamedBy, Reads, kept_rows}
+use Rattle.zst_image.specs.Reads.{HasDir, IsNamedBy, Reads, free_by, kept_rows}
 use Rattle.zst_image.specs.declared.open_fault.OpenFault.{OpenFault}
 use Rattle.zst_pool.specs.Lookups.{set_named}
 use Rattle.zst_pool.specs.Faults.{pool_refusal}
 use Rattle.zst_pool.specs.declared.fault.PoolFault.{PoolFault}
 use Rattle.zst_reader.specs.InputReads.{stream_limit}
 use Rattle.zst_send.specs.Damage.{IsDamagedSend}
-use Rattle.zst_send.specs.Openings.{opening, set_with, to_resume}
+use Rattle.zst_send.specs.Openings.{IsDamagedOpening, StandsPlanned, rest_of, set_with}
 use Rattle.zst_send.specs.Sends.{begun_text}
 use Rattle.zst_run.specs.declared.send.SendRequest.{SendRequest}
 use Rattle.zst_run.specs.declared.send.SendRequest.TheVariants.{Named, Rest}
@@ -40,10 +46,10 @@ abbrev pub IsSource : Name → Type 0
 IsSource (names.Dataset name) = ⊥
 IsSource name = Unit {0}
 
--- what is to be sent, or why it can't: the refusals of its plan, and then that it isn't built
+-- what is to be sent, or why it can't: the refusals of its plan
 abbrev pub to_send : SendRequest → Pool → Result Sent PlanFault
-to_send (Named ask) pool = opening ask pool
-to_send (Rest token) pool = to_resume token pool
+to_send (Named ask) pool = send_plan ask pool
+to_send (Rest token) pool = rest_of token pool
 
 -- the point that a send begins at: a token's, and none of a send from the beginning
 abbrev pub start_of : SendRequest → Option Point
@@ -56,8 +62,34 @@ HasSet (Named ask) rows set = set_named (names.Snapshot ask.snap) rows ≡ Some 
 HasSet (Rest token) rows set = set_with token.to rows ≡ Some set
 
 -- a damage that a send of such an object set may tell, as the disk had it
-abbrev pub IsDamagedRequest : SendRequest → Rows → DiskState → DamageFact
-IsDamagedRequest request rows disk sector stated found = (set : ObjSet) × HasSet request rows set × IsDamagedSend (IsSeen disk.seen) disk.size set sector stated found
+abbrev pub IsDamagedSet : SendRequest → Rows → DiskState → DamageFact
+IsDamagedSet request rows disk sector stated found = (set : ObjSet) × HasSet request rows set × IsDamagedSend (IsSeen disk.seen) disk.size set sector stated found
+
+-- what a send may tell: a damage of that object set, or one of the list of a bookmark by which it is planned, with the free sectors from this end on
+abbrev pub IsDamagedRequest : SendRequest → (end : ℕ) → Rows → DiskState → DamageFact
+IsDamagedRequest request end rows disk sector stated found =
+    IsDamagedSet request rows disk sector stated found ⊎ IsDamagedOpening end disk.seen disk.size rows (to_send request) sector stated found
+
+-- ---- what a send needs of its image
+
+-- The image reads as this pool for what is asked: its latest body and its directory name a lawful pool, and where the plan passes, what that send needs stands:
+-- the set of its snapshot, but for the bytes of the pairs to redact, and the lists of its bookmarks. Whatever else is damaged, the redacted blocks too, doesn't matter.
+pub record ReadsForAs (request : SendRequest) (uber : Uber) (rows : Rows) (pool : Pool) (image : List ℕ) : Type 0 where
+  pub stands : Stands uber image
+  pub fits : UberFits uber
+  pub in_range : InRange (length image) uber
+  pub extents : uber.free_count ≡ 0
+  pub directory : HasDir (Has image (free_by uber)) uber rows
+  pub named : IsNamedBy uber (kept_rows rows) pool
+  pub lawful : IsPool pool
+  pub sent : StandsPlanned (Has image (free_by uber)) (kept_rows rows) pool (to_send request pool)
+
+abbrev pub ReadsFor : SendRequest → Pool → List ℕ → Type 0
+ReadsFor request pool image = (uber : Uber) × (rows : Rows) × ReadsForAs request uber rows pool image
+
+-- An image that reads as a pool does so for each send.
+abbrev pub ReadsForSends : Type 0
+ReadsForSends = (request : SendRequest) (pool : Pool) (image : List ℕ) → Reads false pool image → ReadsFor request pool image
 
 -- ---- how a send of a pool ends
 
@@ -116,15 +148,15 @@ TellsOf Is result = (sector : ℕ) (stated found : List ℕ) → result ≡ Err 
 
 -- A send from a pool that was opened by this body and these rows, whether or not the image reads as a pool. What the directory
 -- tells alone: E3, E6, E7 and E19 come exactly where the definition refuses the plan of a pool that the body and the rows name,
--- whatever its object sets hold, and then nothing is written. E25 comes only of a block of the asked snapshot's own object set, or,
--- where a token asks, of that of the first snapshot with its to guid.
+-- whatever its object sets and lists hold, and then nothing is written. E25 comes only of a block of the asked snapshot's own object
+-- set, or, where a token asks, of that of the first snapshot with its to guid; or of the list of one of the two bookmarks of its plan.
 pub record SendRan (request : SendRequest) (here : DiskState) (out out' : SinkState) (result : Result (Unit {0}) Refusal) (uber : Uber) (rows : Rows) : Type 0 where
   pub opens : Opens here uber rows
   pub planned : (pool : Pool) (fault : PlanFault) → IsNamedBy uber (kept_rows rows) pool → to_send request pool ≡ Err fault
       → (result ≡ Err (refusal_of fault)) × (out' ≡ out)
   pub because : (pool : Pool) (fault : PlanFault) → IsNamedBy uber (kept_rows rows) pool → result ≡ Err (refusals.Plan fault)
       → to_send request pool ≡ Err fault
-  pub damaged : TellsOf (IsDamagedRequest request (kept_rows rows) here) result
+  pub damaged : TellsOf (IsDamagedRequest request uber.end (kept_rows rows) here) result
 
 -- a refusal of a pool that was opened, E30, or E23 of a stream; and one of opening the pool
 abbrev pub OfGiving : Refusal → Type 0
@@ -139,23 +171,23 @@ pub record IsSendRefusal (Is : Refusal → Type 0) (here here' : DiskState) (out
   pub never_full : (need largest : ℕ) → refusal ≢ refusals.Full need largest
   pub cause : refusal ≡ refusals.SinkFault → Rose out.faults out'.faults
 
--- A send of what is asked, from an image, which is only read. Of a pool a front of the text of its plan is written.
+-- A send of what is asked, from an image, which is only read. Of a pool a front of the text of its plan is written, as long as the image has what the send needs.
 pub record Sends (request : SendRequest) (here here' : DiskState) (out out' : SinkState) (result : Result (Unit {0}) Refusal) : Type 0 where
   pub reads : OnlyReads here here'
-  pub sends : (pool : Pool) → here'.honest → Reads false pool here.seen → SendsBy (start_of request) (to_send request pool) here.faults here'.faults out out' result
+  pub sends : (pool : Pool) → here'.honest → ReadsFor request pool here.seen → SendsBy (start_of request) (to_send request pool) here.faults here'.faults out out' result
   pub opened : here'.honest → SaysOfOpening (out' ≡ out) here (SendRan request here out out' result) result
   pub refused : IfErr result (IsSendRefusal OfSending here here' out out')
   pub later : here.faults ≤ here'.faults
 
 -- ---- sends that are alike
 
--- a pool that reads of an image as this send was asked, from its beginning or from a point, with what is sent of it
+-- a pool that an image reads as for what was asked, from its beginning or from a point, with what is sent of it
 pub record SendsOf (sent : Sent) (start : Option Point) (here here' : DiskState) (out out' : SinkState) (result : Result (Unit {0}) Refusal) : Type 0 where
   pub request : SendRequest
   pub begins : start_of request ≡ start
   pub pool : Pool
   pub honest : here'.honest
-  pub reads : Reads false pool here.seen
+  pub reads : ReadsFor request pool here.seen
   pub is : to_send request pool ≡ Ok sent
   pub sends : Sends request here here' out out' result
 
@@ -181,4 +213,24 @@ pub record SentAlike (here here' there there' : DiskState) : Type 0 where
       → WroteAlike out out' into into'
   pub equal : (sent also : Sent) (start : Option Point) (out out' into into' : SinkState)
       → sent_view sent ≡ sent_view also → SendsOf sent start here here' out out' (Ok tt) → SendsOf also start there there' into into' (Ok tt)
+      → WroteSame out out' into into'
+
+-- ---- two worlds
+
+-- a run of `send` was asked for this snapshot, of a pool that its image reads as for it, and this is what its plan is to give
+pub record SentOf (ask : SendAsk) (pool : Pool) (sent : Sent) (here here' : DiskState) (out out' : SinkState) (result : Result (Unit {0}) Refusal) : Type 0 where
+  pub honest : here'.honest
+  pub reads : ReadsFor (Named ask) pool here.seen
+  pub is : send_plan ask pool ≡ Ok sent
+  pub sends : Sends (Named ask) here here' out out' result
+
+-- No byte that is redacted is in what is sent: two runs that are asked the same, of pools that are alike in it but for the bytes of the pairs that it redacts,
+-- write the same bytes where both end well, whatever else their pools hold, wherever it stands, and whatever of the redacted blocks is damaged; where either
+-- stops early, what one wrote is a front of what the other did.
+pub record TwoWorldsAreSentAlike (here here' there there' : DiskState) : Type 0 where
+  pub front : (ask : SendAsk) (pool other : Pool) (sent also : Sent) (out out' into into' : SinkState) (one another : Result (Unit {0}) Refusal)
+      → AlikeFor ask (choice_of sent).redact pool other → SentOf ask pool sent here here' out out' one → SentOf ask other also there there' into into' another
+      → WroteAlike out out' into into'
+  pub equal : (ask : SendAsk) (pool other : Pool) (sent also : Sent) (out out' into into' : SinkState)
+      → AlikeFor ask (choice_of sent).redact pool other → SentOf ask pool sent here here' out out' (Ok tt) → SentOf ask other also there there' into into' (Ok tt)
       → WroteSame out out' into into'

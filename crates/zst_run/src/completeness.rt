@@ -1,8 +1,9 @@
 // Runs that nothing stands in the way of.
-ghost use Rattle.zst_run.specs.Completeness.{CreatesComplete, DoneIsTold, DumpsComplete, ReceivesComplete, SendsComplete, StepsComplete, TokensComplete};
+ghost use Rattle.zst_run.specs.Completeness.{CreatesComplete, DoneIsTold, DumpsComplete, ReceivesComplete, SendsComplete, StepsComplete, TokensComplete, TransfersComplete};
 
 use zst_outside::Disk;
-use zst_stream::fronts_agree;
+use zst_replication::{bases_match, sent_can_be_sent, sent_is_taken};
+use zst_stream::{fronts_agree, view_is_read};
 
 /// What is done is told by status 0, and want of memory by 10.
 pub fn done_is_told()
@@ -23,6 +24,16 @@ pub fn sends_complete<D: Disk>()
 pub fn receives_complete<D: Disk>()
     ensures { (here now : D) → ReceivesComplete (D.state here) (D.state now) }
 {}
+
+/// So are both runs of a snapshot that one sends and the other receives, where their plans pass: each record of a send applies.
+pub fn transfers_complete<D: Disk, E: Disk>()
+    ensures { (here now : D) (there later : E) → TransfersComplete (D.state here) (D.state now) (E.state there) (E.state later) }
+{
+    sent_can_be_sent();
+    bases_match();
+    sent_is_taken();
+    view_is_read();
+}
 
 /// So is the making of a pool where none is.
 pub fn creates_complete<D: Disk>()

@@ -16,15 +16,16 @@ mod tokens;
 
 pub use completeness::{
     creates_complete, done_is_told, dumps_complete, receives_complete, sends_complete,
-    steps_complete, tokens_complete,
+    steps_complete, tokens_complete, transfers_complete,
 };
 pub use dump::dumps_have_one_answer;
 pub use file_runs::run_on_file;
 pub use image::{OpenMode, open, opening_of};
 pub use note::status_of;
 pub use replication::{
-    chains_of_runs_complete, refused_leaves_nothing, rests_are_progress, sent_rest_stands,
-    sent_snapshot_stands, sound_stays_sound, sources_still_remember, stops_are_progress,
+    chains_of_runs_complete, cuts_tell_alike, redacted_is_unreadable, refused_leaves_nothing,
+    rests_are_progress, sent_rest_stands, sent_snapshot_stands, sound_stays_sound,
+    sources_still_remember, stops_are_progress,
 };
 pub use runs::run;
-pub use send::equal_views_are_written_alike;
+pub use send::{equal_views_are_written_alike, pools_read_for_sends, two_worlds_are_sent_alike};

@@ -4,7 +4,7 @@ ghost use Rattle.zst_outside.specs.Printing.{Prints};
 ghost use Rattle.zst_outside.specs.States.{Gave, HandedOn};
 ghost use Rattle.zst_space.specs.FreeSectors.{FreeSectors};
 ghost use Rattle.zst_block.specs.Blocks.{Has};
-ghost use Rattle.zst_block.specs.IoStates.{IsHonest, disk_of, io_of};
+ghost use Rattle.zst_block.specs.IoStates.{disk_of, io_of};
 ghost use Rattle.zst_image.specs.Commits.{Ready};
 ghost use Rattle.zst_model.specs.pools.Pool.{Pool as Plain};
 ghost use Rattle.zst_plan.specs.RecvPlan.{snapshot_name};
@@ -17,7 +17,7 @@ ghost use Rattle.zst_script.specs.Asks.{receipt_of, snapshot_of, target_of};
 ghost use Rattle.zst_run.specs.LaterDisks.{IsLater};
 ghost use Rattle.zst_run.specs.Receives.{IsTarget, Receiving, SaysOfPlan, piece_size};
 ghost use Rattle.zst_run.specs.Replies.{Replies, reply_text};
-ghost use Rattle.zst_run.specs.ReceiveTurns.{CanFeed, Fed, Fills, IsReady, IsUnfed, PlansOn, TurnBlocks, TurnLeaves, TurnPlans, Turns, WaitsForMore, WhyReceiveEnds, cut_refusal, line_of, told, turn_behind};
+ghost use Rattle.zst_run.specs.ReceiveTurns.{CanFeed, Fed, Fills, HasFed, IsReady, IsUnfed, PlansOn, TurnBlocks, TurnLeaves, TurnPlans, TurnSets, Turns, WaitsForMore, WhyReceiveEnds, cut_refusal, line_of, told, turn_behind};
 
 use itoa::Buffer;
 use std::alloc::Global;
@@ -162,6 +162,7 @@ fn feed_piece<D: Disk, S: Source>(
     // Whatever the image, the plan over the rows at the start says whether BEGIN is refused.
     ensures plans { (rows : Rows) (text piece : List ℕ) → Gave (S.state input.old) (S.state input.new) piece → PlansOn rows pool.old.kept recv.old text → TurnPlans rows (ask_of recv.old) pool.new.kept recv.new (text ++ piece) result }
     ensures blocks { TurnBlocks pool.old pool.new recv.old recv.new result }
+    ensures sets { (text piece : List ℕ) → Gave (S.state input.old) (S.state input.new) piece → HasFed recv.old text → TurnSets pool.old pool.new recv.old recv.new (text ++ piece) result }
     ensures leaves { TurnLeaves pool.old pool.new recv.old recv.new result }
     ensures room { length room.new ≡ length room.old }
     ensures later { IsLater (io_of pool.old.io) (io_of pool.new.io) }
@@ -233,7 +234,7 @@ fn feed_all<D: Disk, S: Source>(
     requires room { length room.old ≡ piece_size }
     ensures plans { (rows : Rows) (text : List ℕ) → Gave (S.state input.old) (S.state input.new) text → PlansOn rows pool.old.kept recv [] → SaysOfPlan rows (ask_of recv) text (told result) }
     ensures fed { Fed (λ tight start. WaitsForMore tight (disk_of pool.old.io) pool.old.kept recv (ask_of recv) start [] 0) pool.old.kept (disk_of pool.old.io) (disk_of pool.new.io) (ask_of recv) (S.state input.old) (S.state input.new) (told result) }
-    ensures why { WhyReceiveEnds pool.old pool.new (ask_of recv).target (S.state input.old) (S.state input.new) result }
+    ensures why { WhyReceiveEnds pool.old pool.new (ask_of recv) (S.state input.old) (S.state input.new) result }
     ensures later { IsLater (io_of pool.old.io) (io_of pool.new.io) }
     ensures input_later { (S.state input.old).faults ≤ (S.state input.new).faults }
 {
@@ -259,7 +260,7 @@ fn receive_into<D: Disk, S: Source>(
     requires ready { Ready (disk_of pool.old.io) pool.old.kept.body }
     ensures plans { (text : List ℕ) → Gave (S.state input.old) (S.state input.new) text → SaysOfPlan pool.old.kept.dir ask text (told result) }
     ensures fed { Fed (λ tight. IsReady ask tight (disk_of pool.old.io) pool.old.kept) pool.old.kept (disk_of pool.old.io) (disk_of pool.new.io) ask (S.state input.old) (S.state input.new) (told result) }
-    ensures why { WhyReceiveEnds pool.old pool.new ask.target (S.state input.old) (S.state input.new) result }
+    ensures why { WhyReceiveEnds pool.old pool.new ask (S.state input.old) (S.state input.new) result }
     ensures later { IsLater (io_of pool.old.io) (io_of pool.new.io) }
     ensures input_later { (S.state input.old).faults ≤ (S.state input.new).faults }
 {

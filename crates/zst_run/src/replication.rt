@@ -1,13 +1,15 @@
 // What the runs of a send and of a receive come to together.
+ghost use Rattle.zst_run.specs.AlikeTokens.{CutsTellAlike};
 ghost use Rattle.zst_run.specs.Replication.{ChainsComplete, RefusedLeavesNothing, RestsAreProgress, RunsAreChained, SentRestStands, SentSnapshotStands, SoundStaysSound, SourcesStillRemember, StopsAreProgress};
+ghost use Rattle.zst_run.specs.Unreadable.{RedactedExactly, RedactedIsUnreadable};
 
 use zst_image::images_keep_partials;
 use zst_laws::keeping_is_done;
 use zst_outside::Disk;
 use zst_replication::{
-    bases_match, chains_complete, cut_leaves_nothing, left_is_kept, one_more_is_kept,
-    plain_can_be_sent, receives_keep_sound, receives_remember, rest_can_be_sent, rest_is_received,
-    resumed_stops_are_progress, sent_is_received,
+    bases_match, chains_complete, cut_leaves_nothing, equal_pieces_tell_alike, left_is_kept,
+    one_more_is_kept, receives_keep_sound, receives_remember, rest_can_be_sent, rest_is_received,
+    resumed_stops_are_progress, sent_can_be_sent, sent_is_received,
 };
 
 /// What one run sent and another received stands as one snapshot more, and all else is as it was.
@@ -16,10 +18,25 @@ pub fn sent_snapshot_stands<D: Disk, E: Disk>()
 {
     keeping_is_done();
     images_keep_partials();
-    plain_can_be_sent();
+    sent_can_be_sent();
     bases_match();
     sent_is_received();
     one_more_is_kept();
+}
+
+/// Exactly what the redaction bookmark lists, and what was redacted before, is redacted in what is received, and can't be read there.
+pub fn redacted_is_unreadable<E: Disk>()
+    ensures exactly { RedactedExactly }
+    ensures unreadable { (there later : E) → RedactedIsUnreadable (E.state there) (E.state later) }
+{}
+
+/// Two receives that were cut behind the same bytes leave equal tokens, whatever else their pools hold.
+pub fn cuts_tell_alike<D: Disk, E: Disk>()
+    ensures { (here now : D) (there later : E) → CutsTellAlike (D.state here) (D.state now) (E.state there) (E.state later) }
+{
+    images_keep_partials();
+    left_is_kept();
+    equal_pieces_tell_alike();
 }
 
 /// A receive that is refused leaves nothing of it.
@@ -38,7 +55,7 @@ pub fn stops_are_progress<D: Disk, E: Disk>()
 {
     keeping_is_done();
     images_keep_partials();
-    plain_can_be_sent();
+    sent_can_be_sent();
     bases_match();
     zst_replication::stops_are_progress();
 }
@@ -72,7 +89,7 @@ pub fn chains_of_runs_complete<D: Disk, E: Disk>()
 {
     keeping_is_done();
     images_keep_partials();
-    plain_can_be_sent();
+    sent_can_be_sent();
     bases_match();
     rest_can_be_sent();
     chains_complete();

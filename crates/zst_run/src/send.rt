@@ -1,37 +1,35 @@
 // The lines that send a snapshot, or the rest of it that a token tells: the stream is written piece by piece, as it is read of the image.
-ghost use Rattle.std.specs.Prelude.{Option, ◌≡◌, ◌==◌, ◌≤◌, ℕ, List, false, length, IfErr, IfOk, IfSome, MatchResult, None, OnOk, Some, Ok, Err};
+ghost use Rattle.std.specs.Prelude.{Option, ◌≡◌, ◌==◌, ◌≤◌, false, length, IfErr, IfOk, IfSome, OnOk, Some, Ok, Err};
 ghost use Rattle.std.specs.List.{position};
 ghost use Rattle.zst_outside.specs.Images.{OnlyReads};
 ghost use Rattle.zst_outside.specs.States.{SinkState};
-ghost use Rattle.zst_space.specs.FreeSectors.{FreeSectors};
-ghost use Rattle.zst_block.specs.Blocks.{Has};
 ghost use Rattle.zst_block.specs.IoStates.{IsHonest, blocks_of, disk_of, io_of};
 ghost use Rattle.zst_dir.specs.RowNames.{AreNamed};
-ghost use Rattle.zst_image.specs.Reads.{RunsBy};
 ghost use Rattle.zst_model.specs.pools.Pool.{Pool as Plain};
 ghost use Rattle.zst_model.specs.declared.refusals.plan_fault.PlanFault.{PlanFault};
 ghost use Rattle.zst_model.specs.declared.sends.header.Point.{Point};
 ghost use Rattle.zst_model.specs.sends.Headers.{Sent};
 ghost use Rattle.zst_plan.specs.Plans.{AnswersPlan};
 ghost use Rattle.zst_reader.specs.InputReads.{stream_limit};
-ghost use Rattle.zst_send.specs.Openings.{opening, rest_of};
+ghost use Rattle.zst_send.specs.Openings.{StandsPlanned, rest_of};
 ghost use Rattle.zst_script.specs.Asks.{ask_of, source_of};
 ghost use Rattle.zst_run.specs.declared.send.SendRequest.TheVariants.{Named, Rest};
 ghost use Rattle.zst_run.specs.LaterDisks.{IsLater};
-ghost use Rattle.zst_run.specs.Sends.{IsDamagedRequest, IsSendRefusal, IsSource, OfGiving, Sends, SendsBy, SentAlike, TellsOf, start_of, to_send};
-ghost use Rattle.zst_run.specs.SendPieces.{Advances, GivesPieces, IfUnplanned, IsOpenRefusal, IsOpenedFor, OpensBy, Passed, PieceLeaves, PlansOpen, Sending, WhySendEnds, WritesPiece};
+ghost use Rattle.zst_run.specs.Sends.{IsDamagedRequest, IsSendRefusal, IsSource, OfGiving, ReadsForSends, Sends, SendsBy, SentAlike, TellsOf, TwoWorldsAreSentAlike, start_of, to_send};
+ghost use Rattle.zst_run.specs.SendPieces.{Advances, GivesPieces, IfUnplanned, OpensFor, Passed, PieceLeaves, Sending, WhySendEnds, WritesPiece};
 
 use crate::reply::hand_on;
 use std::alloc::Global;
-use zst_dir::Dir;
+use zst_dir::{Dir, bytes_are_one_directory};
 use zst_image::PoolState;
+use zst_leaves::root_has_one_text;
 use zst_model::{Lack, Name, PlanFault, Quantity, Refusal};
 use zst_names::{BookName, SnapName};
 use zst_outside::{Disk, Sink, write_all};
 use zst_plan::{SendPlan, resume_plan};
 use zst_pool::{Pool, PoolFault};
 use zst_reader::STREAM_LIMIT;
-use zst_send::{FromName, Send, SendAsk};
+use zst_send::{FromName, Send, SendAsk, rows_stand_for_sends};
 use zst_token::Token;
 
 /// The bytes of a piece, which stay in a processor's cache from where they are read to where they are written.
@@ -176,18 +174,11 @@ fn open_named<D: Disk>(
     alloc: Global,
     pool: &mut Pool<'_, D>,
     ask: &SendAsk,
-) -> Result<Send, Refusal>
+) -> Result<Send, PoolFault>
     requires { pool.old.io.failed ≡ false }
-    ensures opens { (image : List ℕ) (space : FreeSectors) (running : Plain) → RunsBy None (Has image space) pool.old.kept.dir running → OpensBy (Has image space) None (opening ask.now running) result }
-    ensures planned { (running : Plain) → AreNamed pool.old.kept.dir running → PlansOpen (opening ask.now running) result }
-    ensures answers { MatchResult result (IsOpenedFor (Named ask.now) pool.old.kept.dir) IsOpenRefusal }
-    ensures pool { pool.new ≡ pool.old }
+    ensures { OpensFor (Named ask.now) pool.old pool.new result }
 {
-    match Send::open(pool, alloc, ask) {
-        Ok(send) => Ok(send),
-        Err(PoolFault::Plan(fault)) => Err(Refusal::from(fault)),
-        Err(_) => Err(Refusal::OutOfMemory),
-    }
+    Send::open(pool, alloc, ask)
 }
 
 // What a token asks for, by the rows. Large blocks aren't supported, so that nothing is looked up then.
@@ -202,34 +193,26 @@ fn rest_plan(dir: &Dir, token: &Token) -> Result<SendPlan, PlanFault>
 }
 
 // Opens a send of the rest that a token tells.
-fn open_rest<D: Disk>(alloc: Global, pool: &mut Pool<'_, D>, token: &Token) -> Result<Send, Refusal>
+fn open_rest<D: Disk>(
+    alloc: Global,
+    pool: &mut Pool<'_, D>,
+    token: &Token,
+) -> Result<Send, PoolFault>
     requires { pool.old.io.failed ≡ false }
-    ensures opens { (image : List ℕ) (space : FreeSectors) (running : Plain) → RunsBy None (Has image space) pool.old.kept.dir running
-        → OpensBy (Has image space) (Some token.now.point) (to_send (Rest token.now) running) result }
-    ensures planned { (running : Plain) → AreNamed pool.old.kept.dir running → PlansOpen (to_send (Rest token.now) running) result }
-    ensures answers { MatchResult result (IsOpenedFor (Rest token.now) pool.old.kept.dir) IsOpenRefusal }
-    ensures pool { pool.new ≡ pool.old }
+    ensures { OpensFor (Rest token.now) pool.old pool.new result }
 {
     let plan = rest_plan(&pool.kept.dir, token)?;
-    match Send::resume(pool, alloc, &plan, token.point) {
-        Ok(send) => Ok(send),
-        Err(PoolFault::Plan(fault)) => Err(Refusal::from(fault)),
-        Err(_) => Err(Refusal::OutOfMemory),
-    }
+    Send::resume(pool, alloc, &plan, token.point)
 }
 
-// Opens a send. That reads nothing, so that it is refused by its plan or for want of memory alone.
+// Opens a send, which reads the lists of its bookmarks alone.
 fn open<D: Disk>(
     alloc: Global,
     pool: &mut Pool<'_, D>,
     request: &SendRequest,
-) -> Result<Send, Refusal>
+) -> Result<Send, PoolFault>
     requires { pool.old.io.failed ≡ false }
-    ensures opens { (image : List ℕ) (space : FreeSectors) (running : Plain) → RunsBy None (Has image space) pool.old.kept.dir running
-        → OpensBy (Has image space) (start_of request.now) (to_send request.now running) result }
-    ensures planned { (running : Plain) → AreNamed pool.old.kept.dir running → PlansOpen (to_send request.now running) result }
-    ensures answers { MatchResult result (IsOpenedFor request.now pool.old.kept.dir) IsOpenRefusal }
-    ensures pool { pool.new ≡ pool.old }
+    ensures { OpensFor request.now pool.old pool.new result }
 {
     match request {
         SendRequest::Named(ask) => open_named(alloc, pool, ask),
@@ -245,11 +228,11 @@ fn send_from<D: Disk, K: Sink>(
     out: &mut K,
 ) -> Result<(), Refusal>
     requires works { pool.old.io.failed ≡ false }
-    ensures sends { (running : Plain) → IsHonest pool.new.io → RunsBy None (blocks_of pool.old.io) pool.old.kept.dir running
+    ensures sends { (running : Plain) → IsHonest pool.new.io → AreNamed pool.old.kept.dir running → StandsPlanned (blocks_of pool.old.io) pool.old.kept.dir running (to_send request.now running)
         → SendsBy (start_of request.now) (to_send request.now running) (disk_of pool.old.io).faults (disk_of pool.new.io).faults (K.state out.old) (K.state out.new) result }
     ensures planned { (running : Plain) → AreNamed pool.old.kept.dir running → IfUnplanned (to_send request.now running) (K.state out.old) (K.state out.new) result }
     ensures because { (running : Plain) (fault : PlanFault) → AreNamed pool.old.kept.dir running → result ≡ Err (Refusal.Plan fault) → to_send request.now running ≡ Err fault }
-    ensures damaged { IsHonest pool.new.io → TellsOf (IsDamagedRequest request.now pool.old.kept.dir (disk_of pool.old.io)) result }
+    ensures damaged { IsHonest pool.new.io → TellsOf (IsDamagedRequest request.now pool.old.io.space.end pool.old.kept.dir (disk_of pool.old.io)) result }
     ensures refused { IfErr result (IsSendRefusal OfGiving (disk_of pool.old.io) (disk_of pool.new.io) (K.state out.old) (K.state out.new)) }
     ensures reads { OnlyReads (disk_of pool.old.io) (disk_of pool.new.io) }
     // One that ends well has met no damaged block.
@@ -272,6 +255,8 @@ pub(crate) fn send<D: Disk, K: Sink>(
 ) -> Result<(), Refusal>
     ensures { Sends request.now (D.state here.old) (D.state here.new) (K.state out.old) (K.state out.new) result }
 {
+    root_has_one_text();
+    bytes_are_one_directory();
     let kept = PoolState::open(alloc, here)?;
     let mut pool = Pool::new(alloc, here, kept);
     let result = send_from(alloc, &mut pool, request, out);
@@ -280,9 +265,24 @@ pub(crate) fn send<D: Disk, K: Sink>(
     result
 }
 
+/// An image that reads as a pool reads so for each send.
+pub fn pools_read_for_sends()
+    ensures { ReadsForSends }
+{
+    rows_stand_for_sends();
+}
+
 /// Sends of equal views, both from the beginning or from one point, write equal bytes.
 pub fn equal_views_are_written_alike<D: Disk, E: Disk>()
     ensures { (here now : D) (there later : E) → SentAlike (D.state here) (D.state now) (E.state there) (E.state later) }
 {
+    zst_send::equal_views_are_sent_alike();
+}
+
+/// Sends of pools that differ in what is redacted alone, and in what isn't asked for, write equal bytes.
+pub fn two_worlds_are_sent_alike<D: Disk, E: Disk>()
+    ensures { (here now : D) (there later : E) → TwoWorldsAreSentAlike (D.state here) (D.state now) (E.state there) (E.state later) }
+{
+    zst_laws::alike_pools_are_sent_alike();
     zst_send::equal_views_are_sent_alike();
 }

@@ -26,7 +26,8 @@ use Rattle.zst_recv.specs.Tokens.{token_told}
 use Rattle.zst_script.specs.declared.event.Event.{Event}
 use Rattle.zst_script.specs.declared.event.Event.TheVariants as events
 use Rattle.zst_script.specs.declared.event.Side.{Side}
-use Rattle.zst_send.specs.Openings.{opening, to_resume}
+use Rattle.zst_model.specs.sends.SendPlan.{send_plan}
+use Rattle.zst_send.specs.Openings.{to_resume}
 use Rattle.zst_token.specs.Spelling.{token_text}
 use Rattle.zst_token.specs.declared.token.Token.{Token}
 use Rattle.zst_sessions.specs.World.{OpenSend, OpenReceive, World, at_side, other_side, is_side, put_side, with_running, send_with, receive_with, is_used, held_at, with_send, put_send, without_send, with_receive, put_receive, without_receive, next_piece, gone_on}
@@ -181,7 +182,7 @@ unfoldable pub moved : (now : ℕ) → Event → World → Moved
 moved now (events.Step side command) world =
     if_works side world (stepped_to side world (stepped (held_at side world) now command (at_side side world).pool))
 moved now (events.Token side dataset) world = if_works side world (told_by world (token_told dataset (at_side side world).pool))
-moved now (events.Send side id ask) world = if_works side world (opened_send side id None world (opening ask (at_side side world).pool))
+moved now (events.Send side id ask) world = if_works side world (opened_send side id None world (send_plan ask (at_side side world).pool))
 moved now (events.Resume side id dataset) world =
     if_works side world (if_works (other_side side) world (resumed side id world (token_told dataset (at_side (other_side side) world).pool)))
 moved now (events.Receive side id ask) world = if_works side world (opened_receive side id ask world)

@@ -6,15 +6,15 @@ use Rattle.zst_pool.specs.Calls.{IsAtRest}
 use Rattle.zst_recv.specs.ReceiveSteps.{left_by}
 use Rattle.zst_run.proofs.LaterDisks.{later_io, later_none, later_then}
 use Rattle.zst_run.proofs.ReceiveLemmas.{cut_fed, cut_refused, fed_none, more_fed, received_fed, refused_earlier, refused_fed, rose_behind}
-use Rattle.zst_run.specs.Receives.{SaysOfPlan}
-use Rattle.zst_run.specs.ReceiveTurns.{PlansOn, line_of, told, Fed, WaitsForMore}
+use Rattle.zst_run.specs.Receives.{IsDamagedReceive, SaysOfPlan}
+use Rattle.zst_run.specs.ReceiveTurns.{PlansOn, Traced, line_of, told, Fed, WaitsForMore}
 use Rattle.zst_image.specs.Reads.{free_by}
 use Rattle.zst_model.specs.declared.refusals.refusal.Refusal.{Refusal}
 use Rattle.zst_block.specs.Blocks.{KeepsBlocks}
 use Rattle.zst_model.specs.declared.refusals.refusal.Refusal.TheVariants as refusals
 use Rattle.zst_recv.specs.Damage.{IsDamagedFeed, MakesStage}
 use Rattle.zst_run.specs.declared.receive.Turn.TheVariants as turns
-use Rattle.zst_run.proofs.ReceiveDamage.{cut_undamaged, damaged_behind, err_refused, stood_behind, traced_on, turn_refused, unfed_traced}
+use Rattle.zst_run.proofs.ReceiveDamage.{cut_undamaged, damaged_behind, err_refused, stood_behind, traced_later, traced_on, turn_refused, unfed_traced}
 use Rattle.zst_run.proofs.ReceivePlans.{cut_plans, gave_none, received_plans, so_far}
 use Rattle.zst_run.proofs.receive.feed_all.Goals as goal
 
@@ -24,9 +24,9 @@ pieces-init g c = record {
   plans = λ rows text gave on. subst (λ (t : List ℕ). PlansOn rows c.args.pool.now.kept c.args.recv t) (sym (gave_none (g.S.Source.state c.args.input.now) text gave)) on;
   blocks = λ ptr bytes has. has;
   size = refl;
-  traced = λ honest.
+  traced = λ text gave honest.
       let start = g.D.Disk.state c.args.pool.now.io.disk.now in
-      unfed_traced start c.args.pool.now.kept c.args.recv.ask.target start.seen c.args.recv.stage c.requires.unfed.waits;
+      unfed_traced start c.args.pool.now.kept c.args.recv.ask text start.seen c.args.recv.stage c.requires.unfed.waits;
   can_feed = c.requires.can_feed;
   room = c.requires.room;
   ask = refl;
@@ -47,14 +47,22 @@ pieces-preserved g c =
           subst (λ (t : List ℕ). PlansOn rows c.feed_piece.new.pool.kept c.feed_piece.new.recv t) (sym is) (e.plans rows front e.turns.piece e.turns.gave (i.plans rows front i.feeding.consumed on));
       blocks = λ ptr bytes has. e.blocks.blocks refl ptr bytes (i.blocks ptr bytes has);
       size = e.blocks.size ∙ i.size;
-      traced = λ honest.
+      traced = λ text gave honest.
           let start = g.D.Disk.state c.args.pool.now.io.disk.now in
           let old = g.D.Disk.state c.pieces.pool.io.disk.now in
           let new = g.D.Disk.state c.feed_piece.new.pool.io.disk.now in
-          let target = c.args.recv.ask.target in
+          let ask = c.args.recv.ask in
+          let first = c.args.pool.now.kept in
           let kept = c.pieces.pool.kept in
-          let makes = subst (λ (a : RecvAsk). MakesStage kept.dir a.target old.seen (free_by kept.body) old.size c.pieces.recv.stage new.seen (free_by c.feed_piece.new.pool.kept.body) c.feed_piece.new.recv.stage) i.ask (e.blocks.makes honest refl) in
-          traced_on start c.args.pool.now.kept target old.seen old.size kept i.size i.blocks c.pieces.recv.stage (i.traced (e.later.honest honest)) new.seen c.feed_piece.new.pool.kept c.feed_piece.new.recv.stage e.blocks.waits makes;
+          let next = c.feed_piece.new.pool.kept in
+          let front = concat i.feeding.pieces in
+          let read = front ++ e.turns.piece in
+          let is = so_far (g.S.Source.state c.args.input.now) (g.S.Source.state c.pieces.input) (g.S.Source.state c.feed_piece.new.input) front e.turns.piece text i.feeding.consumed e.turns.gave gave in
+          let sets = e.sets front e.turns.piece e.turns.gave i.feeding.reads in
+          let makes = subst (λ (a : RecvAsk). MakesStage kept.dir a read old.seen (free_by kept.body) old.size c.pieces.recv.stage new.seen (free_by next.body) c.feed_piece.new.recv.stage) i.ask (sets.makes honest refl) in
+          let so_traced = traced_later start first ask front e.turns.piece old.seen kept c.pieces.recv.stage (i.traced front i.feeding.consumed (e.later.honest honest)) in
+          subst (λ (t : List ℕ). Traced start first ask t new.seen next c.feed_piece.new.recv.stage) (sym is)
+          (traced_on start first ask read old.seen old.size kept i.size i.blocks c.pieces.recv.stage so_traced new.seen next c.feed_piece.new.recv.stage e.blocks.waits makes);
       can_feed = record { live = e.leaves.ends.0; fits = e.leaves.fits; works = e.leaves.ends.1; ready = e.leaves.ready e.leaves.ends.1 };
       room = e.room ∙ i.room;
       ask = e.leaves.ask ∙ i.ask;
@@ -138,7 +146,7 @@ returns-in-Received-clause-why g c =
     record {
       refused = tt;
       told = λ whole. e.leaves.told refl ∙ i.counts;
-      damaged = λ sector stated found honest is. absurd (cc is);
+      damaged = λ text gave sector stated found honest is. absurd (cc is);
       stood = λ apart. stood_behind (g.D.Disk.state c.args.pool.now.io.disk.now).seen (free_by c.args.pool.now.kept.body) (g.D.Disk.state c.pieces.pool.io.disk.now).seen (free_by c.pieces.pool.kept.body)
           (g.D.Disk.state c.feed_piece.new.pool.io.disk.now).seen i.blocks (e.blocks.stood (λ is. absurd (cc is)));
     }
@@ -154,7 +162,7 @@ returns-in-Over-clause-why g c =
           cut_refused (g.D.Disk.state c.args.pool.now.io.disk.now) (g.D.Disk.state c.cut.new.pool.io.disk.now) start now c.in-Over.end count c.cut.result is
           (rose_behind start (g.S.Source.state c.pieces.input) now c.in-Over.end c.pieces.invariant.input_later c.in-Over.ensures.turns.input_is);
       told = λ whole. ap (λ (io : _). io.checksum_errors) c.cut.ensures.io ∙ c.in-Over.ensures.leaves.told refl ∙ c.pieces.invariant.counts;
-      damaged = λ sector stated found honest same. absurd (cut_undamaged c.in-Over.end count sector stated found (sym is ∙ err_refused c.cut.result _ same));
+      damaged = λ text gave sector stated found honest same. absurd (cut_undamaged c.in-Over.end count sector stated found (sym is ∙ err_refused c.cut.result _ same));
       stood = λ apart.
           let i = c.pieces.invariant in
           let from = (g.D.Disk.state c.args.pool.now.io.disk.now).seen in
@@ -173,11 +181,19 @@ returns-in-Refused-clause-why g c =
     record {
       refused = inl (refused_earlier _ old _ c.in-Refused.refusal i.later.faults e.leaves.ends);
       told = λ whole. e.leaves.told whole ∙ i.counts;
-      damaged = λ sector stated found honest is.
+      damaged = λ text gave sector stated found honest is.
           let start = g.D.Disk.state c.args.pool.now.io.disk.now in
-          let told = e.blocks.damaged sector stated found honest (ap (λ (r : Refusal). turns.Refused r) (err_refused c.in-Refused.refusal _ is)) in
-          damaged_behind start c.args.pool.now.kept c.args.recv.ask.target old.seen old.size kept i.size i.blocks c.pieces.recv.stage (i.traced (e.later.honest honest)) old refl refl sector stated found
-          (subst (λ (a : RecvAsk). IsDamagedFeed old (free_by kept.body) kept.dir a.target c.pieces.recv.stage sector stated found) i.ask told);
+          let first = c.args.pool.now.kept in
+          let ask = c.args.recv.ask in
+          let front = concat i.feeding.pieces in
+          let read = front ++ e.turns.piece in
+          let whole = so_far (g.S.Source.state c.args.input.now) (g.S.Source.state c.pieces.input) (g.S.Source.state c.feed_piece.new.input) front e.turns.piece text i.feeding.consumed e.turns.gave gave in
+          let sets = e.sets front e.turns.piece e.turns.gave i.feeding.reads in
+          let told = sets.damaged sector stated found honest (ap (λ (r : Refusal). turns.Refused r) (err_refused c.in-Refused.refusal _ is)) in
+          let so_traced = traced_later start first ask front e.turns.piece old.seen kept c.pieces.recv.stage (i.traced front i.feeding.consumed (e.later.honest honest)) in
+          subst (λ (t : List ℕ). IsDamagedReceive start.seen start.size first.body first.dir ask t sector stated found) (sym whole)
+          (damaged_behind start first ask read old.seen old.size kept i.size i.blocks c.pieces.recv.stage so_traced old refl refl sector stated found
+          (subst (λ (a : RecvAsk). IsDamagedFeed old (free_by kept.body) kept.dir a read c.pieces.recv.stage sector stated found) i.ask told));
       stood = λ apart.
           stood_behind (g.D.Disk.state c.args.pool.now.io.disk.now).seen (free_by c.args.pool.now.kept.body) old.seen (free_by kept.body) (g.D.Disk.state c.feed_piece.new.pool.io.disk.now).seen i.blocks
           (e.blocks.stood (λ is. apart (ap (λ (r : Refusal). Err r) (turn_refused c.in-Refused.refusal refusals.DiskFault is))));

@@ -21,7 +21,8 @@ invariant-pieces g l =
       plans : (rows : Rows) (text : List ℕ) → Gave (source.state l.fn.input) (source.state l.input) text → PlansOn rows l.fn.pool.kept l.fn.recv [] → PlansOn rows l.pool.kept l.recv text;
       blocks : KeepsBlocks (disk.state l.fn.pool.io.disk.now).seen (free_by l.fn.pool.kept.body) (disk.state l.pool.io.disk.now).seen (free_by l.pool.kept.body);
       size : (disk.state l.pool.io.disk.now).size ≡ (disk.state l.fn.pool.io.disk.now).size;
-      traced : (disk.state l.pool.io.disk.now).honest → Traced (disk.state l.fn.pool.io.disk.now) l.fn.pool.kept (ask_of l.fn.recv).target (disk.state l.pool.io.disk.now).seen l.pool.kept (stage_of l.recv);
+      traced : (text : List ℕ) → Gave (source.state l.fn.input) (source.state l.input) text → (disk.state l.pool.io.disk.now).honest
+          → Traced (disk.state l.fn.pool.io.disk.now) l.fn.pool.kept (ask_of l.fn.recv) text (disk.state l.pool.io.disk.now).seen l.pool.kept (stage_of l.recv);
       can_feed : CanFeed l.pool l.recv;
       room : length l.room ≡ piece_size;
       ask : ask_of l.recv ≡ ask_of l.fn.recv;

@@ -8,6 +8,7 @@ use Rattle.zst_recv.specs.declared.fault.RecvFault.{RecvFault}
 use Rattle.zst_recv.specs.declared.fault.RecvFault.TheVariants as faults
 use Rattle.zst_run.proofs.PieceCosts.{grows_behind, short_behind}
 use Rattle.zst_run.proofs.TurnEnds.{turns_on, turns_received, turns_refused, turns_without}
+use Rattle.zst_recv.specs.Damage.{IsDamagedFeed, MakesStage}
 use Rattle.zst_recv.specs.Faults.{recv_refusal}
 use Rattle.zst_recv.proofs.FeedEnds.{fits_within}
 use Rattle.zst_run.specs.ReceiveTurns.{TurnPlans, is_damaged, turn_behind}
@@ -188,17 +189,7 @@ returns-in-Err-clause-later g c = let e = c.in-Err.ensures.pool in record { faul
 
 pub returns-then-piece-eq0-clause-blocks : goal.returns-then-piece-eq0-clause-blocks
 returns-then-piece-eq0-clause-blocks g c =
-    let pool = c.args.pool.now in
-    let recv = c.args.recv.now in
-    let disk = g.D.Disk.state pool.io.disk.now in
-    record {
-      blocks = λ more ptr bytes has. has;
-      stood = λ apart ptr bytes has. has;
-      size = refl;
-      waits = λ waits. (refl, waits);
-      makes = λ honest more. idle_makes pool.kept.dir recv.ask.target disk.seen (free_by pool.kept.body) disk.size recv.stage;
-      damaged = λ sector stated found honest is. absurd (never_refused c.read_piece-piece.result.end (refusals.Damaged sector stated found) (sym c.turn_behind.ensures ∙ is));
-    }
+    record { blocks = λ more ptr bytes has. has; stood = λ apart ptr bytes has. has; size = refl; waits = λ waits. (refl, waits) }
 
 pub returns-then-fed-clause-blocks : goal.returns-then-fed-clause-blocks
 returns-then-fed-clause-blocks g c =
@@ -208,8 +199,6 @@ returns-then-fed-clause-blocks g c =
       stood = λ apart. e.pool.stood (λ is. absurd (cc is));
       size = e.pool.size;
       waits = λ waits. (e.kept.waits waits, e.receive.waited waits);
-      makes = λ honest more. absurd (cc more);
-      damaged = λ sector stated found honest is. absurd (cc is);
     }
 
 pub returns-else-fed-clause-blocks : goal.returns-else-fed-clause-blocks
@@ -220,8 +209,6 @@ returns-else-fed-clause-blocks g c =
       stood = λ apart. e.pool.stood (λ is. absurd (cc is));
       size = e.pool.size;
       waits = λ waits. (e.kept.waits waits, e.receive.waited waits);
-      makes = λ honest more. (e.traces honest).makes (ap not c.if-fed.false);
-      damaged = λ sector stated found honest is. absurd (never_refused c.read_piece-piece.result.end (refusals.Damaged sector stated found) (sym c.turn_behind-in-Ok.ensures ∙ is));
     }
 
 pub returns-in-Err-clause-blocks : goal.returns-in-Err-clause-blocks
@@ -232,8 +219,51 @@ returns-in-Err-clause-blocks g c =
       stood = λ apart. e.pool.stood (λ is. apart (ap (λ (r : Refusal). turns.Refused r) (c.from.ensures ∙ disk_refused c.in-Err.fault is)));
       size = e.pool.size;
       waits = λ waits. (e.kept.waits waits, e.receive.waited waits);
+    }
+
+-- ---- what it makes of the set
+
+pub returns-then-piece-eq0-clause-sets : goal.returns-then-piece-eq0-clause-sets
+returns-then-piece-eq0-clause-sets g c = λ text piece gave fed.
+    let pool = c.args.pool.now in
+    let recv = c.args.recv.now in
+    let disk = g.D.Disk.state pool.io.disk.now in
+    record {
+      makes = λ honest more. idle_makes pool.kept.dir recv.ask (text ++ piece) disk.seen (free_by pool.kept.body) disk.size recv.stage;
+      damaged = λ sector stated found honest is. absurd (never_refused c.read_piece-piece.result.end (refusals.Damaged sector stated found) (sym c.turn_behind.ensures ∙ is));
+    }
+
+pub returns-then-fed-clause-sets : goal.returns-then-fed-clause-sets
+returns-then-fed-clause-sets g c = λ text piece gave fed. record { makes = λ honest more. absurd (cc more); damaged = λ sector stated found honest is. absurd (cc is) }
+
+pub returns-else-fed-clause-sets : goal.returns-else-fed-clause-sets
+returns-else-fed-clause-sets g c = λ text piece gave fed.
+    let p = c.read_piece-piece in
+    let given = take p.result.count p.new.room in
+    let one : piece ≡ given = gave_one (g.S.Source.state c.args.input.now) (g.S.Source.state p.new.input) piece given gave p.ensures.gave in
+    let pool = c.args.pool.now in
+    let next = c.feed.new.pool in
+    let recv = c.args.recv.now in
+    let old = g.D.Disk.state pool.io.disk.now in
+    let new = g.D.Disk.state next.io.disk.now in
+    record {
+      makes = λ honest more.
+          subst (λ (q : List ℕ). MakesStage pool.kept.dir recv.ask (text ++ q) old.seen (free_by pool.kept.body) old.size recv.stage new.seen (free_by next.kept.body) c.feed.new.self.stage) (sym one)
+          ((c.in-Ok.ensures.traces text fed.0 fed.1 honest).makes (ap not c.if-fed.false));
+      damaged = λ sector stated found honest is. absurd (never_refused p.result.end (refusals.Damaged sector stated found) (sym c.turn_behind-in-Ok.ensures ∙ is));
+    }
+
+pub returns-in-Err-clause-sets : goal.returns-in-Err-clause-sets
+returns-in-Err-clause-sets g c = λ text piece gave fed.
+    let p = c.read_piece-piece in
+    let given = take p.result.count p.new.room in
+    let one : piece ≡ given = gave_one (g.S.Source.state c.args.input.now) (g.S.Source.state p.new.input) piece given gave p.ensures.gave in
+    let pool = c.args.pool.now in
+    let recv = c.args.recv.now in
+    record {
       makes = λ honest more. absurd (cc more);
       damaged = λ sector stated found honest is.
-          (e.traces honest).damaged c.requires.can_feed.works sector stated found
-          (ap (λ (f : RecvFault). Err f) (damaged_only c.in-Err.fault sector stated found (sym c.from.ensures ∙ turn_refused c.from.result (refusals.Damaged sector stated found) is)));
+          subst (λ (q : List ℕ). IsDamagedFeed (g.D.Disk.state pool.io.disk.now) (free_by pool.kept.body) pool.kept.dir recv.ask (text ++ q) recv.stage sector stated found) (sym one)
+          ((c.in-Err.ensures.traces text fed.0 fed.1 honest).damaged c.requires.can_feed.works sector stated found
+          (ap (λ (f : RecvFault). Err f) (damaged_only c.in-Err.fault sector stated found (sym c.from.ensures ∙ turn_refused c.from.result (refusals.Damaged sector stated found) is))));
     }

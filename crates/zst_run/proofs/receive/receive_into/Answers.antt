@@ -65,7 +65,7 @@ pub returns-in_default-clause-why : goal.returns-in_default-clause-why
 returns-in_default-clause-why g c =
     let here = g.D.Disk.state c.args.pool.now.io.disk.now in
     let input = g.S.Source.state c.args.input.now in
-    record { refused = without_memory here here input input; told = λ whole. refl; damaged = λ sector stated found honest is. absurd (cc is); stood = λ apart ptr bytes has. has }
+    record { refused = without_memory here here input input; told = λ whole. refl; damaged = λ text gave sector stated found honest is. absurd (cc is); stood = λ apart ptr bytes has. has }
 
 pub returns-in_err-recv-clause-why : goal.returns-in_err-recv-clause-why
 returns-in_err-recv-clause-why g c =
@@ -75,7 +75,7 @@ returns-in_err-recv-clause-why g c =
     record {
       refused = rw (p.1, p.2, known) (without_memory (g.D.Disk.state c.args.pool.now.io.disk.now) (g.D.Disk.state c.open.new.pool.io.disk.now) input input);
       told = λ whole. c.in_err-recv.ensures.checksum_errors;
-      damaged = λ sector stated found honest is. absurd (memory_undamaged sector stated found (rw (p.1, p.2, known) at is));
+      damaged = λ text gave sector stated found honest is. absurd (memory_undamaged sector stated found (rw (p.1, p.2, known) at is));
       stood = λ apart.
           let seen = (g.D.Disk.state c.args.pool.now.io.disk.now).seen in
           let free = free_by c.args.pool.now.kept.body in
@@ -90,9 +90,9 @@ returns-clause-why g c =
     record {
       refused = subst (λ d. IfErr c.feed_all.result (IsEnd (g.D.Disk.state d) new (g.S.Source.state c.args.input.now) (g.S.Source.state c.feed_all.new.input))) e.disk why.refused;
       told = λ whole. why.told whole ∙ e.checksum_errors;
-      damaged = λ sector stated found honest is.
+      damaged = λ text gave sector stated found honest is.
           let first = g.D.Disk.state c.open.new.pool.io.disk.now in
-          let told : IsDamagedReceive first.seen first.size c.open.new.pool.kept.body c.open.new.pool.kept.dir c.in_ok-recv.recv.ask.target sector stated found = why.damaged sector stated found honest is in
+          let told : IsDamagedReceive first.seen first.size c.open.new.pool.kept.body c.open.new.pool.kept.dir c.in_ok-recv.recv.ask text sector stated found = why.damaged text gave sector stated found honest is in
           rw (e.fresh.ask, e.disk, e.kept) at told;
       stood = λ apart.
           subst (λ d. KeepsBlocks (g.D.Disk.state d).seen (free_by c.args.pool.now.kept.body) new.seen (free_by c.args.pool.now.kept.body)) e.disk

@@ -1,37 +1,43 @@
-use Rattle.std.proofs.Common.{◌∙◌, inl, refl}
+use Rattle.std.proofs.Common.{Result, sym, subst}
 use Rattle.std.proofs.lemmas.Result.{err_from_is_err_and}
-use Rattle.zst_block.specs.Blocks.{Has}
+use Rattle.zst_model.specs.declared.refusals.plan_fault.PlanFault.{PlanFault}
+use Rattle.zst_model.specs.sends.Headers.{Sent}
 use Rattle.zst_plan.specs.Plans.{IsPlanOf}
-use Rattle.zst_pool.proofs.NamedPools.{rows_named}
-use Rattle.zst_send.specs.Openings.{rest_of}
-use Rattle.zst_run.proofs.RestLemmas.{plan_is, refusal_is, then_built, then_refused}
+use Rattle.zst_send.specs.Openings.{IsPlanned, rest_of}
+use Rattle.zst_run.specs.declared.send.SendRequest.TheVariants.{Rest}
+use Rattle.zst_run.proofs.OpenedSends.{opened_for, opens_rest, plan_damage, plan_is, reads_nothing, refusal_is}
 use Rattle.zst_run.proofs.send.open_rest.Goals as goal
 
-pub returns-in_err-plan-clause-opens : goal.returns-in_err-plan-clause-opens
-returns-in_err-plan-clause-opens g c = λ image space running runs.
+pub returns-in_err-plan : goal.returns-in_err-plan
+returns-in_err-plan g c =
     let rows = c.args.pool.now.kept.dir in
-    let named = rows_named (Has image space) rows running runs in
     let fault = c.in_err-plan.field-0.0 in
-    let is = refusal_is (IsPlanOf rows running) fault (rest_of c.args.token.now running) (c.in_err-plan.ensures.plans.found running named) in
     let p = err_from_is_err_and c.from_residual.result c.from_residual.ensures.1 in
-    rw (then_refused fault (rest_of c.args.token.now running) is, p.1, p.2) (inl refl)
+    rw (p.1, p.2) (record {
+      opens = λ running told named stands. refusal_is (IsPlanOf rows running) fault (rest_of c.args.token.now running) (c.in_err-plan.ensures.plans.found running named);
+      planned = λ running named. refusal_is (IsPlanOf rows running) fault (rest_of c.args.token.now running) (c.in_err-plan.ensures.plans.found running named);
+      damaged = λ told sector stated found same. absurd (cc same);
+      opened = tt;
+      reads = reads_nothing c.args.pool.now fault c.requires;
+    })
 
-pub returns-in-Ok-clause-opens : goal.returns-in-Ok-clause-opens
-returns-in-Ok-clause-opens g c = λ image space running runs.
+pub returns : goal.returns
+returns g c =
     let rows = c.args.pool.now.kept.dir in
-    let named = rows_named (Has image space) rows running runs in
-    let s = plan_is (IsPlanOf rows running) c.in_ok-plan.plan (rest_of c.args.token.now running) (c.in_ok-plan.ensures.plans.found running named) in
-    let o = c.in-Ok.ensures.resumes image space running s.0 c.requires runs s.2 in
-    rw (then_built s.0 (rest_of c.args.token.now running) s.1 ∙ o.0) (o.1)
-
-pub returns-in-Err-Plan-clause-opens : goal.returns-in-Err-Plan-clause-opens
-returns-in-Err-Plan-clause-opens g c = λ image space running runs.
-    let rows = c.args.pool.now.kept.dir in
-    let named = rows_named (Has image space) rows running runs in
-    let s = plan_is (IsPlanOf rows running) c.in_ok-plan.plan (rest_of c.args.token.now running) (c.in_ok-plan.ensures.plans.found running named) in
-    let e = rw c.in-Err-Plan.field-0-is at c.in-Err-Plan.ensures.resumes in
-    let o = e image space running s.0 c.requires runs s.2 in
-    rw (then_built s.0 (rest_of c.args.token.now running) s.1 ∙ o, c.from.ensures) (inl refl)
-
-pub returns-in-Ok-clause-answers : goal.returns-in-Ok-clause-answers
-returns-in-Ok-clause-answers g c = let e = c.in-Ok.ensures in record { set = e.set c.args.token.now.to c.in_ok-plan.ensures.to; knows = e.knows; fits = e.fits }
+    let token = c.args.token.now in
+    let plan = c.in_ok-plan.plan in
+    let plans = c.in_ok-plan.ensures.plans in
+    let io = c.args.pool.now.io in
+    let disk = g.D.Disk.state io.disk.now in
+    let e = c.resume.ensures in
+    record {
+      opens = λ running told named stands.
+          let s = plan_is (IsPlanOf rows running) plan (rest_of token running) (plans.found running named) in
+          opens_rest _ s.0 token.point (rest_of token running) c.resume.result s.1 (e.resumes running s.0 told c.requires named s.2 (stands s.0 s.1));
+      planned = λ running named.
+          let s = plan_is (IsPlanOf rows running) plan (rest_of token running) (plans.found running named) in
+          subst (λ (p : Result Sent PlanFault). IsPlanned p c.resume.result) (sym s.1) (e.planned running s.0 c.requires named s.2);
+      damaged = λ told. plan_damage io.space.end disk.seen disk.size rows (rest_of token) plan c.resume.result plans (e.damaged told);
+      opened = opened_for (Rest token) rows c.resume.result (e.set token.to c.in_ok-plan.ensures.to) e.knows e.fits;
+      reads = e.pool;
+    }
