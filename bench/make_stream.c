@@ -1,7 +1,8 @@
 /*
  * Writes a send stream to standard output, to time programs on: N objects of type 19 with blocks of 131,072 bytes or
- * of so many as are given, a power of two from 512 on, a bonus of 8 bytes each, blocks 0 to 254 but every eighth, which are holes.
- * Build: cc -O2 -o make_stream make_stream.c        Use: make_stream N [BLOCK]
+ * of so many as are given, a power of two from 512 on, a bonus of 8 bytes each, blocks 0 to 254, or so many as are given, but every
+ * eighth, or each EACH-th, which are holes.
+ * Build: cc -O2 -o make_stream make_stream.c        Use: make_stream N [BLOCK [BLOCKS [EACH]]]
  * The stream of 7 objects has 206,083,176 bytes.
  */
 #include <stdbool.h>
@@ -10,7 +11,7 @@
 #include <stdlib.h>
 #include <string.h>
 
-enum { RECORD = 312, SUMMED = 280, LARGEST_BLOCK = 131072, SMALLEST_BLOCK = 512, BLOCKS = 255, HOLE_EACH = 8 };
+enum { RECORD = 312, SUMMED = 280, LARGEST_BLOCK = 131072, SMALLEST_BLOCK = 512 };
 enum { BEGIN, OBJECT, FREEOBJECTS, WRITE, FREE, END };
 static const uint64_t GUID = 0x100000001;
 
@@ -19,7 +20,7 @@ typedef struct { uint64_t a, b, c, d; } sums;
 /* Of all bytes that were written. */
 static sums total;
 
-static uint64_t block_size = LARGEST_BLOCK;
+static uint64_t block_size = LARGEST_BLOCK, blocks = 255, hole_each = 8;
 
 static void put32(uint8_t *at, uint32_t n) { memcpy(at, &n, 4); }
 static void put64(uint8_t *at, uint64_t n) { memcpy(at, &n, 8); }
@@ -73,7 +74,7 @@ static void emit_object(uint64_t object)
 	put32(record + 28, sizeof bonus);
 	record[34] = 1;
 	put64(record + 40, GUID);
-	put64(record + 56, BLOCKS - 1);
+	put64(record + 56, blocks - 1);
 	emit_record(record, OBJECT);
 	put64(bonus, object);
 	emit(bonus, sizeof bonus);
@@ -115,20 +116,24 @@ static void emit_end(void)
 
 int main(int argc, char **argv)
 {
-	uint64_t objects = argc == 2 || argc == 3 ? strtoull(argv[1], NULL, 10) : 0;
-	if (argc == 3)
+	uint64_t objects = 2 <= argc && argc <= 5 ? strtoull(argv[1], NULL, 10) : 0;
+	if (argc >= 3)
 		block_size = strtoull(argv[2], NULL, 10);
+	if (argc >= 4)
+		blocks = strtoull(argv[3], NULL, 10);
+	if (argc >= 5)
+		hole_each = strtoull(argv[4], NULL, 10);
 	bool is_block = SMALLEST_BLOCK <= block_size && block_size <= LARGEST_BLOCK && (block_size & (block_size - 1)) == 0;
-	if (objects == 0 || !is_block) {
-		fprintf(stderr, "use: make_stream N [BLOCK]\n");
+	if (objects == 0 || !is_block || blocks == 0 || hole_each == 0) {
+		fprintf(stderr, "use: make_stream N [BLOCK [BLOCKS [EACH]]]\n");
 		return 2;
 	}
 	emit_begin();
 	for (uint64_t object = 1; object <= objects; object++) {
 		emit_object(object);
-		emit_range(FREE, object, BLOCKS * block_size, UINT64_MAX);
-		for (uint64_t index = 0; index < BLOCKS; index++)
-			if (index % HOLE_EACH == HOLE_EACH - 1)
+		emit_range(FREE, object, blocks * block_size, UINT64_MAX);
+		for (uint64_t index = 0; index < blocks; index++)
+			if (index % hole_each == hole_each - 1)
 				emit_range(FREE, object, index * block_size, block_size);
 			else
 				emit_block(object, index);

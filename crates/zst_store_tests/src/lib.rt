@@ -13,6 +13,8 @@ mod cache;
 #[cfg(test)]
 mod costs;
 #[cfg(test)]
+mod damage;
+#[cfg(test)]
 mod extents;
 #[cfg(test)]
 mod list;

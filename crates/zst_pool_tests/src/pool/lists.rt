@@ -1,5 +1,5 @@
 // What is told of the lists of bookmarks, which no command writes yet and the program asks for nowhere.
-ghost use Rattle.std.specs.Prelude.{◌≡◌, ◌≤◌, IfOk};
+ghost use Rattle.std.specs.Prelude.{◌≡◌, ◌<◌, ◌≤◌, IfOk};
 ghost use Rattle.zst_dir.specs.Rows.{IsBookmarkRow};
 
 use crate::pools::{NOW, SMALL, pool_on, step_on, with_lines};
@@ -13,6 +13,7 @@ use zst_list::encode_list;
 use zst_model::{GuidSet, List, PlanFault, Refusal, Run};
 use zst_names::BookName;
 use zst_outside::{Disk, MemDisk};
+use zst_pool::Pool;
 use zst_tree::Tree;
 
 // Blocks 3 and 4 of object 1.
@@ -22,13 +23,22 @@ const REDACTED: Run = Run {
     count: 2,
 };
 
-fn bookmark(text: &str) -> Result<BookName, TestRefusal> {
+pub(crate) fn bookmark(text: &str) -> Result<BookName, TestRefusal> {
     Ok(BookName::parse(text).map_err(PlanFault::from)?)
 }
 
+// What a redaction bookmark has of its snapshot, and the one run of its list.
+#[derive(Clone, Copy)]
+pub(crate) struct Mark {
+    pub(crate) guid: u64,
+    pub(crate) number: u64,
+    pub(crate) run: Run,
+}
+
 // A redaction bookmark whose list of one run stands below this root.
-fn with_list(name: BookName, tree: &Tree) -> Bookmark
+fn with_list(name: BookName, tree: &Tree, mark: Mark) -> Bookmark
     requires levels { tree.now.levels ≤ 7 }
+    requires guid { 0 < mark.guid }
     ensures row { IsBookmarkRow result }
 {
     let _ = name.text();
@@ -38,9 +48,9 @@ fn with_list(name: BookName, tree: &Tree) -> Bookmark
     let _ = redact.as_slice();
     Bookmark {
         name,
-        guid: 5,
+        guid: mark.guid,
         time: NOW,
-        number: 5,
+        number: mark.number,
         redact,
         runs: 1,
         levels: tree.levels,
@@ -76,11 +86,16 @@ fn a_bookmark_that_is_not_there_is_told(rt: HostRuntime) -> Result<(), TestRefus
 }
 
 // Writes the list of one run, and tells the tree of its one leaf.
-fn write_list(rt: &impl Abort, alloc: Global, io: &mut Io<'_, MemDisk>) -> Result<Tree, TestRefusal>
+fn write_list(
+    rt: &impl Abort,
+    alloc: Global,
+    io: &mut Io<'_, MemDisk>,
+    run: Run,
+) -> Result<Tree, TestRefusal>
     ensures levels { IfOk result (λ tree. tree.levels ≡ 0) }
     ensures same { io.new.disk.ghost_name ≡ io.old.disk.ghost_name }
 {
-    let bytes = encode_list(alloc, &[REDACTED])?;
+    let bytes = encode_list(alloc, &[run])?;
     assert_eq!(rt; bytes.len(), 24);
     let Ok(tree) = write_leaves(io, &bytes, 6) else {
         return Err(TestRefusal(Refusal::DiskFault));
@@ -90,12 +105,34 @@ fn write_list(rt: &impl Abort, alloc: Global, io: &mut Io<'_, MemDisk>) -> Resul
 }
 
 // Adds a bookmark with a list below this root to a directory that has no bookmark.
-fn add_listed(rt: &impl Abort, dir: &mut Dir, text: &str, tree: &Tree) -> Result<(), TestRefusal>
+fn add_listed(
+    rt: &impl Abort,
+    dir: &mut Dir,
+    text: &str,
+    tree: &Tree,
+    mark: Mark,
+) -> Result<(), TestRefusal>
     requires levels { tree.now.levels ≤ 7 }
+    requires guid { 0 < mark.guid }
 {
     assert!(rt; dir.bookmarks().is_empty());
-    dir.add_bookmark(with_list(bookmark(text)?, tree))?;
+    dir.add_bookmark(with_list(bookmark(text)?, tree, mark))?;
     Ok(())
+}
+
+// Puts a redaction bookmark into the directory of an open pool that has no bookmark, with its list on the disk.
+pub(crate) fn mark_in(
+    rt: &impl Abort,
+    alloc: Global,
+    pool: &mut Pool<'_, MemDisk>,
+    text: &str,
+    mark: Mark,
+) -> Result<(), TestRefusal>
+    requires guid { 0 < mark.guid }
+    ensures same { pool.new.io.disk.ghost_name ≡ pool.old.io.disk.ghost_name }
+{
+    let tree = write_list(rt, alloc, &mut pool.io, mark.run)?;
+    add_listed(rt, &mut pool.kept.dir, text, &tree, mark)
 }
 
 #[test]
@@ -103,8 +140,12 @@ fn a_list_is_told_where_something_is_redacted(rt: HostRuntime) -> Result<(), Tes
     let alloc = rt.alloc();
     let mut disk = with_lines(alloc, &SMALL)?;
     let mut pool = pool_on(alloc, &mut disk)?;
-    let tree = write_list(&rt, alloc, &mut pool.io)?;
-    add_listed(&rt, &mut pool.kept.dir, "tank/a#k", &tree)?;
+    let mark = Mark {
+        guid: 5,
+        number: 5,
+        run: REDACTED,
+    };
+    mark_in(&rt, alloc, &mut pool, "tank/a#k", mark)?;
     match pool.list_of(alloc, &bookmark("tank/a#k")?)? {
         Some(list) => assert!(rt; list.runs() == [REDACTED].as_slice()),
         None => panic!(rt; "the bookmark has a list"),
