@@ -1,6 +1,5 @@
 -- What records make of a batch, and of the disk.
 use Rattle.std.specs.Prelude.{◌≡◌, ℕ, Bool, true, false, List, Result, Err, IfErr, OnErr, OnOk}
-use Rattle.zst_block.specs.Blocks.{SparesTaken}
 use Rattle.zst_block.specs.IoStates.{IoState}
 use Rattle.zst_dir.specs.RowNames.{AreNamed}
 use Rattle.zst_dir.specs.Rows.{Rows}
@@ -13,14 +12,12 @@ use Rattle.zst_plan.specs.declared.receive.RecvAsk.{RecvAsk}
 use Rattle.zst_pool.specs.declared.fault.PoolFault.TheVariants as pools
 use Rattle.zst_record.specs.declared.head.Head.{Head}
 use Rattle.zst_record.specs.declared.head.Head.TheVariants as heads
-use Rattle.zst_recv.specs.Damage.{ComesFrom, IsDamagedFeed}
 use Rattle.zst_recv.specs.Faults.{Fills, IsFeedFault, stop_of}
 use Rattle.zst_recv.specs.Plans.{IsPlannedBy, is_planned}
 use Rattle.zst_recv.specs.Stages.{StageFits, has_partial, is_begin, is_end, is_live, waits_at}
 use Rattle.zst_recv.specs.declared.batch.Batch as batches
 use Rattle.zst_recv.specs.declared.fault.RecvFault.{RecvFault}
 use Rattle.zst_recv.specs.declared.fault.RecvFault.TheVariants as faults
-use Rattle.zst_recv.specs.declared.stage.Stage as coded
 
 -- As many records were taken as there were: what is to be committed still fits the rows and the target; where none was taken the batch is as it was, and none was while it waits for BEGIN.
 pub record Gathers (rows : Rows) (target : List ℕ) (old new : batches.Batch) : Type 0 where
@@ -46,8 +43,3 @@ pub record PlansBegin (rows : Rows) (ask : RecvAsk) (head : Head) (waited : Bool
 pub record WritesRecords {A : Type 0} (old new : IoState) (result : Result A RecvFault) : Type 0 where
   pub fills : Fills old new (stop_of result)
   pub known : IfErr result IsFeedFault
-
--- And of the set, where they are of this text: E25 tells a damage of the one that they began with, from which the one comes that is then under way.
-pub record TracesRecords {A : Type 0} (rows : Rows) (ask : RecvAsk) (text : List ℕ) (before after : coded.Stage) (old new : IoState) (result : Result A RecvFault) : Type 0 where
-  pub damaged : (sector : ℕ) (stated found : List ℕ) → new.disk.honest → result ≡ Err (faults.Pool (pools.Damaged sector stated found)) → IsDamagedFeed old.disk old.space rows ask text before sector stated found
-  pub comes : new.disk.honest → ComesFrom rows ask text (SparesTaken old.space old.disk.seen) old.disk.size before (SparesTaken new.space new.disk.seen) after

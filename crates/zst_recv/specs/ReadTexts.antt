@@ -1,5 +1,7 @@
 -- What reading says of any text, whatever the image is.
 use Rattle.std.specs.Prelude.{◌≡◌, ◌+◌, ◌<◌, ◌≤◌, ℕ, Bool, true, false, List, [], length, Result, Ok, Err, IfErr, OnOk}
+use Rattle.zst_block.specs.Blocks.{SparesTaken}
+use Rattle.zst_block.specs.IoStates.{IoState}
 use Rattle.zst_dir.specs.Rows.{Rows}
 use Rattle.zst_model.specs.declared.refusals.plan_fault.PlanFault.{PlanFault}
 use Rattle.zst_model.specs.declared.refusals.stream_fault.StreamFault.{StreamFault}
@@ -10,6 +12,7 @@ use Rattle.zst_reader.specs.StandsFor.{HandsOut, StandsFor, pushed_of, room_of}
 use Rattle.zst_reader.specs.declared.reader.Reader.{Reader}
 use Rattle.zst_record.specs.Heads.{Covered}
 use Rattle.zst_stream.specs.Reading.{complete, faulty, reading, waiting}
+use Rattle.zst_recv.specs.Damage.{ComesFrom, IsDamagedFeed}
 use Rattle.zst_recv.specs.Plans.{IsOfStream, RefusesEach, RefusesOne, is_planned}
 use Rattle.zst_recv.specs.Stages.{HasRead, is_live, waits_at}
 use Rattle.zst_recv.specs.declared.fault.RecvFault.{RecvFault}
@@ -32,11 +35,15 @@ pub record ReadsText {A : Type 0} (rows : Rows) (ask : RecvAsk) (front : List �
   pub still : waits_at before ≡ true → (reading text).covered ≡ [] → OnOk result (waits_at after ≡ true)
   pub uncovered : (reading front).covered ≡ [] → waits_at after ≡ true → OnOk result ((reading text).covered ≡ [])
 
--- where a text with this front leaves a stage, whatever is answered: one that is over has read END, and one that waits for BEGIN does so where nothing is covered, and where a plan refuses it
-pub record LeavesStage (rows : Rows) (ask : RecvAsk) (front text : List ℕ) (before after : coded.Stage) : Type 0 where
+-- Where a text with this front leaves a stage and its set, whatever is answered.
+pub record LeavesStage {A : Type 0} (rows : Rows) (ask : RecvAsk) (front text : List ℕ) (before after : coded.Stage) (old new : IoState) (result : Result A RecvFault) : Type 0 where
+  -- one that is over has read END, and one that waits for BEGIN does so where nothing is covered, and where a plan refuses it
   pub over : is_live before ≡ true → is_live after ≡ false → (reading text).outcome ≡ complete
   pub still : waits_at before ≡ true → (reading text).covered ≡ [] → waits_at after ≡ true
   pub refused : (fault : PlanFault) → waits_at before ≡ true → (reading front).covered ≡ [] → RefusesOne rows ask text fault → waits_at after ≡ true
+  -- E25 tells a damage of the set that it began with, from which the one comes that is then under way
+  pub damaged : (sector : ℕ) (stated found : List ℕ) → new.disk.honest → result ≡ Err (faults.Pool (pools.Damaged sector stated found)) → IsDamagedFeed old.disk old.space rows ask text before sector stated found
+  pub comes : new.disk.honest → ComesFrom rows ask text (SparesTaken old.space old.disk.seen) old.disk.size before (SparesTaken new.space new.disk.seen) after
 
 -- A reader was emptied: nothing was pushed, and where that ends with no fault and without END all that its text covers was handed out, and it has room again. A text that covers nothing is refused as a stream alone.
 pub record Empties (old new : Reader) (result : Result Bool RecvFault) : Type 0 where

@@ -7,7 +7,7 @@ ghost use Rattle.zst_pool.specs.Calls.{IsUnderWay};
 ghost use Rattle.zst_reader.specs.StandsFor.{HandsOut, StandsFor, pushed_of};
 ghost use Rattle.zst_record.specs.Heads.{Covered};
 ghost use Rattle.zst_stream.specs.Reading.{waiting};
-ghost use Rattle.zst_recv.specs.Batches.{Gathers, TracesRecords, WritesRecords};
+ghost use Rattle.zst_recv.specs.Batches.{Gathers, WritesRecords};
 ghost use Rattle.zst_recv.specs.Costs.{Spends, records_behind};
 ghost use Rattle.zst_recv.specs.Faults.{stop_of};
 ghost use Rattle.zst_recv.specs.ReadTexts.{Empties, LeavesStage, ReadsText, TakesPiece};
@@ -40,10 +40,9 @@ fn drain<D: Disk>(
         → Drains ask.now running reader.new text handed (IsBatch (bound_of tight (running.number + 1)) (blocks_of io.new) batch.new) plain result }
     ensures gathers { Gathers kept.now.dir ask.now.target batch.old batch.new }
     ensures writes { WritesRecords (io_of io.old) (io_of io.new) result }
-    ensures traces { (text : List ℕ) (handed : List Covered) → StandsFor reader.old text handed → TracesRecords kept.now.dir ask.now text batch.old.stage batch.new.stage (io_of io.old) (io_of io.new) result }
     // Before what was pushed nothing need have been covered.
     ensures texts { (text : List ℕ) (handed : List Covered) → StandsFor reader.old text handed → ReadsText kept.now.dir ask.now [] handed text batch.old.stage batch.new.stage reader.new result }
-    ensures leaves { (text : List ℕ) (handed : List Covered) → StandsFor reader.old text handed → LeavesStage kept.now.dir ask.now [] text batch.old.stage batch.new.stage }
+    ensures leaves { (text : List ℕ) (handed : List Covered) → StandsFor reader.old text handed → LeavesStage kept.now.dir ask.now [] text batch.old.stage batch.new.stage (io_of io.old) (io_of io.new) result }
     ensures behind { (text : List ℕ) (handed : List Covered) → StandsFor reader.old text handed → StandsBehind handed batch.old.stage → IfOk result (HandedOn reader.new text batch.new.stage) }
     ensures empties { Empties reader.old reader.new result }
     // What was handed out took no more sectors than it costs, the refused record among it.
@@ -79,9 +78,8 @@ pub(crate) fn read<D: Disk>(
         → Reads ask.now running reader.new text piece.now (IsBatch (bound_of tight (running.number + 1)) (blocks_of io.new) batch.new) plain result }
     ensures gathers { Gathers kept.now.dir ask.now.target batch.old batch.new }
     ensures writes { WritesRecords (io_of io.old) (io_of io.new) result }
-    ensures traces { (text : List ℕ) (handed : List Covered) → StandsFor reader.old text handed → TracesRecords kept.now.dir ask.now (text ++ piece.now) batch.old.stage batch.new.stage (io_of io.old) (io_of io.new) result }
     ensures texts { (text : List ℕ) (handed : List Covered) → StandsFor reader.old text handed → ReadsText kept.now.dir ask.now text handed (text ++ piece.now) batch.old.stage batch.new.stage reader.new result }
-    ensures leaves { (text : List ℕ) (handed : List Covered) → StandsFor reader.old text handed → LeavesStage kept.now.dir ask.now text (text ++ piece.now) batch.old.stage batch.new.stage }
+    ensures leaves { (text : List ℕ) (handed : List Covered) → StandsFor reader.old text handed → LeavesStage kept.now.dir ask.now text (text ++ piece.now) batch.old.stage batch.new.stage (io_of io.old) (io_of io.new) result }
     ensures takes { TakesPiece piece.now reader.old reader.new batch.new.stage result }
     // Whatever the text: the records that it covers behind those that were handed out took no more sectors than they cost.
     ensures spends { (text : List ℕ) (handed : List Covered) → StandsFor reader.old text handed → Spends (records_behind handed (text ++ piece.now)) io.old.space io.new.space (stop_of result) }

@@ -153,23 +153,6 @@ returns-in_err-take-in-Ok-Record g c =
         fills = rw (p.1, p.2) (Fills-then i.fills e.fills);
         known = rw (p.1, p.2) (record_known _ e.known);
       };
-      traces = λ text handed stands.
-          let first = c.args.io.now in
-          let mid = c.records.io in
-          let last = c.take.new.io in
-          let old = g.D.Disk.state first.disk.now in
-          let now = g.D.Disk.state mid.disk.now in
-          let later = i.reads text handed stands in
-          let waited = λ (waits : waits_at c.records.batch.stage ≡ true). ap (λ (b : batches.Batch). b.stage) (i.waits waits) in
-          record {
-            damaged = λ sector stated found honest is.
-                damaged_then rows ask text old now first.space mid.space i.fills.fills c.args.batch.now.stage c.records.batch.stage waited (i.comes text handed stands (e.fills.fills.honest honest)) sector stated found
-                (e.damaged text sector stated found honest (was_told _ is));
-            comes = λ honest.
-                comes_then rows ask text old now first.space mid.space i.fills.fills c.args.batch.now.stage c.records.batch.stage waited (i.comes text handed stands (e.fills.fills.honest honest))
-                (SparesTaken last.space (g.D.Disk.state last.disk.now).seen) c.take.new.self.stage
-                (e.comes text (begins_at c.records.reader c.records.batch.stage c.requires.reads i.behind _ text later.0 next (h.1 text later.0 later.1) later.1) honest);
-          };
       texts = λ text handed stands.
           let later = i.reads text handed stands in
           let more = h.1 text later.0 later.1 in
@@ -197,12 +180,25 @@ returns-in_err-take-in-Ok-Record g c =
             uncovered = λ none waits. rw p.1 tt;
           };
       leaves = λ text handed stands.
+          let first = c.args.io.now in
+          let mid = c.records.io in
+          let last = c.take.new.io in
+          let old = g.D.Disk.state first.disk.now in
+          let now = g.D.Disk.state mid.disk.now in
           let later = i.reads text handed stands in
           let more = h.1 text later.0 later.1 in
+          let waited = λ (waits : waits_at c.records.batch.stage ≡ true). ap (λ (b : batches.Batch). b.stage) (i.waits waits) in
           record {
             over = λ live over. over_more _ text later.0 next c.records.batch.stage c.take.new.self.stage more e.moves.over (i.over text handed stands live) over;
             still = λ waits none. absurd (covers_some _ text later.0 next more none);
             refused = λ fault waits none refuses. ap (λ (b : batches.Batch). waits_at b.stage) e.moves.stays ∙ i.planned text handed fault stands waits refuses;
+            damaged = λ sector stated found honest is.
+                damaged_then rows ask text old now first.space mid.space i.fills.fills c.args.batch.now.stage c.records.batch.stage waited (i.comes text handed stands (e.fills.fills.honest honest)) sector stated found
+                (e.damaged text sector stated found honest (was_told _ is));
+            comes = λ honest.
+                comes_then rows ask text old now first.space mid.space i.fills.fills c.args.batch.now.stage c.records.batch.stage waited (i.comes text handed stands (e.fills.fills.honest honest))
+                (SparesTaken last.space (g.D.Disk.state last.disk.now).seen) c.take.new.self.stage
+                (e.comes text (begins_at c.records.reader c.records.batch.stage c.requires.reads i.behind _ text later.0 next more later.1) honest);
           };
       behind = λ text handed stands is. rw p.1 tt;
       empties = record {
@@ -225,7 +221,6 @@ returns-in-Ok-NeedMore g c =
           drain_ends c.args.ask.now running text handed plain _ _ (is_now tight running) (is_now tight running) d waiting (h.1 text (handed ++ d.records) d.stands) d.is;
       gathers = record { fits = λ fits. i.stage; idle = i.idle; waits = i.waits };
       writes = record { fills = i.fills; known = tt };
-      traces = λ text handed stands. record { damaged = λ sector stated found honest is. absurd (cc is); comes = i.comes text handed stands };
       texts = λ text handed stands.
           let later = i.reads text handed stands in
           let hands = h.1 text later.0 later.1 in
@@ -242,7 +237,13 @@ returns-in-Ok-NeedMore g c =
             uncovered = λ none waits. handed_none _ text later.0 waiting hands (waits_none c.records.reader c.records.batch.stage c.requires.reads i.behind waits text later.0 later.1);
           };
       leaves = λ text handed stands.
-          record { over = i.over text handed stands; still = i.still text handed stands; refused = λ fault waits none refuses. i.planned text handed fault stands waits refuses };
+          record {
+            over = i.over text handed stands;
+            still = i.still text handed stands;
+            refused = λ fault waits none refuses. i.planned text handed fault stands waits refuses;
+            damaged = λ sector stated found honest is. absurd (cc is);
+            comes = i.comes text handed stands;
+          };
       behind = λ text handed stands is.
           let later = i.behind text handed stands is in
           record { handed = later.0; stands = (h.1 text later.0 later.1).stands; behind = later.2; over = λ ended. absurd (cc ended) };
@@ -269,7 +270,6 @@ returns-in-Ok-End g c =
           drain_ends c.args.ask.now running text handed plain _ _ (is_now tight running) (is_now tight running) d complete (h.1 text (handed ++ d.records) d.stands) d.is;
       gathers = record { fits = λ fits. i.stage; idle = i.idle; waits = i.waits };
       writes = record { fills = i.fills; known = tt };
-      traces = λ text handed stands. record { damaged = λ sector stated found honest is. absurd (cc is); comes = i.comes text handed stands };
       texts = λ text handed stands.
           let later = i.reads text handed stands in
           let hands = h.1 text later.0 later.1 in
@@ -286,7 +286,13 @@ returns-in-Ok-End g c =
             uncovered = λ none waits. handed_none _ text later.0 complete hands (waits_none c.records.reader c.records.batch.stage c.requires.reads i.behind waits text later.0 later.1);
           };
       leaves = λ text handed stands.
-          record { over = i.over text handed stands; still = i.still text handed stands; refused = λ fault waits none refuses. i.planned text handed fault stands waits refuses };
+          record {
+            over = i.over text handed stands;
+            still = i.still text handed stands;
+            refused = λ fault waits none refuses. i.planned text handed fault stands waits refuses;
+            damaged = λ sector stated found honest is. absurd (cc is);
+            comes = i.comes text handed stands;
+          };
       behind = λ text handed stands is.
           let later = i.behind text handed stands is in
           let hands = h.1 text later.0 later.1 in
@@ -315,7 +321,6 @@ returns-in-Err g c =
         fills = i.fills;
         known = let later = i.reads r.text r.handed r.stands in found_stream r.text later.0 c.in-Err.fault (h.1 r.text later.0 later.1).whole (c.faults_are_found.ensures r.text);
       };
-      traces = λ text handed stands. record { damaged = λ sector stated found honest is. absurd (cc is); comes = i.comes text handed stands };
       texts = λ text handed stands.
           let later = i.reads text handed stands in
           let hands = h.1 text later.0 later.1 in
@@ -332,7 +337,13 @@ returns-in-Err g c =
             uncovered = λ none waits. tt;
           };
       leaves = λ text handed stands.
-          record { over = i.over text handed stands; still = i.still text handed stands; refused = λ fault waits none refuses. i.planned text handed fault stands waits refuses };
+          record {
+            over = i.over text handed stands;
+            still = i.still text handed stands;
+            refused = λ fault waits none refuses. i.planned text handed fault stands waits refuses;
+            damaged = λ sector stated found honest is. absurd (cc is);
+            comes = i.comes text handed stands;
+          };
       behind = λ text handed stands is. tt;
       empties = record {
         pushed = h.0.pushed ∙ i.pushed;

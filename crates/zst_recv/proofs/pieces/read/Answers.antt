@@ -145,10 +145,10 @@ pushes-preserved g c =
           let last = c.drain.new.io in
           let m = i.planned.2 text handed stands in
           let read = (text ++ i.planned.0) ++ take n rest in
-          let traces = e.traces read m.0 (push.stands (text ++ i.planned.0) m.0 m.1) in
+          let leaves = e.leaves read m.0 (push.stands (text ++ i.planned.0) m.0 m.1) in
           comes_on c.args.kept.now.dir c.args.ask.now (text ++ c.args.piece.now) read (drop n rest) (whole_read text c.args.piece.now i.planned.0 (take n rest) (drop n rest) (piece_split c.args.piece.now i.planned.0 rest n i.planned.1))
           (g.D.Disk.state first.disk.now) (g.D.Disk.state mid.disk.now) first.space mid.space i.fills.fills c.args.batch.now.stage c.pushes.batch.stage
-          (λ waits. ap (λ (b : batches.Batch). b.stage) (i.waits waits)) (i.comes text handed stands (e.writes.fills.fills.honest honest)) (SparesTaken last.space (g.D.Disk.state last.disk.now).seen) c.drain.new.batch.stage (traces.comes honest);
+          (λ waits. ap (λ (b : batches.Batch). b.stage) (i.waits waits)) (i.comes text handed stands (e.writes.fills.fills.honest honest)) (SparesTaken last.space (g.D.Disk.state last.disk.now).seen) c.drain.new.batch.stage (leaves.comes honest);
       hands = (
         i.hands.0 ++ take n rest,
         piece_left c.args.piece.now i.hands.0 rest n i.hands.1,
@@ -198,23 +198,6 @@ returns-in_err-drain g c =
         fills = rw (p.1, p.2) (Fills-then i.fills e.writes.fills);
         known = rw (p.1, p.2) e.writes.known;
       };
-      traces = λ text handed stands.
-          let first = c.args.io.now in
-          let mid = c.pushes.io in
-          let last = c.drain.new.io in
-          let m = i.planned.2 text handed stands in
-          let read = (text ++ i.planned.0) ++ take n rest in
-          let t = e.traces read m.0 (push.stands (text ++ i.planned.0) m.0 m.1) in
-          let whole = whole_read text piece i.planned.0 (take n rest) (drop n rest) (piece_split piece i.planned.0 rest n i.planned.1) in
-          record {
-            damaged = λ sector stated found honest is.
-                damaged_on rows ask (text ++ piece) read (drop n rest) whole (g.D.Disk.state first.disk.now) (g.D.Disk.state mid.disk.now) first.space mid.space i.fills.fills c.args.batch.now.stage c.pushes.batch.stage
-                (λ waits. ap (λ (b : batches.Batch). b.stage) (i.waits waits)) (i.comes text handed stands (e.writes.fills.fills.honest honest)) sector stated found
-                (t.damaged sector stated found honest (ap (λ (f : RecvFault). Err f) (sym p.2 ∙ err_told (Unit {0}) _ _ (sym p.1 ∙ is))));
-            comes = λ honest.
-                comes_on rows ask (text ++ piece) read (drop n rest) whole (g.D.Disk.state first.disk.now) (g.D.Disk.state mid.disk.now) first.space mid.space i.fills.fills c.args.batch.now.stage c.pushes.batch.stage
-                (λ waits. ap (λ (b : batches.Batch). b.stage) (i.waits waits)) (i.comes text handed stands (e.writes.fills.fills.honest honest)) (SparesTaken last.space (g.D.Disk.state last.disk.now).seen) c.drain.new.batch.stage (t.comes honest);
-          };
       texts = λ text handed stands.
           let m = i.planned.2 text handed stands in
           let read = (text ++ i.planned.0) ++ take n rest in
@@ -245,6 +228,9 @@ returns-in_err-drain g c =
             uncovered = λ none waits. rw p.1 tt;
           };
       leaves = λ text handed stands.
+          let first = c.args.io.now in
+          let mid = c.pushes.io in
+          let last = c.drain.new.io in
           let f = i.front.2 text handed stands in
           let m = i.planned.2 text handed stands in
           let front = (text ++ i.front.0) ++ take n rest in
@@ -260,6 +246,13 @@ returns-in_err-drain g c =
                 let was = i.planned.4 text handed fault stands waits refuses in
                 by_covered (waits_at c.drain.new.batch.stage ≡ true) read (λ empty. l.still was empty)
                 (λ first others covers. l.refused fault was nothing_covered (front_refused rows ask read (drop n rest) fault first others covers (subst (λ (t : List ℕ). RefusesOne rows ask t fault) whole refuses)));
+            damaged = λ sector stated found honest is.
+                damaged_on rows ask (text ++ piece) read (drop n rest) whole (g.D.Disk.state first.disk.now) (g.D.Disk.state mid.disk.now) first.space mid.space i.fills.fills c.args.batch.now.stage c.pushes.batch.stage
+                (λ waits. ap (λ (b : batches.Batch). b.stage) (i.waits waits)) (i.comes text handed stands (e.writes.fills.fills.honest honest)) sector stated found
+                (l.damaged sector stated found honest (ap (λ (f : RecvFault). Err f) (sym p.2 ∙ err_told (Unit {0}) _ _ (sym p.1 ∙ is))));
+            comes = λ honest.
+                comes_on rows ask (text ++ piece) read (drop n rest) whole (g.D.Disk.state first.disk.now) (g.D.Disk.state mid.disk.now) first.space mid.space i.fills.fills c.args.batch.now.stage c.pushes.batch.stage
+                (λ waits. ap (λ (b : batches.Batch). b.stage) (i.waits waits)) (i.comes text handed stands (e.writes.fills.fills.honest honest)) (SparesTaken last.space (g.D.Disk.state last.disk.now).seen) c.drain.new.batch.stage (l.comes honest);
           };
       takes = record {
         reads = record { text = r.text ++ take n rest; bytes = more_bytes r.text rest n r.bytes i.bytes; handed = r.handed ++ spent.0; stands = spent.1; behind = tt };
@@ -305,20 +298,6 @@ returns-then-branch g c =
         fills = Fills-then i.fills e.writes.fills;
         known = tt;
       };
-      traces = λ text handed stands.
-          let first = c.args.io.now in
-          let mid = c.pushes.io in
-          let last = c.drain.new.io in
-          let m = i.planned.2 text handed stands in
-          let read = (text ++ i.planned.0) ++ take n rest in
-          let t = e.traces read m.0 (push.stands (text ++ i.planned.0) m.0 m.1) in
-          let whole = whole_read text piece i.planned.0 (take n rest) (drop n rest) (piece_split piece i.planned.0 rest n i.planned.1) in
-          record {
-            damaged = λ sector stated found honest is. absurd (cc is);
-            comes = λ honest.
-                comes_on rows ask (text ++ piece) read (drop n rest) whole (g.D.Disk.state first.disk.now) (g.D.Disk.state mid.disk.now) first.space mid.space i.fills.fills c.args.batch.now.stage c.pushes.batch.stage
-                (λ waits. ap (λ (b : batches.Batch). b.stage) (i.waits waits)) (i.comes text handed stands (e.writes.fills.fills.honest honest)) (SparesTaken last.space (g.D.Disk.state last.disk.now).seen) c.drain.new.batch.stage (t.comes honest);
-          };
       texts = λ text handed stands.
           let f = i.front.2 text handed stands in
           let m = i.planned.2 text handed stands in
@@ -344,6 +323,9 @@ returns-then-branch g c =
             uncovered = λ none waits. absurd (waits_live c.drain.new.batch.stage waits ends);
           };
       leaves = λ text handed stands.
+          let first = c.args.io.now in
+          let mid = c.pushes.io in
+          let last = c.drain.new.io in
           let f = i.front.2 text handed stands in
           let m = i.planned.2 text handed stands in
           let front = (text ++ i.front.0) ++ take n rest in
@@ -359,6 +341,10 @@ returns-then-branch g c =
                 let was = i.planned.4 text handed fault stands waits refuses in
                 by_covered (waits_at c.drain.new.batch.stage ≡ true) read (λ empty. l.still was empty)
                 (λ first others covers. l.refused fault was nothing_covered (front_refused rows ask read (drop n rest) fault first others covers (subst (λ (t : List ℕ). RefusesOne rows ask t fault) whole refuses)));
+            damaged = λ sector stated found honest is. absurd (cc is);
+            comes = λ honest.
+                comes_on rows ask (text ++ piece) read (drop n rest) whole (g.D.Disk.state first.disk.now) (g.D.Disk.state mid.disk.now) first.space mid.space i.fills.fills c.args.batch.now.stage c.pushes.batch.stage
+                (λ waits. ap (λ (b : batches.Batch). b.stage) (i.waits waits)) (i.comes text handed stands (e.writes.fills.fills.honest honest)) (SparesTaken last.space (g.D.Disk.state last.disk.now).seen) c.drain.new.batch.stage (l.comes honest);
           };
       takes =
           let spent = e.spends (r.text ++ take n rest) r.handed (push.stands r.text r.handed r.stands) in
@@ -389,7 +375,6 @@ returns g c =
           piece_waits c.args.ask.now running text handed plain hands.whole piece c.pushes.reader i.piece.0 (is_now tight running) (done i.piece.0 i.piece.1) m;
       gathers = record { fits = λ fits. i.stage; idle = i.idle; waits = i.waits };
       writes = record { fills = i.fills; known = tt };
-      traces = λ text handed stands. record { damaged = λ sector stated found honest is. absurd (cc is); comes = i.comes text handed stands };
       texts = λ text handed stands.
           let m = i.front.2 text handed stands in
           record {
@@ -411,6 +396,8 @@ returns g c =
             over = λ live over. subst (λ (t : List ℕ). (reading (text ++ t)).outcome ≡ complete) (sym (done i.front.0 i.front.1)) (i.front.3 text handed stands live over);
             still = λ waits none. i.planned.5 text handed stands waits none;
             refused = λ fault waits none refuses. i.planned.4 text handed fault stands waits refuses;
+            damaged = λ sector stated found honest is. absurd (cc is);
+            comes = i.comes text handed stands;
           };
       takes = record {
         reads = over_reads c.pushes.reader c.pushes.batch.stage i.reads;

@@ -117,7 +117,7 @@ read_comes : (g : Over) (c : After-read g) (text : List ℕ) (handed : List Cove
 read_comes g c text handed stands honest =
     let two = g.D.Disk.state c.read.new.io.disk.now in
     comes_renewed (g.D.Disk.state c.args.pool.now.io.disk.now) (g.D.Disk.state c.renew.new.self.io.disk.now) c.renew.new.self.io.space c.args.pool.now.kept c.renew.new.self.kept c.args.self.now.ask (text ++ c.args.piece.now) c.new-batch.result.stage c.args.self.now.stage
-    (SparesTaken c.read.new.io.space two.seen) c.read.new.batch.stage (ap (λ (d : g.row.D.Denot). g.D.Disk.state d) c.renew.ensures.disk.now) c.renew.ensures.space c.renew.ensures.kept (began_at g c) ((c.read.ensures.traces text handed stands).comes honest)
+    (SparesTaken c.read.new.io.space two.seen) c.read.new.batch.stage (ap (λ (d : g.row.D.Denot). g.D.Disk.state d) c.renew.ensures.disk.now) c.renew.ensures.space c.renew.ensures.kept (began_at g c) ((c.read.ensures.leaves text handed stands).comes honest)
 
 -- how a piece was read: the pool is under way since it was at rest, and of the piece was taken what the definition takes before its first fault
 record ReadsPiece (g : Over) (c : After-read g) (tight : Bool) (running : Pool) (text : List ℕ) (stage : Stage) (result : Result (Unit {0}) RecvFault) : Type 0 where
@@ -695,7 +695,7 @@ returns-in-Err-2-clause-traces g c = λ text handed stands honest. record {
       let gave = c.give_up-in-Err-2 in
       let last = ap (λ (io : _). g.D.Disk.state io.disk.now) gave.ensures.io in
       let now = subst (λ (d : DiskState). d.honest) last honest in
-      let told = (c.in-Err.ensures.traces text handed stands).damaged sector stated found now (ap (λ (f : RecvFault). Err f) (sym gave.ensures.fault ∙ err_told coded_recv.FeedReport _ _ is)) in
+      let told = (c.in-Err.ensures.leaves text handed stands).damaged sector stated found now (ap (λ (f : RecvFault). Err f) (sym gave.ensures.fault ∙ err_told coded_recv.FeedReport _ _ is)) in
       damaged_renewed (g.D.Disk.state c.args.pool.now.io.disk.now) (g.D.Disk.state c.renew.new.self.io.disk.now) c.renew.new.self.io.space c.args.pool.now.kept c.renew.new.self.kept c.args.self.now.ask (text ++ c.args.piece.now) c.new-batch.result.stage c.args.self.now.stage sector stated found
       (ap (λ (d : g.row.D.Denot). g.D.Disk.state d) c.renew.ensures.disk.now) c.renew.ensures.space c.renew.ensures.kept (began_at g (goal.at.returns-in-Err-2-clause-traces g c).After-read) told;
   makes = λ goes. absurd (cc goes);
