@@ -56,13 +56,13 @@ told_of target pool token (Some partial) is told = go partial.keep told
 
 module _ (can : RestCanBeSent) (tight : Bool) (token : Token) (receive : RecvAsk) (from into : Pool) (sent also : Sent) (here there there' : DiskState)
     (sender : IsRestSender token from sent also here) (receiver : IsRestReceiver tight token receive into there there') where
-  lawful : IsPool into
+  pub lawful : IsPool into
   lawful = receiver.reads.described.lawful
 
   told : IsTold receive.target into token
   told = told_of receive.target into token (partial_of receive.target into) refl receiver.told
 
-  gives_at : (point : Point) → point ≡ token.point → GivesRest sent also point
+  pub gives_at : (point : Point) → point ≡ token.point → GivesRest sent also point
   gives_at point same = record {
     same_view = sender.same_view;
     sendable = can token from also point sender.reads.2.lawful
@@ -79,6 +79,10 @@ module _ (can : RestCanBeSent) (tight : Bool) (token : Token) (receive : RecvAsk
   -- the partial state that is there is the one that is told of
   same_partial : (partial : Partial) → partial_of receive.target into ≡ Some partial → told.partial ≡ partial
   same_partial partial there = let both : Some told.partial ≡ Some partial = sym told.there ∙ there in cc
+
+  -- so that it has the token's point
+  pub at_token : (partial : Partial) → partial_of receive.target into ≡ Some partial → partial.point ≡ token.point
+  at_token partial there = sym (ap (λ (p : Partial). p.point) (same_partial partial there)) ∙ told.point
 
   -- what was read in pieces is of the rest
   of_rest : (pieces : List (List ℕ)) (input input' : SourceState) → IsReadOf (begun_text also (Some token.point)) input input' → Gave input input' (concat pieces) → AreOfStream pieces also (Some told.partial.point)

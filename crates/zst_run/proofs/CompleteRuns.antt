@@ -19,7 +19,6 @@ use Rattle.zst_model.specs.pools.Pool.{Pool}
 use Rattle.zst_model.specs.pools.Step.{Stepped, stepped}
 use Rattle.zst_model.specs.sends.Headers.{Sent}
 use Rattle.zst_dir.specs.Rows.{Rows}
-use Rattle.zst_image.specs.Reads.{ReadsAs}
 use Rattle.zst_plan.specs.declared.receive.RecvAsk.{RecvAsk}
 use Rattle.zst_reader.specs.InputReads.{stream_limit}
 use Rattle.zst_recv.specs.Feeds.{receives}
@@ -31,10 +30,10 @@ use Rattle.zst_stream.specs.Reading.{complete, faulty, reading, waiting}
 use Rattle.zst_token.specs.Spelling.{token_text}
 use Rattle.zst_token.specs.declared.token.Token.{Token}
 use Rattle.zst_run.specs.Commands.{Answers, IsPoolRefusal, Makes, OfMaking, OfStepping}
-use Rattle.zst_run.specs.Completeness.{AreOfFront, DoneIsTold, DoneOrNoMemory, HasRoom, HasRoomFor, HasText, NoneCounted, ReceivesComplete, SendsComplete, StepsComplete, CreatesComplete, TokensComplete, DumpsComplete}
+use Rattle.zst_run.specs.Completeness.{AreOfFront, DoneIsTold, DoneOrNoMemory, HasRoomFor, HasText, NoneCounted, ReceivesComplete, SendsComplete, StepsComplete, CreatesComplete, TokensComplete, DumpsComplete}
 use Rattle.zst_run.specs.Dumps.{Ends}
-use Rattle.zst_run.specs.Receives.{ArePieces, IsReceiveRefusal, IsTightOrNew, ReceiveEnds, Receiving, Refused}
-use Rattle.zst_run.specs.Replies.{Replied, Replies}
+use Rattle.zst_run.specs.Receives.{ArePieces, IsReceiveRefusal, ReceiveEnds, Refused}
+use Rattle.zst_run.specs.Replies.{Replied}
 use Rattle.zst_run.specs.Runs.{status_of}
 use Rattle.zst_run.specs.Sends.{SendEnds, TextEnds, start_of}
 use Rattle.zst_run.specs.Tokens.{AnswersBy, OfToken}
@@ -114,29 +113,19 @@ answer_done out out' (Ok lines) result sink alone replied = replied_done out out
 answer_done out out' (Err refusal) result sink alone replied =
     inr (subst (λ (r : Refusal). result ≡ Err r) (alone refusal refl) replied.0)
 
--- a run that receives a text which its reading takes, of whose pieces none is refused by the definition
-pub receive_done : (here here' : DiskState) (tight : Bool) (ask : RecvAsk) (uber : Uber) (rows : Rows) (pool : Pool) (text : List ℕ) (input input' : SourceState) (out out' : SinkState) (result : Result (Unit {0}) Refusal)
-    → here'.honest → ReadsAs tight uber rows pool here.seen → IsTightOrNew tight ask pool
-    → HasText text input input' → length text ≤ stream_limit → HasRoom here text → (reading text).outcome ≡ complete
-    → NoneCounted here.faults here'.faults → NoneCounted input.faults input'.faults → NoneCounted out.faults out'.faults
-    → (run : Replies (Receiving ask here here' input input') out out' result)
-    → (AreOfFront text run.does.pieces → (after : Pool) (refusal : Refusal) → receives ask pool run.does.pieces ≢ Stops after refusal) → DoneOrNoMemory result
-receive_done here here' tight ask uber rows pool text input input' out out' result honest reads tells has within room complete_is disk source sink run accepts =
+pub receives_complete : (here here' : DiskState) → ReceivesComplete here here'
+receives_complete here here' tight ask uber rows pool text input input' out out' result honest reads tells has within takes room disk source sink run =
     let went = run.does in
     let found = of_front text input input' went.pieces went.are_pieces went.consumed has in
     let short : (need largest : ℕ) → run.answer ≡ Err (refusals.Full need largest) → ⊥ =
     λ need largest full. let costs = went.cost honest need largest full in room costs.0 costs.1 went.pieces costs.2 found.1 costs.3 in
     let ends = went.ends tight uber rows pool honest reads tells in
     answer_done out out' run.answer result sink
-    (λ refusal is. refusal_done tight ask pool text went.pieces here here' input input' has found.0 complete_is (accepts found.1) within disk source refusal
+    (λ refusal is. refusal_done tight ask pool text went.pieces here here' input input' has found.0 takes.whole (takes.accepts went.pieces found.1) within disk source refusal
     (subst (λ (answer : Result (List (List ℕ)) Refusal). IfErr answer (IsReceiveRefusal here here' input input')) is went.refused)
     (λ need largest full. short need largest (is ∙ ap (λ (r : Refusal). Err r) full))
     (subst (λ (answer : Result (List (List ℕ)) Refusal). ReceiveEnds tight ask pool went.pieces here' input input' answer) is ends))
     run.replied
-
-pub receives_complete : (here here' : DiskState) → ReceivesComplete here here'
-receives_complete here here' tight ask uber rows pool text input input' out out' result honest reads tells has within takes room disk source sink run =
-    receive_done here here' tight ask uber rows pool text input input' out out' result honest reads tells has within room takes.whole disk source sink run (takes.accepts run.does.pieces)
 
 -- ---- the other lines
 

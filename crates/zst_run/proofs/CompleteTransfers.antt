@@ -1,95 +1,124 @@
 -- What one run sends another receives, where nothing stands in the way of either.
-use Rattle.std.proofs.Common.{◌≡◌, ℕ, ◌<◌, zero, suc, Bool, false, List, [], ◌∷◌, ◌++◌, length, take, None, Result, Ok, refl, sym, ap, ◌∙◌, subst, arith}
+use Rattle.std.proofs.Common.{◌≡◌, ℕ, ◌≤◌, ◌+◌, Bool, List, [], ◌∷◌, ◌++◌, length, Option, Some, None, Result, Ok, refl, sym, ap, ◌∙◌, subst, arith}
 use Rattle.std.specs.List.{concat}
-use Rattle.std.proofs.lemmas.List.{append-nil}
+use Rattle.std.proofs.lemmas.List.{append-nil, length-append}
 use Rattle.zst_outside.specs.Images.{DiskState}
+use Rattle.zst_outside.specs.States.{SinkState, SourceState}
 use Rattle.zst_model.specs.declared.refusals.refusal.Refusal.{Refusal}
 use Rattle.zst_model.specs.declared.sends.ask.SendAsk.{SendAsk}
-use Rattle.zst_model.specs.pools.Pool.{Pool}
-use Rattle.zst_model.specs.sends.Headers.{Sent, choice_of, header_of}
-use Rattle.zst_model.specs.sends.Items.{origin}
+use Rattle.zst_model.specs.declared.sends.header.Point.{Point}
+use Rattle.zst_model.specs.pools.Limits.{last_number}
+use Rattle.zst_model.specs.pools.Pool.{Partial, Pool}
+use Rattle.zst_model.specs.sends.Headers.{Sent, choice_of}
+use Rattle.zst_model.specs.states.State.{State}
 use Rattle.zst_plan.specs.declared.receive.RecvAsk.{RecvAsk}
-use Rattle.zst_recv.specs.Answers.{is_done}
-use Rattle.zst_recv.specs.Feeds.{feeds, receives}
-use Rattle.zst_recv.specs.ReceiveSteps.{Goes, Stage, Stops}
-use Rattle.zst_send.specs.Sends.{begun_text}
+use Rattle.zst_record.specs.Payload.{stated_point}
+use Rattle.zst_reader.specs.InputReads.{stream_limit}
+use Rattle.zst_send.specs.Sends.{begun, begun_text}
 use Rattle.zst_stream.specs.Items.{ViewIsRead}
-use Rattle.zst_replication.specs.Replicas.{AreOfStream}
-use Rattle.zst_replication.specs.TakenSends.{IsOfCommit, SentIsTaken}
-use Rattle.zst_run.specs.Completeness.{AreOfFront, CanTake, HasText, TransfersComplete}
-use Rattle.zst_run.specs.Replication.{IsReceiver, IsSender}
-use Rattle.zst_run.specs.declared.send.SendRequest.TheVariants.{Named}
-use Rattle.zst_run.specs.Sends.{Sends}
-use Rattle.zst_run.proofs.CompleteRuns.{receive_done, sends_complete}
-use Rattle.zst_run.proofs.FedPieces.{open_live}
+use Rattle.zst_stream.specs.Reading.{complete, reading}
+use Rattle.zst_token.specs.declared.token.Token.{Token}
+use Rattle.zst_replication.specs.MatchingBases.{RestCanBeSent}
+use Rattle.zst_replication.specs.Replicas.{AreOfStream, IsSendable}
+use Rattle.zst_replication.specs.Resumption.{IsUnderway}
+use Rattle.zst_replication.specs.TakenSends.{CanCount, RestIsAccepted, SentIsAccepted}
+use Rattle.zst_run.specs.Completeness.{AreOfFront, CanTake, CanTakeRest, DoneOrNoMemory, HasText, RestTransfersComplete, SendsWell, Takes, TransfersComplete}
+use Rattle.zst_run.specs.Receives.{ArePieces}
+use Rattle.zst_run.specs.Replication.{IsReceiver, IsRestReceiver, IsRestSender, IsSender}
+use Rattle.zst_run.specs.declared.send.SendRequest.{SendRequest}
+use Rattle.zst_run.specs.declared.send.SendRequest.TheVariants.{Named, Rest}
+use Rattle.zst_run.specs.Sends.{ReadsFor, Sends, start_of, to_send}
+use Rattle.zst_run.proofs.ChainedRuns.{at_token, gives_at, lawful}
+use Rattle.zst_run.proofs.CompleteRuns.{receives_complete, sends_complete}
 use Rattle.zst_run.proofs.PipedRuns.{Fits, into_is, matches, sendable, text_sent}
 
--- the last of some pieces, and those before it
-record LastOf (pieces : List (List ℕ)) : Type 0 where
-  front : List (List ℕ)
-  last : List ℕ
-  is : pieces ≡ front ++ last ∷ []
-  before : ℕ
-  below : before < length pieces
-  first : take before pieces ≡ front
+-- ---- pieces of a front of what was sent
 
-last_of : (pieces : List (List ℕ)) → 0 < length pieces → LastOf pieces
-last_of [] some = absurd (omega (arith, some))
-last_of (piece ∷ []) some = record { front = []; last = piece; is = refl; before = zero; below = omega arith; first = refl }
-last_of (piece ∷ next ∷ rest) some =
-    let more = last_of (next ∷ rest) (omega arith) in
+-- none is empty, so that there are no more of them than bytes
+few_pieces : (pieces : List (List ℕ)) → ArePieces pieces → length pieces ≤ length (concat pieces)
+few_pieces [] are = omega arith
+few_pieces (piece ∷ []) are =
+    let some = are.0 in
+    let long : length (concat (piece ∷ [])) ≡ length piece + 0 = length-append piece [] in omega (arith, some, long)
+few_pieces (piece ∷ next ∷ rest) are =
+    let size = are.0 in
+    let few = few_pieces (next ∷ rest) are.1 in
+    let long : length (concat (piece ∷ next ∷ rest)) ≡ length piece + length (concat (next ∷ rest)) = length-append piece (concat (next ∷ rest)) in omega (arith, size, few, long)
+
+-- a pool whose number can rise with each byte can count each of them
+can_count : (pool : Pool) (text : List ℕ) (pieces : List (List ℕ)) → AreOfFront text pieces → pool.number + length text ≤ last_number → CanCount pool pieces
+can_count pool text pieces front counts =
+    let few = few_pieces pieces front.0 in
+    let long = length-append (concat pieces) front.1.0 in
+    let whole : length (concat pieces ++ front.1.0) ≡ length text = ap length front.1.1 in omega (arith, few, long, whole, counts)
+
+of_stream : (sent : Sent) (start : Option Point) (pieces : List (List ℕ)) → AreOfFront (begun_text sent start) pieces → AreOfStream pieces sent start
+of_stream sent start pieces front = (front.1.0, [], front.1.1 ∙ sym (append-nil (begun_text sent start)))
+
+-- what was sent is read to its end
+read_whole : ViewIsRead → (sent : Sent) (start : Option Point) → IsSendable sent start → (reading (begun_text sent start)).outcome ≡ complete
+read_whole read sent start fit = (read (begun sent start) sent.snapshot.objects (choice_of sent) (stated_point start) fit.stated).0
+
+-- ---- the run that sends
+
+-- it is done, or no memory was left, and an input that has what it wrote has the text of its plan
+module _ (request : SendRequest) (from : Pool) (sent : Sent) (here here' : DiskState) (out out' : SinkState) (result : Result (Unit {0}) Refusal)
+    (reads : ReadsFor request from here.seen) (plan : to_send request from ≡ Ok sent) (gave : SendsWell request here here' out out' result) where
+  sent_well : length (begun_text sent (start_of request)) ≤ stream_limit → DoneOrNoMemory result
+  sent_well short = sends_complete here here' request from sent out out' result gave.honest reads plan short gave.disk gave.sink gave.sends
+
+  has_sent : (text : List ℕ) (input input' : SourceState) → result ≡ Ok tt → out'.written ≡ out.written ++ text → HasText text input input'
+      → HasText (begun_text sent (start_of request)) input input'
+  has_sent text input input' done wrote has =
+      let sends : Sends request here here' out out' (Ok tt) = subst (λ (r : Result (Unit {0}) Refusal). Sends request here here' out out' r) done gave.sends in
+      subst (λ (t : List ℕ). HasText t input input') (text_sent request from sent here here' out out' text reads plan gave.honest sends wrote) has
+
+-- ---- the two laws
+
+-- the definition takes what was sent
+sent_takes : Fits → SentIsAccepted → ViewIsRead → (tight : Bool) (ask : SendAsk) (receive : RecvAsk) (from into : Pool) (sent : Sent) (here there there' : DiskState)
+    → IsSender (Named ask) from sent here → IsReceiver tight receive into from sent there there' → CanTake receive into sent there → Takes receive into (begun_text sent None)
+sent_takes fits accepted read tight ask receive from into sent here there there' sender receiver can =
+    let fit = sendable fits tight ask receive from into sent here there there' sender receiver in
     record {
-      front = piece ∷ more.front;
-      last = more.last;
-      is = ap (λ (others : List (List ℕ)). piece ∷ others) more.is;
-      before = suc more.before;
-      below = omega (arith, more.below);
-      first = ap (λ (others : List (List ℕ)). piece ∷ others) more.first;
+      whole = read_whole read sent None fit;
+      accepts = λ pieces front after refusal stops. accepted sent receive into after can.component can.base pieces refusal fit
+          (into_is fits tight ask receive from into sent here there there' sender receiver) receiver.alone
+          (matches fits tight ask receive from into sent here there there' sender receiver) can.planned
+          (of_stream sent None pieces front) (can_count into (begun_text sent None) pieces front can.counts) stops;
     }
 
--- a receive of no pieces waits
-some_read : (ask : RecvAsk) (pool after : Pool) (refusal : Refusal) (pieces : List (List ℕ)) → receives ask pool pieces ≡ Stops after refusal → 0 < length pieces
-unfolding feeds
-some_read ask pool after refusal [] is = absurd (cc is)
-some_read ask pool after refusal (piece ∷ rest) is = omega arith
-
--- before each of the pieces the receive waits for more
-abbrev WaitedBefore : RecvAsk → Pool → List (List ℕ) → Type 0
-WaitedBefore ask pool pieces = (n : ℕ) → n < length pieces → (now : Pool) × (stage : Stage) × (receives ask pool (take n pieces) ≡ Goes now stage) × (is_done stage ≡ false)
-
-module _ (fits : Fits) (taken : SentIsTaken) (tight : Bool) (ask : SendAsk) (receive : RecvAsk) (from into : Pool) (sent : Sent) (here there there' : DiskState)
-    (sender : IsSender (Named ask) from sent here) (receiver : IsReceiver tight receive into from sent there there') (can : CanTake receive into sent there) where
-  -- what was sent is refused by nothing but a limit, and that isn't passed
-  never_refused : (pieces : List (List ℕ)) → AreOfFront (begun_text sent None) pieces → WaitedBefore receive into pieces → (after : Pool) (refusal : Refusal) → receives receive into pieces ≡ Stops after refusal → ⊥
-  never_refused pieces front waited after refusal stops =
-      let split = last_of pieces (some_read receive into after refusal pieces stops) in
-      let was = waited split.before split.below in
-      let of : AreOfStream (split.front ++ split.last ∷ []) sent None =
-      (front.1.0, [], ap (λ (all : List (List ℕ)). concat all ++ front.1.0) (sym split.is) ∙ front.1.1 ∙ sym (append-nil (begun_text sent None))) in
-      let limit : IsOfCommit refusal =
-      taken sent receive into was.0 after can.component can.base split.front split.last refusal (sendable fits tight ask receive from into sent here there there' sender receiver)
-      (into_is fits tight ask receive from into sent here there there' sender receiver) receiver.alone
-      (matches fits tight ask receive from into sent here there there' sender receiver) can.planned of
-      (record {
-        stage = was.1;
-        went = subst (λ (ps : List (List ℕ)). receives receive into ps ≡ Goes was.0 was.1) split.first was.2;
-        unended = was.3;
-        stops = subst (λ (ps : List (List ℕ)). receives receive into ps ≡ Stops after refusal) split.is stops;
-      }) in
-      can.limits pieces after refusal front stops limit
-
-pub transfers_complete : Fits → SentIsTaken → ViewIsRead → (here here' there there' : DiskState) → TransfersComplete here here' there there'
-transfers_complete fits taken read here here' there there' tight ask receive from into sent text out out' other other' input input' result answer sender receiver can gave got = (
-  sends_complete here here' (Named ask) from sent out out' result gave.honest sender.reads sender.is can.short gave.disk gave.sink gave.sends,
+pub transfers_complete : Fits → SentIsAccepted → ViewIsRead → (here here' there there' : DiskState) → TransfersComplete here here' there there'
+transfers_complete fits accepted read here here' there there' tight ask receive from into sent text out out' other other' input input' result answer sender receiver can gave got = (
+  sent_well (Named ask) from sent here here' out out' result sender.reads sender.is gave can.short,
   λ done wrote has.
-      let sends : Sends (Named ask) here here' out out' (Ok tt) = subst (λ (r : Result (Unit {0}) Refusal). Sends (Named ask) here here' out out' r) done gave.sends in
-      let same = text_sent (Named ask) from sent here here' out out' text sender.reads sender.is gave.honest sends wrote in
-      let run = got.receives in
-      let waits = run.does.wanted tight receiver.uber receiver.rows into receiver.honest receiver.reads receiver.may in
-      receive_done there there' tight receive receiver.uber receiver.rows into (begun_text sent None) input input' other other' answer receiver.honest receiver.reads receiver.may
-      (subst (λ (t : List ℕ). HasText t input input') same has) can.short can.room
-      (read (header_of sent) sent.snapshot.objects (choice_of sent) origin (sendable fits tight ask receive from into sent here there there' sender receiver).stated).0
-      got.disk got.source got.sink run
-      (λ front. never_refused fits taken tight ask receive from into sent here there there' sender receiver can run.does.pieces front
-      (λ n below. let was = waits n below in (was.0, was.1, was.2, open_live was.1 was.3))),
+      receives_complete there there' tight receive receiver.uber receiver.rows into (begun_text sent None) input input' other other' answer receiver.honest receiver.reads receiver.may
+      (has_sent (Named ask) from sent here here' out out' result sender.reads sender.is gave text input input' done wrote has) can.short
+      (sent_takes fits accepted read tight ask receive from into sent here there there' sender receiver can) can.room got.disk got.source got.sink got.receives,
+)
+
+-- so it takes the rest
+rest_takes : RestCanBeSent → RestIsAccepted → ViewIsRead → (tight : Bool) (token : Token) (receive : RecvAsk) (from into : Pool) (partial : Partial) (sent also : Sent) (state : State)
+    (here there there' : DiskState) → IsRestSender token from sent also here → IsRestReceiver tight token receive into there there' → IsUnderway sent receive.target state into partial
+    → CanTakeRest receive into sent also token there → Takes receive into (begun_text also (Some token.point))
+rest_takes fits accepted read tight token receive from into partial sent also state here there there' sender receiver underway can =
+    let same = at_token fits tight token receive from into sent also here there there' sender receiver partial underway.there in
+    let gives = gives_at fits tight token receive from into sent also here there there' sender receiver in
+    record {
+      whole = read_whole read also (Some token.point) (gives token.point refl).sendable;
+      accepts = λ pieces front after refusal stops. accepted sent also state receive into after partial can.component pieces refusal
+          (lawful fits tight token receive from into sent also here there there' sender receiver) can.limits underway (gives partial.point same) can.named
+          (subst (λ (p : Point). AreOfStream pieces also (Some p)) (sym same) (of_stream also (Some token.point) pieces front))
+          (can_count into (begun_text also (Some token.point)) pieces front can.counts) stops;
+    }
+
+pub rest_transfers_complete : RestCanBeSent → RestIsAccepted → ViewIsRead → (here here' there there' : DiskState) → RestTransfersComplete here here' there there'
+rest_transfers_complete fits accepted read here here' there there' tight token receive from into partial sent also state text out out' other other' input input' result answer sender receiver underway can gave got = (
+  sent_well (Rest token) from also here here' out out' result sender.reads sender.is gave can.short,
+  λ done wrote has.
+      receives_complete there there' tight receive receiver.uber receiver.rows into (begun_text also (Some token.point)) input input' other other' answer
+      receiver.honest receiver.reads receiver.may
+      (has_sent (Rest token) from also here here' out out' result sender.reads sender.is gave text input input' done wrote has) can.short
+      (rest_takes fits accepted read tight token receive from into partial sent also state here there there' sender receiver underway can)
+      can.room got.disk got.source got.sink got.receives,
 )

@@ -1,5 +1,5 @@
 -- Runs that nothing stands in the way of: they are done, unless no memory was left.
-use Rattle.std.specs.Prelude.{ℕ, ◌≡◌, ◌≢◌, ◌⊎◌, ◌≤◌, ◌-◌, ◌*◌, ◌++◌, false, Bool, IsTrue, List, [], length, None, Result, Ok, Err}
+use Rattle.std.specs.Prelude.{ℕ, ◌≡◌, ◌≢◌, ◌⊎◌, ◌≤◌, ◌+◌, ◌-◌, ◌*◌, ◌++◌, false, Bool, IsTrue, List, [], length, Some, None, Result, Ok, Err}
 use Rattle.std.specs.List.{concat}
 use Rattle.zst_outside.specs.Causes.{Rose}
 use Rattle.zst_outside.specs.Images.{DiskState}
@@ -10,19 +10,22 @@ use Rattle.zst_model.specs.declared.pools.command.Command.{Command}
 use Rattle.zst_model.specs.declared.refusals.refusal.Refusal.{Refusal}
 use Rattle.zst_model.specs.declared.refusals.refusal.Refusal.TheVariants as refusals
 use Rattle.zst_model.specs.declared.sends.ask.SendAsk.{SendAsk}
-use Rattle.zst_model.specs.pools.Pool.{Pool}
+use Rattle.zst_model.specs.pools.Limits.{last_number}
+use Rattle.zst_model.specs.pools.Pool.{Partial, Pool}
 use Rattle.zst_model.specs.pools.Step.{Stepped, stepped}
 use Rattle.zst_model.specs.sends.Headers.{Sent, header_of}
+use Rattle.zst_model.specs.states.State.{State}
 use Rattle.zst_dir.specs.Rows.{Rows}
 use Rattle.zst_image.specs.Reads.{Reads, ReadsAs, kept_rows}
-use Rattle.zst_plan.specs.RecvPlan.{Base, Begins, recv_plan}
+use Rattle.zst_plan.specs.RecvPlan.{Base, Begins, component_for, recv_plan}
 use Rattle.zst_plan.specs.declared.receive.RecvAsk.{RecvAsk}
 use Rattle.zst_pool.specs.Cost.{CostsMore, cost_of}
 use Rattle.zst_reader.specs.InputReads.{stream_limit}
 use Rattle.zst_recv.specs.Feeds.{receives}
 use Rattle.zst_recv.specs.ReceiveSteps.{Stops}
 use Rattle.zst_recv.specs.Tokens.{token_told}
-use Rattle.zst_replication.specs.TakenSends.{IsOfCommit}
+use Rattle.zst_replication.specs.Resumption.{IsUnderway}
+use Rattle.zst_replication.specs.TakenSends.{IsInLimits}
 use Rattle.zst_send.specs.Sends.{begun_text}
 use Rattle.zst_stream.specs.Reading.{complete, reading}
 use Rattle.zst_token.specs.declared.token.Token.{Token}
@@ -32,8 +35,8 @@ use Rattle.zst_run.specs.Receives.{ArePieces, CostMore, IsTightOrNew, Receiving}
 use Rattle.zst_run.specs.Replies.{Replies}
 use Rattle.zst_run.specs.Runs.{Told}
 use Rattle.zst_run.specs.declared.send.SendRequest.{SendRequest}
-use Rattle.zst_run.specs.declared.send.SendRequest.TheVariants.{Named}
-use Rattle.zst_run.specs.Replication.{IsReceiver, IsSender}
+use Rattle.zst_run.specs.declared.send.SendRequest.TheVariants.{Named, Rest}
+use Rattle.zst_run.specs.Replication.{IsReceiver, IsRestReceiver, IsRestSender, IsSender}
 use Rattle.zst_run.specs.Sends.{ReadsFor, Sends, start_of, to_send}
 use Rattle.zst_run.specs.Tokens.{Tokens}
 
@@ -110,28 +113,46 @@ pub record ReceivesWell (ask : RecvAsk) (here here' : DiskState) (input input' :
   pub source : NoneCounted input.faults input'.faults
   pub sink : NoneCounted out.faults out'.faults
 
--- no commit of a receive of a front of this text passes a limit of the pool: of partial states, datasets, snapshots or commits (E23)
-abbrev pub PassesNoLimit : RecvAsk → Pool → List ℕ → Type 0
-PassesNoLimit ask pool text =
-    (pieces : List (List ℕ)) (after : Pool) (refusal : Refusal) → AreOfFront text pieces → receives ask pool pieces ≡ Stops after refusal → ¬ (IsOfCommit refusal)
-
--- a receive of what is sent is planned, and there is room for its stream, which is no longer than one may be: on the image, and within the limits of the pool
+-- a receive of what is sent is planned; its stream is no longer than one may be, the pool's number can rise with each of its bytes, of which there are no fewer
+-- than commits, and there is room for it on the image
 pub record CanTake (ask : RecvAsk) (pool : Pool) (sent : Sent) (here : DiskState) : Type 0 where
   pub component : List ℕ
   pub base : Base
   pub planned : recv_plan ask (header_of sent) pool ≡ Ok (Begins component base)
   pub short : length (begun_text sent None) ≤ stream_limit
-  pub limits : PassesNoLimit ask pool (begun_text sent None)
+  pub counts : pool.number + length (begun_text sent None) ≤ last_number
   pub room : HasRoom here (begun_text sent None)
 
 -- A snapshot that one run sends another receives: where the plans of both pass, there is room, and no fault was counted, the run of `send` is done, or no memory
--- was left; and where it is done, so is each run of `receive` whose input has what it wrote. That its records apply needs no premise.
+-- was left; and where it is done, so is each run of `receive` whose input has what it wrote. That its records apply, and that no commit of it makes too many
+-- partial states, datasets or snapshots, needs no premise: the plan asks for room.
 abbrev pub TransfersComplete : (here here' there there' : DiskState) → Type 0
 TransfersComplete here here' there there' =
     (tight : Bool) (ask : SendAsk) (receive : RecvAsk) (from into : Pool) (sent : Sent) (text : List ℕ) (out out' other other' : SinkState) (input input' : SourceState)
     (result answer : Result (Unit {0}) Refusal)
     → IsSender (Named ask) from sent here → IsReceiver tight receive into from sent there there' → CanTake receive into sent there
     → SendsWell (Named ask) here here' out out' result → ReceivesWell receive there there' input input' other other' answer
+    → DoneOrNoMemory result × (result ≡ Ok tt → out'.written ≡ out.written ++ text → HasText text input input' → DoneOrNoMemory answer)
+
+-- a receive of the rest of what is sent, from this token's point: the asked component, or else the stream's, is one; the pool is within its limits; the rest is no
+-- longer than a stream may be, the pool's number can rise with each of its bytes, and there is room for it on the image
+pub record CanTakeRest (ask : RecvAsk) (pool : Pool) (sent also : Sent) (token : Token) (here : DiskState) : Type 0 where
+  pub component : List ℕ
+  pub named : component_for ask (header_of sent) ≡ Ok component
+  pub limits : IsInLimits pool
+  pub short : length (begun_text also (Some token.point)) ≤ stream_limit
+  pub counts : pool.number + length (begun_text also (Some token.point)) ≤ last_number
+  pub room : HasRoom here (begun_text also (Some token.point))
+
+-- So it is of the rest, for a partial state that is on its way: a run of `send -t` with the token that the receiver's image tells, whose send gives the same view
+-- as the one that was cut, and a run of `receive` whose input has what that wrote. That its plan passes needs no premise either.
+abbrev pub RestTransfersComplete : (here here' there there' : DiskState) → Type 0
+RestTransfersComplete here here' there there' =
+    (tight : Bool) (token : Token) (receive : RecvAsk) (from into : Pool) (partial : Partial) (sent also : Sent) (state : State) (text : List ℕ) (out out' other other' : SinkState)
+    (input input' : SourceState) (result answer : Result (Unit {0}) Refusal)
+    → IsRestSender token from sent also here → IsRestReceiver tight token receive into there there' → IsUnderway sent receive.target state into partial
+    → CanTakeRest receive into sent also token there
+    → SendsWell (Rest token) here here' out out' result → ReceivesWell receive there there' input input' other other' answer
     → DoneOrNoMemory result × (result ≡ Ok tt → out'.written ≡ out.written ++ text → HasText text input input' → DoneOrNoMemory answer)
 
 -- ---- the other lines

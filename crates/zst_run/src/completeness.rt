@@ -1,8 +1,10 @@
 // Runs that nothing stands in the way of.
-ghost use Rattle.zst_run.specs.Completeness.{CreatesComplete, DoneIsTold, DumpsComplete, ReceivesComplete, SendsComplete, StepsComplete, TokensComplete, TransfersComplete};
+ghost use Rattle.zst_run.specs.Completeness.{CreatesComplete, DoneIsTold, DumpsComplete, ReceivesComplete, RestTransfersComplete, SendsComplete, StepsComplete, TokensComplete, TransfersComplete};
 
 use zst_outside::Disk;
-use zst_replication::{bases_match, sent_can_be_sent, sent_is_taken};
+use zst_replication::{
+    bases_match, rest_can_be_sent, rest_is_accepted, sent_can_be_sent, sent_is_accepted,
+};
 use zst_stream::{fronts_agree, view_is_read};
 
 /// What is done is told by status 0, and want of memory by 10.
@@ -25,13 +27,22 @@ pub fn receives_complete<D: Disk>()
     ensures { (here now : D) → ReceivesComplete (D.state here) (D.state now) }
 {}
 
-/// So are both runs of a snapshot that one sends and the other receives, where their plans pass: each record of a send applies.
+/// So are both runs of a snapshot that one sends and the other receives, where their plans pass: nothing in a send is refused.
 pub fn transfers_complete<D: Disk, E: Disk>()
     ensures { (here now : D) (there later : E) → TransfersComplete (D.state here) (D.state now) (E.state there) (E.state later) }
 {
     sent_can_be_sent();
     bases_match();
-    sent_is_taken();
+    sent_is_accepted();
+    view_is_read();
+}
+
+/// So are both runs of the rest of it, which the token asks for that the receiver's image tells.
+pub fn rest_transfers_complete<D: Disk, E: Disk>()
+    ensures { (here now : D) (there later : E) → RestTransfersComplete (D.state here) (D.state now) (E.state there) (E.state later) }
+{
+    rest_can_be_sent();
+    rest_is_accepted();
     view_is_read();
 }
 

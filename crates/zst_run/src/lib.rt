@@ -15,8 +15,8 @@ mod send;
 mod tokens;
 
 pub use completeness::{
-    creates_complete, done_is_told, dumps_complete, receives_complete, sends_complete,
-    steps_complete, tokens_complete, transfers_complete,
+    creates_complete, done_is_told, dumps_complete, receives_complete, rest_transfers_complete,
+    sends_complete, steps_complete, tokens_complete, transfers_complete,
 };
 pub use dump::dumps_have_one_answer;
 pub use file_runs::run_on_file;
