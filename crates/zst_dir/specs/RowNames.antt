@@ -36,14 +36,13 @@ pub record NamesSnapshot (row : Snapshot) (snapshot : plain.Snapshot) : Type 0 w
   pub number : snapshot.number ≡ row.number
   pub redact : snapshot.redact ≡ row.redact
 
--- a bookmark's row names this bookmark, whatever its list has; one that nothing redacted has no runs
+-- a bookmark's row names this bookmark, whatever its list has
 pub record NamesBookmark (row : Bookmark) (bookmark : plain.Bookmark) : Type 0 where
   pub name : bookmark.name ≡ row.name
   pub guid : bookmark.guid ≡ row.guid
   pub time : bookmark.time ≡ row.time
   pub number : bookmark.number ≡ row.number
   pub redact : bookmark.redact ≡ row.redact
-  pub no_list : row.redact ≡ [] → row.runs ≡ 0
 
 -- a partial state's row names this partial state, whatever its object set holds
 pub record NamesPartial (row : Partial) (partial : plain.Partial) : Type 0 where

@@ -39,7 +39,7 @@ module _ (old : List ℕ) (space : FreeSectors) (new : List ℕ) (less : FreeSec
   SnapshotIs-grows bound row snapshot is = record { named = is.named; objects = SetIs-grows bound row.objects snapshot.objects is.objects }
 
   BookmarkIs-grows : (row : Bookmark) (bookmark : plain.Bookmark) → BookmarkIs (Has old space) row bookmark → BookmarkIs (Has new less) row bookmark
-  BookmarkIs-grows row bookmark is = record { named = is.named; list = HasList-grows (Has old space) (Has new less) keeps row.levels row.root row.runs bookmark.runs is.list }
+  BookmarkIs-grows row bookmark is = record { named = is.named; list = HasList-grows (Has old space) (Has new less) keeps row.levels row.root row.runs bookmark.runs is.list; no_list = is.no_list }
 
   pub PartialIs-grows : (bound : Option ℕ) (row : Partial) (partial : plain.Partial) → PartialIs bound (Has old space) row partial → PartialIs bound (Has new less) row partial
   PartialIs-grows bound row partial is = record { named = is.named; objects = SetIs-grows bound row.objects partial.objects is.objects }

@@ -45,10 +45,11 @@ pub record SnapshotIs (bound : Option ℕ) (has : Blocks) (row : Snapshot) (snap
   pub named : NamesSnapshot row snapshot
   pub objects : SetIs bound has row.objects snapshot.objects
 
--- a bookmark's row stands for this bookmark: it names it, and its leaves have its list
+-- a bookmark's row stands for this bookmark: it names it, and its leaves have its list; one that nothing redacted has no runs
 pub record BookmarkIs (has : Blocks) (row : Bookmark) (bookmark : plain.Bookmark) : Type 0 where
   pub named : NamesBookmark row bookmark
   pub list : HasList has row.levels row.root row.runs bookmark.runs
+  pub no_list : row.redact ≡ [] → row.runs ≡ 0
 
 -- a partial state's row stands for this partial state: it names it, and its set is of the objects
 pub record PartialIs (bound : Option ℕ) (has : Blocks) (row : Partial) (partial : plain.Partial) : Type 0 where
