@@ -12,6 +12,7 @@ pub mod AcceptedRemovals
 pub mod Filters
 pub mod Lookups
 pub mod Redactions
+pub mod Relays
 pub mod RefusedSends
 pub mod SendPlans
 pub mod Lineages

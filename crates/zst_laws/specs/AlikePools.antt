@@ -3,8 +3,9 @@ use Rattle.std.specs.Prelude.{◌≡◌, ℕ, List, Option, Some, None, Ok}
 use Rattle.zst_model.specs.declared.sends.ask.FromName.{FromName}
 use Rattle.zst_model.specs.declared.sends.ask.FromName.TheVariants.{Snap, Book}
 use Rattle.zst_model.specs.declared.sends.ask.SendAsk.{SendAsk}
+use Rattle.zst_model.specs.pools.Ancestry.{OfSnapshot}
 use Rattle.zst_model.specs.pools.Pool.{Pool, Snapshot, bookmark_named, snapshot_named}
-use Rattle.zst_model.specs.sends.Headers.{Sent, choice_of, sent_view}
+use Rattle.zst_model.specs.sends.Headers.{Sent, choice_of, sent_view, source_runs}
 use Rattle.zst_model.specs.sends.Inclusion.{Pairs}
 use Rattle.zst_model.specs.sends.SendPlan.{kind_of, send_plan}
 use Rattle.zst_laws.specs.ExactSends.{DifferAt}
@@ -15,15 +16,17 @@ pub record AreAlike (pairs : Pairs) (a b : Snapshot) : Type 0 where
   pub guid : a.guid ≡ b.guid
   pub time : a.time ≡ b.time
   pub number : a.number ≡ b.number
+  pub redact : a.redact ≡ b.redact
   pub number_dates : a.objects.number_date ≡ b.objects.number_date
   pub index_dates : a.objects.index_date ≡ b.objects.index_date
   pub objects : (k : ℕ) → DifferAt (pairs k) (a.objects.state k) (b.objects.state k)
 
--- what a send is from is alike: a snapshot has one guid and number, and a bookmark is one
+-- what a send is from is alike: a snapshot has one guid and number and one set of redaction guids, and where it has some the same is redacted in it; a bookmark is one
 abbrev pub AreSources : Option FromName → Pool → Pool → Type 0
 AreSources None pool other = Unit {0}
 AreSources (Some (Snap name)) pool other =
-    (a b : Snapshot) → snapshot_named name pool ≡ Some a → snapshot_named name other ≡ Some b → (a.name ≡ b.name) × (a.guid ≡ b.guid) × (a.number ≡ b.number)
+    (a b : Snapshot) → snapshot_named name pool ≡ Some a → snapshot_named name other ≡ Some b
+    → (a.name ≡ b.name) × (a.guid ≡ b.guid) × (a.number ≡ b.number) × (a.redact ≡ b.redact) × (source_runs (Some (OfSnapshot a)) ≡ source_runs (Some (OfSnapshot b)))
 AreSources (Some (Book name)) pool other = bookmark_named name pool ≡ bookmark_named name other
 
 -- and so is the redaction bookmark

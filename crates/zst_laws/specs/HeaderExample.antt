@@ -1,5 +1,5 @@
 -- What BEGIN says of sends of one small snapshot, and what they are asked.
-use Rattle.std.specs.Prelude.{◌≡◌, ℕ, true, false, List, [], ◌∷◌, Option, Some, None, codes}
+use Rattle.std.specs.Prelude.{◌≡◌, ℕ, ◌<◌, true, false, List, [], ◌∷◌, length, Option, Some, None, codes}
 use Rattle.zst_model.specs.declared.sends.header.Header.{Header}
 use Rattle.zst_model.specs.declared.sends.header.Point.{Point}
 use Rattle.zst_model.specs.declared.states.item.Change.TheVariants.{FreeFrom, Write}
@@ -101,11 +101,32 @@ CloneHeaders =
     × (header_of (of_files (clone_snapshot now) (Some (OfBookmark redaction_bookmark)) None) ≡ clone_header now (7 ∷ 9 ∷ []))
 
 -- a redacted send has REDACTED, which is 2^21, and the redaction guids of its bookmark
+abbrev pub redacted_begin : ℕ → Header
+redacted_begin now = record {
+  kind = 2;
+  flags = 12;
+  features = 2097156;
+  time = now;
+  to = 4294967297;
+  from = 0;
+  name = codes "tank/a@s";
+  resume = None;
+  redact = 7 ∷ 9 ∷ [];
+  from_redact = [];
+}
+
 abbrev pub RedactedHeader : Type 0
-RedactedHeader =
+RedactedHeader = (now : ℕ) → header_of (of_files (small_snapshot now) None (Some redaction_bookmark)) ≡ redacted_begin now
+
+-- the snapshot as that send leaves it has these guids itself: it is sent on with the same, and as the source of an increment they are those of its source
+abbrev pub relayed_snapshot : ℕ → Snapshot
+relayed_snapshot now = record (small_snapshot now) { redact = 7 ∷ 9 ∷ [] }
+
+abbrev pub RelayHeaders : Type 0
+RelayHeaders =
     (now : ℕ)
-    → header_of (of_files (small_snapshot now) None (Some redaction_bookmark))
-    ≡ record { kind = 2; flags = 12; features = 2097156; time = now; to = 4294967297; from = 0; name = codes "tank/a@s"; resume = None; redact = 7 ∷ 9 ∷ []; from_redact = [] }
+    → (header_of (of_files (relayed_snapshot now) None None) ≡ redacted_begin now)
+    × (header_of (of_files (second_snapshot now) (Some (OfSnapshot (relayed_snapshot 3))) None) ≡ increment_header now (7 ∷ 9 ∷ []))
 
 -- what these sends are asked: the source's number, what its list has, and what the list to redact has
 abbrev pub Choices : Type 0
@@ -141,5 +162,5 @@ SentHasView =
 abbrev pub PointHeaders : Type 0
 PointHeaders =
     (sent : Sent) (point : Point)
-    → (sent.redaction ≡ None → header_from (header_of sent) (Some point) ≡ record (header_of sent) { features = 1048580; resume = Some point })
-    × ((bookmark : Bookmark) → sent.redaction ≡ Some bookmark → header_from (header_of sent) (Some point) ≡ record (header_of sent) { features = 3145732; resume = Some point })
+    → ((header_of sent).redact ≡ [] → header_from (header_of sent) (Some point) ≡ record (header_of sent) { features = 1048580; resume = Some point })
+    × (0 < length (header_of sent).redact → header_from (header_of sent) (Some point) ≡ record (header_of sent) { features = 3145732; resume = Some point })

@@ -25,6 +25,7 @@ pub mod RedactExample
 pub mod RedactionLists
 pub mod RedactionSteps
 pub mod Redactions
+pub mod Relays
 pub mod RememberedStates
 pub mod ResumedSends
 pub mod SendExample

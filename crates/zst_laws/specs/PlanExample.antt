@@ -88,11 +88,16 @@ redacting guids = record { name = codes "tank/a#r"; guid = first.guid; time = 0;
 abbrev pub clones_with : Bookmark → List ℕ → Pool
 clones_with bookmark guids = record clones { snapshots = record first { redact = guids } ∷ second ∷ inner ∷ []; bookmarks = bookmark ∷ [] }
 
--- a redacted send wants a bookmark with redaction guids and the snapshot's guid (E7); a redacted snapshot is neither sent on nor sent from (E19)
+-- the first snapshot as it stands there with redaction guids
+abbrev pub redacted_first : Snapshot
+redacted_first = record first { redact = 9 ∷ [] }
+
+-- a redacted send wants a bookmark with redaction guids and the snapshot's guid (E7); a redacted snapshot is sent on, and sent from, but isn't redacted once more (E19)
 abbrev pub RedactedArePlanned : Type 0
 RedactedArePlanned =
     (send_plan (asked_redacted first.name (codes "tank/a#r")) (clones_with (redacting (7 ∷ [])) []) ≡ Ok (of_files first None (Some (redacting (7 ∷ [])))))
     × (send_plan (asked_redacted first.name (codes "tank/a#r")) (clones_with (redacting []) []) ≡ Err (NotRedactionOf (codes "tank/a#r") first.name))
     × (send_plan (asked_redacted second.name (codes "tank/a#r")) (clones_with (redacting (7 ∷ [])) []) ≡ Err (NotRedactionOf (codes "tank/a#r") second.name))
-    × (send_plan (asked first.name None) (clones_with (redacting (7 ∷ [])) (9 ∷ [])) ≡ Err (Unsupported Relay))
-    × (send_plan (asked inner.name (Some (Snap first.name))) (clones_with (redacting (7 ∷ [])) (9 ∷ [])) ≡ Err (Unsupported Relay))
+    × (send_plan (asked first.name None) (clones_with (redacting (7 ∷ [])) (9 ∷ [])) ≡ Ok (of_files redacted_first None None))
+    × (send_plan (asked inner.name (Some (Snap first.name))) (clones_with (redacting (7 ∷ [])) (9 ∷ [])) ≡ Ok (of_files inner (Some (OfSnapshot redacted_first)) None))
+    × (send_plan (asked_redacted first.name (codes "tank/a#r")) (clones_with (redacting (7 ∷ [])) (9 ∷ [])) ≡ Err (Unsupported Relay))

@@ -1,6 +1,7 @@
 -- What the plan of a send gives, and for what it is refused, in which order.
-use Rattle.std.specs.Prelude.{◌≡◌, ◌↔◌, ℕ, true, List, [], Option, Some, IfSome, option_map, Result, Ok, Err, Contains}
+use Rattle.std.specs.Prelude.{◌≡◌, ◌↔◌, ℕ, ◌<◌, true, List, [], length, Option, Some, IfSome, option_map, Result, Ok, Err, Contains}
 use Rattle.zst_model.specs.declared.refusals.faults.Lack.TheVariants as lacks
+use Rattle.zst_model.specs.declared.refusals.faults.Quantity.TheVariants as quantities
 use Rattle.zst_model.specs.declared.refusals.subjects.AbsentSubject.TheVariants as missing
 use Rattle.zst_model.specs.declared.refusals.subjects.Name.{Name}
 use Rattle.zst_model.specs.declared.refusals.subjects.Name.TheVariants as names
@@ -9,11 +10,14 @@ use Rattle.zst_model.specs.declared.refusals.plan_fault.PlanFault.TheVariants as
 use Rattle.zst_model.specs.declared.sends.ask.FromName.{FromName}
 use Rattle.zst_model.specs.declared.sends.ask.FromName.TheVariants.{Snap, Book}
 use Rattle.zst_model.specs.declared.sends.ask.SendAsk.{SendAsk}
-use Rattle.zst_model.specs.pools.Ancestry.{Source, OfSnapshot, OfBookmark, IsIn, StandsBefore}
+use Rattle.zst_model.specs.fields.RunsOf.{runs_of}
+use Rattle.zst_model.specs.pools.Ancestry.{Source, OfSnapshot, IsIn, StandsBefore}
+use Rattle.zst_model.specs.pools.Limits.{most_runs}
 use Rattle.zst_model.specs.pools.Pool.{Pool, Snapshot, Bookmark, HasSnapshot, IsPool, dataset_of_snapshot}
+use Rattle.zst_model.specs.pools.RedSet.{redacted_pairs}
 use Rattle.zst_model.specs.pools.Soundness.{Sound}
 use Rattle.zst_model.specs.sends.Headers.{Sent, IsOf, IsRedactionOf}
-use Rattle.zst_model.specs.sends.SendPlan.{comes_before, find_snapshot, find_source, find_redaction, kind_of, name_of_source, send_plan}
+use Rattle.zst_model.specs.sends.SendPlan.{comes_before, find_snapshot, find_source, find_redaction, kind_of, name_of_source, send_plan, with_list}
 
 -- a source stands before a snapshot of the pool
 abbrev pub StandsBeforeSnapshot : Pool → Source → Snapshot → Type 0
@@ -30,20 +34,18 @@ abbrev pub name_of_from : FromName → Name
 name_of_from (Snap name) = names.Snapshot name
 name_of_from (Book name) = names.Bookmark name
 
--- a source that isn't a redacted snapshot
-abbrev pub IsWhole : Source → Type 0
-IsWhole (OfSnapshot snapshot) = snapshot.redact ≡ []
-IsWhole (OfBookmark bookmark) = Unit {0}
+-- a redacted snapshot isn't redacted once more
+abbrev pub IsOnce : Snapshot → Option Bookmark → Type 0
+IsOnce snapshot redaction = (bookmark : Bookmark) → redaction ≡ Some bookmark → snapshot.redact ≡ []
 
--- what is planned is of the pool and has the names that were asked for; the source stands before the snapshot, and nothing that is redacted is sent on
+-- what is planned is of the pool and has the names that were asked for; the source stands before the snapshot, and nothing is redacted twice
 pub record IsPlanned (ask : SendAsk) (pool : Pool) (sent : Sent) : Type 0 where
   pub is_of : IsOf pool sent
   pub snapshot : sent.snapshot.name ≡ ask.snap
   pub source : option_map name_of_source sent.source ≡ option_map name_of_from ask.from
   pub redaction : option_map (λ bookmark. bookmark.name) sent.redaction ≡ ask.redact
   pub before : IfSome sent.source (λ source. StandsBeforeSnapshot pool source sent.snapshot)
-  pub unredacted : sent.snapshot.redact ≡ []
-  pub whole_source : IfSome sent.source IsWhole
+  pub once : IsOnce sent.snapshot sent.redaction
 
 -- so is each plan of a lawful pool
 abbrev pub PlansAreOfPool : Type 0
@@ -117,20 +119,30 @@ pub record IsFit (pool : Pool) (ask : SendAsk) (snapshot : Snapshot) (source : O
   pub before : IfSome source (λ from. StandsBeforeSnapshot pool from snapshot)
   pub redacts : IfSome redaction (IsRedactionOf pool snapshot)
 
--- neither the snapshot nor the source is redacted
-abbrev pub IsUnrelayed : Snapshot → Option Source → Type 0
-IsUnrelayed snapshot source = (snapshot.redact ≡ []) × IfSome source IsWhole
-
--- at last E19, where something of this is redacted
+-- at last E19, where a redacted snapshot is to be redacted once more
 abbrev pub RelayIsLast : Type 0
 RelayIsLast =
     (ask : SendAsk) (pool : Pool) (snapshot : Snapshot) (source : Option Source) (redaction : Option Bookmark)
-    → IsPool pool → Sound pool → IsFit pool ask snapshot source redaction → (IsUnrelayed snapshot source → ⊥)
+    → IsPool pool → Sound pool → IsFit pool ask snapshot source redaction → (IsOnce snapshot redaction → ⊥)
     → send_plan ask pool ≡ Err (plans.Unsupported lacks.Relay)
 
--- a plan is refused for nothing else: E5 and E23 of what a session holds come behind it
+-- a plan is refused for nothing else that the directory tells: E5 and E23 of what a session holds come behind it
 abbrev pub ElseIsPlanned : Type 0
 ElseIsPlanned =
     (ask : SendAsk) (pool : Pool) (snapshot : Snapshot) (source : Option Source) (redaction : Option Bookmark)
-    → IsPool pool → Sound pool → IsFit pool ask snapshot source redaction → IsUnrelayed snapshot source
+    → IsPool pool → Sound pool → IsFit pool ask snapshot source redaction → IsOnce snapshot redaction
     → send_plan ask pool ≡ Ok (record { snapshot = snapshot; kind = kind_of pool snapshot; source = source; redaction = redaction })
+
+-- the source is a redacted snapshot, and what is redacted in it makes more runs than a list may have
+pub record HasLongList (sent : Sent) : Type 0 where
+  pub own : Snapshot
+  pub is_source : sent.source ≡ Some (OfSnapshot own)
+  pub redacted : 0 < length own.redact
+  pub long : most_runs < length (runs_of (redacted_pairs own.objects.state))
+
+-- E23 of runs, which the blocks of the source tell, comes behind the plan exactly where that is so; otherwise the plan stands
+abbrev pub LongListIsRefused : Type 0
+LongListIsRefused =
+    (sent : Sent)
+    → ((with_list (Ok sent) ≡ Err (plans.Limit quantities.Runs most_runs)) ↔ HasLongList sent)
+    × ((HasLongList sent → ⊥) → with_list (Ok sent) ≡ Ok sent)

@@ -1,7 +1,7 @@
-ghost use Rattle.zst_laws.specs.HeaderExample.{FullHeader, VolumeHeader, IncrementHeaders, SourceHeader, CloneHeaders, RedactedHeader};
+ghost use Rattle.zst_laws.specs.HeaderExample.{FullHeader, VolumeHeader, IncrementHeaders, SourceHeader, CloneHeaders, RedactedHeader, RelayHeaders};
 ghost use Rattle.zst_laws.specs.HeaderExample.{Choices, SentItems, SentIsStated, SentHasView, PointHeaders};
 
-/// What BEGIN says of sends of small snapshots: whole and from a source, of one dataset and of a clone, and redacted.
+/// What BEGIN says of sends of small snapshots: whole and from a source, of one dataset and of a clone, redacted, and sent on.
 pub fn headers_are_exact()
     ensures full { FullHeader }
     ensures volume { VolumeHeader }
@@ -9,6 +9,7 @@ pub fn headers_are_exact()
     ensures source { SourceHeader }
     ensures clones { CloneHeaders }
     ensures redacted { RedactedHeader }
+    ensures relayed { RelayHeaders }
 {}
 
 /// What these sends are asked beside their snapshots.

@@ -30,6 +30,7 @@ mod redact_example;
 mod redaction_lists;
 mod redaction_steps;
 mod redactions;
+mod relays;
 mod remembered_states;
 mod send_examples;
 mod send_plans;
@@ -93,10 +94,13 @@ pub use redact_example::two_clones_list_one_block;
 pub use redaction_steps::{lists_are_kept, steps_keep_lists};
 pub use redactions::{redactions_are_refused, redactions_list_what_none_keeps};
 
-// Laws that no command uses yet: of redacted bases, and of nearest snapshots.
+// Laws of redacted bases, and of what is sent of alike pools.
 pub use alike_pools::alike_pools_are_sent_alike;
-pub use nearest_snapshots::nearest_is_enough;
 pub use redaction_lists::{covered_is_base, listed_may_be_redacted};
+pub use relays::relays_fit;
+
+// A law that no other crate uses yet: of nearest snapshots.
+pub use nearest_snapshots::nearest_is_enough;
 
 /// A lawful snapshot with a lawful choice has a lawful view.
 pub fn snapshot_has_view()

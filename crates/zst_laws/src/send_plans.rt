@@ -1,5 +1,5 @@
 ghost use Rattle.zst_laws.specs.SendPlans.{AncestorIsWanted, BeforeIsTested, PlansAreOfPool};
-ghost use Rattle.zst_laws.specs.SendPlans.{BookmarkIsOther, BookmarkIsWanted, ElseIsPlanned, RelayIsLast, SnapshotIsWanted, SourceIsLater, SourceIsWanted};
+ghost use Rattle.zst_laws.specs.SendPlans.{BookmarkIsOther, BookmarkIsWanted, ElseIsPlanned, LongListIsRefused, RelayIsLast, SnapshotIsWanted, SourceIsLater, SourceIsWanted};
 
 /// In a sound pool the test of a plan says yes exactly where the source stands before the snapshot.
 pub fn before_is_tested()
@@ -17,7 +17,8 @@ pub fn ancestor_is_wanted()
 {}
 
 /// A send is refused for want of its snapshot, its source and its redaction bookmark, for a source that doesn't stand before the
-/// snapshot, for a bookmark that doesn't redact it, and for what is redacted already, in this order; and for nothing else.
+/// snapshot, for a bookmark that doesn't redact it, and for a bookmark where it is redacted already, in this order; and for nothing else
+/// that the directory tells. Behind that the blocks of a redacted source tell whether its list is too long.
 pub fn sends_are_refused_in_order()
     ensures absent { SnapshotIsWanted }
     ensures no_source { SourceIsWanted }
@@ -26,4 +27,5 @@ pub fn sends_are_refused_in_order()
     ensures other { BookmarkIsOther }
     ensures relay { RelayIsLast }
     ensures planned { ElseIsPlanned }
+    ensures long { LongListIsRefused }
 {}

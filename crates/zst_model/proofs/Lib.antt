@@ -2,7 +2,7 @@ mod SpacedTexts
 pub mod RunLists
 pub mod OneList
 pub mod RunsOf
-pub mod PushedPairs
+pub mod PushedRuns
 pub mod Sizes
 mod RisingGuids
 pub mod OrderLaws

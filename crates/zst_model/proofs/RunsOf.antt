@@ -37,7 +37,7 @@ from_lawful k i [] h = refl
 from_lawful k i (run ∷ rest) h = h.0
 
 -- two runs that touch are one run that a list may have
-touching : (run next : Run) → is_run run ≡ true → is_run next ≡ true → (run.object == next.object && run.first + run.count == next.first) ≡ true
+pub touching : (run next : Run) → is_run run ≡ true → is_run next ≡ true → (run.object == next.object && run.first + run.count == next.first) ≡ true
     → is_run (record { object = run.object; first = run.first; count = run.count + next.count }) ≡ true
 touching run next a b touch = record_run run next a b touch
   where
@@ -51,7 +51,7 @@ touching run next a b touch = record_run run next a b touch
         parts run next a b touch = grind (arith, nat_tests)
 
 -- two runs that don't touch stand apart
-apart : (run next : Run) → (run.object == next.object && run.first + run.count == next.first) ≡ false → IsAtOrAfter run.object (run.first + run.count) next.object next.first
+pub apart : (run next : Run) → (run.object == next.object && run.first + run.count == next.first) ≡ false → IsAtOrAfter run.object (run.first + run.count) next.object next.first
     → stands_before run next ≡ true
 apart run next touch after = grind (arith, nat_tests)
 
@@ -96,7 +96,7 @@ joined_list k i [] f = tt
 joined_list k i (run ∷ rest) f = from_of k i run (joined_runs rest) f.1 f.0 (joined_list run.object (run.first + run.count) rest f.2)
 
 -- two runs that touch have as one the pairs of both
-joins_in : (run next : Run) (l j : ℕ) → (run.object == next.object && run.first + run.count == next.first) ≡ true
+pub joins_in : (run next : Run) (l j : ℕ) → (run.object == next.object && run.first + run.count == next.first) ≡ true
     → (run.object == l && (nat_le run.first j && nat_lt j (run.first + (run.count + next.count)))) ≡ (is_in_run run l j || is_in_run next l j)
 joins_in run next l j touch = grind (arith, nat_tests)
 

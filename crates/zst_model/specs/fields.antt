@@ -1,4 +1,4 @@
 pub mod Guids
 pub mod Lists
 pub mod RunsOf
-pub mod PushedPairs
+pub mod PushedRuns

@@ -28,6 +28,6 @@ pub use refusals::text::{Text, guid_text};
 pub use sends::ask::{FromName, SendAsk};
 pub use sends::header::{Header, Point};
 pub use sends::points::{point_after, stated_point};
-pub use states::attr::{Attr, ObjectHead};
+pub use states::attr::{Attr, ObjectHead, is_user_data};
 pub use states::cell::{Cell, Run};
 pub use states::item::{Change, Item};

@@ -1,5 +1,5 @@
 -- What BEGIN says of sends.
-use Rattle.std.proofs.Common.{◌≡◌, ℕ, ◌+◌, ◌^◌, ◌<◌, Bool, true, false, List, [], Option, Some, None, IfSome, bit_and, length, ◌==◌, if◌then◌else◌, refl, ap, subst, sym, arith}
+use Rattle.std.proofs.Common.{◌≡◌, ℕ, ◌+◌, ◌^◌, ◌<◌, Bool, true, false, List, [], ◌∷◌, Option, Some, None, IfSome, bit_and, length, ◌==◌, if◌then◌else◌, refl, ap, subst, sym, arith}
 use Rattle.std.specs.List.{Contains}
 use Rattle.std.proofs.lemmas.Bool.Decides.{nat_tests}
 use Rattle.std.proofs.lemmas.List.Elements.{All-nil, All-contains, All-weaker}
@@ -13,7 +13,7 @@ use Rattle.zst_model.specs.pools.Pool.{Pool, Snapshot, Bookmark, IsPool, IsKind,
 use Rattle.zst_model.specs.sends.Headers.{Sent, IsOf, IsRedactionOf, clone_flag, free_records, spill_block, is_elsewhere, clone_part, redacted_part, flags_of, features_of, from_guid, redaction_guids, source_guids, header_of, choice_of}
 use Rattle.zst_model.specs.sends.Features.{redacts, resuming, sa_spill}
 use Rattle.zst_model.specs.sends.View.{header_from}
-use Rattle.zst_laws.specs.HeaderExample.{FullHeader, VolumeHeader, IncrementHeaders, SourceHeader, CloneHeaders, RedactedHeader, Choices, SentItems, SentIsStated, SentHasView, PointHeaders, of_files, second_snapshot}
+use Rattle.zst_laws.specs.HeaderExample.{FullHeader, VolumeHeader, IncrementHeaders, SourceHeader, CloneHeaders, RedactedHeader, RelayHeaders, Choices, SentItems, SentIsStated, SentHasView, PointHeaders, of_files, second_snapshot}
 use Rattle.zst_laws.specs.StepExample.{small_snapshot}
 use Rattle.zst_laws.proofs.examples.FileExamples.{small_items, rewritten_items}
 use Rattle.zst_laws.proofs.sends.ExactSends.{view_is_view}
@@ -42,6 +42,10 @@ pub redacted_header : RedactedHeader
 unfolding flags_of features_of free_records spill_block sa_spill redacts
 redacted_header now = refl
 
+pub relay_headers : RelayHeaders
+unfolding flags_of features_of free_records spill_block sa_spill redacts
+relay_headers now = (refl, refl)
+
 pub choices : Choices
 choices now = (refl, refl, refl, (refl, refl, refl, refl), (refl, refl, refl, refl))
 
@@ -63,19 +67,19 @@ flags_fit sent = go sent.source
 
 features_fit : (sent : Sent) → features_of sent < 2 ^ 30
 unfolding features_of sa_spill redacts
-features_fit sent = go sent.redaction
+features_fit sent = go (redaction_guids sent.snapshot sent.redaction)
   where
-    go : (redaction : Option Bookmark) → redacted_part redaction + sa_spill < 2 ^ 30
-    go None = omega arith
-    go (Some bookmark) = omega arith
+    go : (guids : List ℕ) → redacted_part guids + sa_spill < 2 ^ 30
+    go [] = omega arith
+    go (guid ∷ guids) = omega arith
 
 not_resumed : (sent : Sent) → bit_and (features_of sent) resuming ≡ 0
 unfolding features_of sa_spill redacts resuming
-not_resumed sent = go sent.redaction
+not_resumed sent = go (redaction_guids sent.snapshot sent.redaction)
   where
-    go : (redaction : Option Bookmark) → bit_and (redacted_part redaction + sa_spill) resuming ≡ 0
-    go None = refl
-    go (Some bookmark) = refl
+    go : (guids : List ℕ) → bit_and (redacted_part guids + sa_spill) resuming ≡ 0
+    go [] = refl
+    go (guid ∷ guids) = refl
 
 module _ (pool : Pool) (is : IsPool pool) where
   no_guids : IsGuidSet []
@@ -98,12 +102,13 @@ module _ (pool : Pool) (is : IsPool pool) where
 
   source_are : (source : Option Source) → IfSome source (IsIn pool) → IsGuidSet (source_guids source)
   source_are None here = no_guids
-  source_are (Some (OfSnapshot s)) here = no_guids
+  source_are (Some (OfSnapshot s)) here = (snapshot_is s here).1
   source_are (Some (OfBookmark b)) here = (bookmark_is b here).1
 
-  redaction_are : (snapshot : Snapshot) (redaction : Option Bookmark) → IfSome redaction (IsRedactionOf pool snapshot) → IsGuidSet (redaction_guids redaction)
-  redaction_are snapshot None here = no_guids
-  redaction_are snapshot (Some b) here = (bookmark_is b here.there).1
+  redaction_are : (snapshot : Snapshot) (redaction : Option Bookmark) → Contains pool.snapshots snapshot → IfSome redaction (IsRedactionOf pool snapshot)
+      → IsGuidSet (redaction_guids snapshot redaction)
+  redaction_are snapshot None there here = (snapshot_is snapshot there).1
+  redaction_are snapshot (Some b) there here = (bookmark_is b here.there).1
 
   -- a source that states guids has a guid
   from_stated : (source : Option Source) → IfSome source (IsIn pool) → 0 < length (source_guids source) → 0 < from_guid source
@@ -116,16 +121,16 @@ module _ (pool : Pool) (is : IsPool pool) where
       subst IsKind (sym of.kind) (All-contains (λ d. IsKind d.kind × IsGuidSet d.redact × IsState d.head.state) pool.datasets of.dataset is.datasets of.there).0
 
 -- REDACTED is there exactly where redaction guids are
-redacted_stated : (pool : Pool) (sent : Sent) → IfSome sent.redaction (IsRedactionOf pool sent.snapshot) → (bit_and (features_of sent) redacts == 0) ≡ (length (redaction_guids sent.redaction) == 0)
+redacted_stated : (sent : Sent) → (bit_and (features_of sent) redacts == 0) ≡ (length (redaction_guids sent.snapshot sent.redaction) == 0)
 unfolding features_of sa_spill redacts
-redacted_stated pool sent of = go sent.redaction of
+redacted_stated sent = go (redaction_guids sent.snapshot sent.redaction)
   where
     some : (n : ℕ) → 0 < n → false ≡ (n == 0)
     some n more = grind (arith, nat_tests)
 
-    go : (redaction : Option Bookmark) → IfSome redaction (IsRedactionOf pool sent.snapshot) → (bit_and (redacted_part redaction + sa_spill) redacts == 0) ≡ (length (redaction_guids redaction) == 0)
-    go None here = refl
-    go (Some b) here = some (length b.redact) here.guids
+    go : (guids : List ℕ) → (bit_and (redacted_part guids + sa_spill) redacts == 0) ≡ (length guids == 0)
+    go [] = refl
+    go (guid ∷ guids) = some (length (guid ∷ guids)) (omega arith)
 
 -- a snapshot's name can be stated
 stated_name : (name : List ℕ) → IsSnapshot name → IsStatedName name
@@ -138,7 +143,7 @@ stated_name name is = record {
 pub sent_is_stated : SentIsStated
 sent_is_stated pool sent is of =
     let snapshot = snapshot_is pool is sent.snapshot of.snapshot in
-    let redact = redaction_are pool is sent.snapshot sent.redaction of.redaction in
+    let redact = redaction_are pool is sent.snapshot sent.redaction of.snapshot of.redaction in
     let from_redact = source_are pool is sent.source of.source in (
       record {
         kind = kind_is pool is sent of;
@@ -152,7 +157,7 @@ sent_is_stated pool sent is of =
         name = stated_name sent.snapshot.name (snapshot_named pool is sent.snapshot of.snapshot);
         resume = refl;
         unresumed = not_resumed sent;
-        redacted = redacted_stated pool sent of.redaction;
+        redacted = redacted_stated sent;
         source = from_stated pool is sent.source of.source;
       },
       (refl, not_resumed sent),
@@ -165,6 +170,11 @@ sent_has_view pool sent is of can =
 pub point_headers : PointHeaders
 unfolding features_of sa_spill redacts resuming
 point_headers sent point = (
-  λ none. ap (λ redaction. header_from (record (header_of sent) { features = redacted_part redaction + sa_spill }) (Some point)) none,
-  λ bookmark given. ap (λ redaction. header_from (record (header_of sent) { features = redacted_part redaction + sa_spill }) (Some point)) given,
+  λ none. ap (λ (guids : List ℕ). header_from (record (header_of sent) { features = redacted_part guids + sa_spill }) (Some point)) none,
+  λ some. given (redaction_guids sent.snapshot sent.redaction) some,
 )
+  where
+    given : (guids : List ℕ) → 0 < length guids
+        → header_from (record (header_of sent) { features = redacted_part guids + sa_spill }) (Some point) ≡ record (header_of sent) { features = 3145732; resume = Some point }
+    given [] none = absurd (omega (arith, none))
+    given (guid ∷ guids) some = refl

@@ -24,4 +24,4 @@ clones_planned = (refl, refl, refl, refl)
 
 pub redacted_planned : RedactedArePlanned
 unfolding send_plan is_before_in
-redacted_planned = (refl, refl, refl, refl, refl)
+redacted_planned = (refl, refl, refl, refl, refl, refl)

@@ -6,9 +6,10 @@ use Rattle.zst_model.specs.declared.refusals.subjects.Name.TheVariants as names
 use Rattle.zst_model.specs.declared.sends.ask.FromName.{FromName}
 use Rattle.zst_model.specs.declared.sends.ask.FromName.TheVariants.{Snap, Book}
 use Rattle.zst_names.specs.Names.{dataset_of}
+use Rattle.zst_model.specs.fields.Lists.{has_pair}
 use Rattle.zst_model.specs.pools.Ancestry.{Source, OfSnapshot, OfBookmark, number_of_source}
 use Rattle.zst_model.specs.pools.Pool.{Pool, Snapshot, Bookmark, bookmark_named, snapshot_named}
-use Rattle.zst_model.specs.sends.Headers.{choice_of, clone_flag, clone_part, features_of, flags_of, free_records, from_guid, header_of, redacted_part, redaction_guids, redaction_list, sent_view, source_guids, source_list, spill_block}
+use Rattle.zst_model.specs.sends.Headers.{choice_of, clone_flag, clone_part, features_of, flags_of, free_records, from_guid, header_of, redacted_part, redaction_guids, redaction_list, sent_view, source_guids, source_list, source_runs, spill_block}
 use Rattle.zst_model.specs.sends.Features.{sa_spill}
 use Rattle.zst_model.specs.sends.SendPlan.{absent, find_bookmark, find_redaction, find_snapshot, find_source, kind_of}
 use Rattle.zst_model.specs.sends.View.{view_of}
@@ -17,10 +18,11 @@ use Rattle.zst_laws.specs.AlikePools.{AlikePoolsAreSentAlike, AreAlike, AreRedac
 use Rattle.zst_laws.proofs.pools.SendPlans.{HasFound, found_ok, plan_has_found}
 use Rattle.zst_laws.proofs.sends.ViewLaws.{views_same}
 
--- sources that are alike: snapshots of one name, guid and number, or one bookmark
+-- sources that are alike: snapshots of one name, guid and number, with one list of what is redacted, or one bookmark
 abbrev SameSource : Option Source → Option Source → Type 0
 SameSource None None = Unit {0}
-SameSource (Some (OfSnapshot a)) (Some (OfSnapshot b)) = (a.name ≡ b.name) × (a.guid ≡ b.guid) × (a.number ≡ b.number)
+SameSource (Some (OfSnapshot a)) (Some (OfSnapshot b)) =
+    (a.name ≡ b.name) × (a.guid ≡ b.guid) × (a.number ≡ b.number) × (a.redact ≡ b.redact) × (source_runs (Some (OfSnapshot a)) ≡ source_runs (Some (OfSnapshot b)))
 SameSource (Some (OfBookmark a)) (Some (OfBookmark b)) = a ≡ b
 SameSource x y = ⊥
 
@@ -58,9 +60,9 @@ module _ (a b : Snapshot) (named : a.name ≡ b.name) where
   parts_same (Some (OfBookmark x)) (Some (OfSnapshot y)) h = absurd h
   parts_same (Some (OfSnapshot x)) (Some (OfSnapshot y)) h = (
     h.1,
-    refl,
+    h.3,
     ap (λ n. Some n) h.2,
-    refl,
+    ap has_pair h.4,
     (λ p. if not (bytes_eq (dataset_of 64 (h.0 p)) (dataset_of 64 (named p))) then clone_flag else 0),
   )
   parts_same (Some (OfBookmark x)) (Some (OfBookmark y)) h = (
@@ -70,6 +72,14 @@ module _ (a b : Snapshot) (named : a.name ≡ b.name) where
     ap (λ (z : Bookmark). source_list (Some (OfBookmark z))) h,
     (λ p. if not (bytes_eq (dataset_of 35 (h p).name) (dataset_of 64 (named p))) then clone_flag else 0),
   )
+
+-- so are the redaction guids that are stated
+guids_same : (a b : Snapshot) (x y : Option Bookmark) → a.redact ≡ b.redact → x ≡ y → redaction_guids a x ≡ redaction_guids b y
+guids_same a b x y own same = ap (redaction_guids a) same ∙ of y
+  where
+    of : (o : Option Bookmark) → redaction_guids a o ≡ redaction_guids b o
+    of None = own
+    of (Some bookmark) = refl
 
 pub alike_sent : AlikePoolsAreSentAlike
 unfolding flags_of features_of
@@ -96,6 +106,9 @@ alike_sent ask pool other sent also planned also_planned alike = whole
         × (source_list sent.source ≡ source_list also.source) × (clone_part sent.snapshot sent.source ≡ clone_part also.snapshot also.source)
     parts = parts_same sent.snapshot also.snapshot both.0.name sent.source also.source source
 
+    guids : redaction_guids sent.snapshot sent.redaction ≡ redaction_guids also.snapshot also.redaction
+    guids = guids_same sent.snapshot also.snapshot sent.redaction also.redaction both.0.redact redaction
+
     kinds : sent.kind ≡ also.kind
     kinds = found.kind ∙ both.1 ∙ sym also_found.kind
 
@@ -103,13 +116,13 @@ alike_sent ask pool other sent also planned also_planned alike = whole
     header = λ p. record {
       kind = kinds p;
       flags = parts.4 p + (free_records + spill_block);
-      features = redacted_part (redaction p) + sa_spill;
+      features = redacted_part (guids p) + sa_spill;
       time = both.0.time p;
       to = both.0.guid p;
       from = parts.0 p;
       name = both.0.name p;
       resume = None;
-      redact = redaction_guids (redaction p);
+      redact = guids p;
       from_redact = parts.1 p;
     }
 

@@ -62,7 +62,7 @@ user_content : (found : Option Object) (i : ℕ) (is : IsUserBlock found i) → 
 user_content found i is = ap (λ o. content_at o i) is.there ∙ ap (block_content is.object.attr.block_size) is.block
 
 -- a data block's index is below its object's end
-below_end : (state : State) → IsState state → (k i : ℕ) (object : Object) (bytes : List ℕ) → state k ≡ Some object → object.blocks i ≡ Data bytes → i < end_at (state k)
+pub below_end : (state : State) → IsState state → (k i : ℕ) (object : Object) (bytes : List ℕ) → state k ≡ Some object → object.blocks i ≡ Data bytes → i < end_at (state k)
 below_end state lawful k i object bytes e block = elim (cases_lt i (end_at (state k))) [
   | inl l ↦ l
   | inr g ↦

@@ -1,29 +1,33 @@
 -- For what a send is refused, in which order, and that it is planned where none of it comes.
-use Rattle.std.proofs.Common.{◌≡◌, ◌≢◌, ℕ, Bool, true, false, ◌||◌, not, List, Option, Some, option_map, None, Result, Ok, Err, Contains, refl, sym, ap, ◌∙◌, subst, arith}
+use Rattle.std.proofs.Common.{◌≡◌, ℕ, Bool, true, false, ◌&&◌, not, List, length, Option, Some, option_map, None, is_some, Result, Ok, Err, Contains, nat_lt, refl, sym, ap, ◌∙◌, subst, arith}
 use Rattle.std.specs.List.{find}
 use Rattle.std.specs.Option.{IfSome, ok_or}
 use Rattle.std.specs.Str.{bytes_eq}
-use Rattle.std.proofs.lemmas.Bool.{false_from_ne_true, true≢false}
+use Rattle.std.proofs.lemmas.Bool.{and_from, and_parts, and_right, false_from_ne_true, false≢true, lt-ltb, ltb-true, true≢false}
 use Rattle.std.proofs.lemmas.Bool.Decides.{nat_tests}
 use Rattle.zst_model.specs.declared.refusals.faults.Lack.TheVariants as lacks
+use Rattle.zst_model.specs.declared.refusals.faults.Quantity.TheVariants as quantities
 use Rattle.zst_model.specs.declared.refusals.subjects.Name.TheVariants as names
 use Rattle.zst_model.specs.declared.refusals.plan_fault.PlanFault.{PlanFault}
 use Rattle.zst_model.specs.declared.refusals.plan_fault.PlanFault.TheVariants as plans
 use Rattle.zst_model.specs.declared.sends.ask.FromName.{FromName}
 use Rattle.zst_model.specs.declared.sends.ask.FromName.TheVariants.{Snap, Book}
 use Rattle.zst_model.specs.declared.sends.ask.SendAsk.{SendAsk}
+use Rattle.zst_model.specs.fields.Lists.{Runs}
 use Rattle.zst_model.specs.pools.Ancestry.{Source, OfSnapshot, OfBookmark, IsIn}
+use Rattle.zst_model.specs.pools.Limits.{most_runs}
 use Rattle.zst_model.specs.pools.Pool.{Pool, Snapshot, Bookmark, HasSnapshot, IsPool, bookmark_named, is_before}
 use Rattle.zst_model.specs.pools.Soundness.{Sound}
 use Rattle.zst_model.specs.sends.SendPlan.{absent, find_bookmark, find_redaction, find_snapshot, find_source, has_guids, if_before, if_no_relay, if_redaction, is_redacted, kind_of, name_of_source, redacts_snapshot, send_plan, sent_of}
-use Rattle.zst_model.specs.sends.Headers.{Sent, IsRedactionOf}
+use Rattle.zst_model.specs.sends.Headers.{Sent, IsRedactionOf, source_runs}
 use Rattle.zst_model.specs.states.AppliedItems.{unless, ◌>>=◌}
 use Rattle.zst_model.proofs.FoundElements.{none_passes}
 use Rattle.zst_model.proofs.OrderLaws.{same_bytes, bytes_same, not_before_itself}
 use Rattle.zst_model.proofs.UniqueElements.{same_element}
-use Rattle.zst_laws.specs.SendPlans.{BookmarkIsOther, BookmarkIsWanted, ElseIsPlanned, HasBookmark, HasNamed, IsAsked, IsUnrelayed, IsWhole, RelayIsLast, SnapshotIsWanted, SourceIsLater, SourceIsWanted, StandsBeforeSnapshot, name_of_from}
+use Rattle.zst_laws.specs.SendPlans.{BookmarkIsOther, BookmarkIsWanted, ElseIsPlanned, HasBookmark, HasLongList, HasNamed, IsAsked, IsOnce, LongListIsRefused, RelayIsLast, SnapshotIsWanted, SourceIsLater, SourceIsWanted, StandsBeforeSnapshot, name_of_from}
+use Rattle.zst_laws.proofs.pools.Relays.{runs_redacted}
 use Rattle.zst_laws.proofs.pools.Rows.{none_from_absent}
-use Rattle.zst_laws.proofs.pools.SendPlans.{all_left, ancestor_wanted, before_tested, found_alone, negated, snapshot_found, unrelayed}
+use Rattle.zst_laws.proofs.pools.SendPlans.{all_left, ancestor_wanted, before_tested, found_alone, is_once, negated, snapshot_found}
 
 -- ---- what is absent and what is there
 
@@ -172,7 +176,7 @@ module _ (ask : SendAsk) (pool : Pool) (snapshot : Snapshot) (source : Option So
     sent = record { snapshot = snapshot; kind = kind_of pool snapshot; source = source; redaction = list }
 
     abbrev to_relay : Result Sent PlanFault
-    to_relay = if_no_relay snapshot source (Ok sent)
+    to_relay = if_no_relay snapshot list (Ok sent)
 
     abbrev to_redaction : Result Sent PlanFault
     to_redaction = if_redaction snapshot list to_relay
@@ -207,30 +211,62 @@ source_later ask pool snapshot source list lawful sound asked apart =
 pub bookmark_other : BookmarkIsOther
 bookmark_other ask pool snapshot source bookmark lawful sound asked before other =
     at_redaction ask pool snapshot source (Some bookmark) lawful sound asked before
-    ∙ ap (λ b. unless b (plans.NotRedactionOf bookmark.name snapshot.name) (if_no_relay snapshot source (Ok (record { snapshot = snapshot; kind = kind_of pool snapshot; source = source; redaction = Some bookmark }))))
+    ∙ ap (λ b. unless b (plans.NotRedactionOf bookmark.name snapshot.name) (if_no_relay snapshot (Some bookmark) (Ok (record { snapshot = snapshot; kind = kind_of pool snapshot; source = source; redaction = Some bookmark }))))
     (negated (redacts_snapshot bookmark snapshot) (λ is. other (record { there = asked.redacts_by.0; guid = grind (is, nat_tests, arith); guids = grind (is, nat_tests, arith) })))
 
-relayed_so : (snapshot : Snapshot) (source : Option Source) → (IsUnrelayed snapshot source → ⊥) → (has_guids snapshot.redact || is_redacted source) ≡ true
-relayed_so snapshot source none = go (has_guids snapshot.redact || is_redacted source) refl
+twice_so : (snapshot : Snapshot) (list : Option Bookmark) → (IsOnce snapshot list → ⊥) → (has_guids snapshot.redact && is_some list) ≡ true
+twice_so snapshot list none = go (has_guids snapshot.redact && is_some list) refl
   where
-    go : (b : Bool) → (has_guids snapshot.redact || is_redacted source) ≡ b → (has_guids snapshot.redact || is_redacted source) ≡ true
+    go : (b : Bool) → (has_guids snapshot.redact && is_some list) ≡ b → (has_guids snapshot.redact && is_some list) ≡ true
     go true e = e
-    go false e = absurd (none (unrelayed snapshot source e))
+    go false e = absurd (none (is_once snapshot list e))
 
 pub relay_last : RelayIsLast
-relay_last ask pool snapshot source list lawful sound fit redacted =
+relay_last ask pool snapshot source list lawful sound fit twice =
     at_relay ask pool snapshot source list lawful sound fit.asked fit.before fit.redacts
-    ∙ ap (λ b. unless b (plans.Unsupported lacks.Relay) (Ok (record { snapshot = snapshot; kind = kind_of pool snapshot; source = source; redaction = list }))) (relayed_so snapshot source redacted)
+    ∙ ap (λ b. unless b (plans.Unsupported lacks.Relay) (Ok (record { snapshot = snapshot; kind = kind_of pool snapshot; source = source; redaction = list }))) (twice_so snapshot list twice)
 
-whole_source : (source : Option Source) → IfSome source IsWhole → is_redacted source ≡ false
-whole_source None h = refl
-whole_source (Some (OfSnapshot s)) h = ap has_guids h
-whole_source (Some (OfBookmark b)) h = refl
-
-unrelayed_so : (snapshot : Snapshot) (source : Option Source) → IsUnrelayed snapshot source → (has_guids snapshot.redact || is_redacted source) ≡ false
-unrelayed_so snapshot source is = ap (λ (guids : List ℕ). has_guids guids || is_redacted source) is.0 ∙ whole_source source is.1
+once_so : (snapshot : Snapshot) (list : Option Bookmark) → IsOnce snapshot list → (has_guids snapshot.redact && is_some list) ≡ false
+once_so snapshot None once = and_right (has_guids snapshot.redact) false refl
+once_so snapshot (Some bookmark) once = ap (λ (guids : List ℕ). has_guids guids && true) (once bookmark refl)
 
 pub else_planned : ElseIsPlanned
-else_planned ask pool snapshot source list lawful sound fit is =
+else_planned ask pool snapshot source list lawful sound fit once =
     at_relay ask pool snapshot source list lawful sound fit.asked fit.before fit.redacts
-    ∙ ap (λ b. unless b (plans.Unsupported lacks.Relay) (Ok (record { snapshot = snapshot; kind = kind_of pool snapshot; source = source; redaction = list }))) (unrelayed_so snapshot source is)
+    ∙ ap (λ b. unless b (plans.Unsupported lacks.Relay) (Ok (record { snapshot = snapshot; kind = kind_of pool snapshot; source = source; redaction = list }))) (once_so snapshot list once)
+
+-- ---- E23 of the source's list
+
+abbrev too_long : PlanFault
+too_long = plans.Limit quantities.Runs most_runs
+
+abbrev is_long : Option Source → Bool
+is_long source = is_redacted source && nat_lt most_runs (length (source_runs source))
+
+long_source : (sent : Sent) (source : Option Source) → sent.source ≡ source → is_long source ≡ true → HasLongList sent
+long_source sent None from h = absurd (false≢true h)
+long_source sent (Some (OfBookmark b)) from h = absurd (false≢true h)
+long_source sent (Some (OfSnapshot s)) from h =
+    let parts = and_parts (has_guids s.redact) _ h in
+    let some = ltb-true 0 (length s.redact) parts.0 in record {
+      own = s;
+      is_source = from;
+      redacted = some;
+      long = ltb-true most_runs _ (ap (λ (runs : Runs). nat_lt most_runs (length runs)) (sym (runs_redacted s.redact s.objects.state some)) ∙ parts.1);
+    }
+
+long_tested : (sent : Sent) → HasLongList sent → is_long sent.source ≡ true
+long_tested sent is =
+    ap is_long is.is_source
+    ∙ and_from (has_guids is.own.redact) _ (lt-ltb 0 (length is.own.redact) is.redacted)
+    (ap (λ (runs : Runs). nat_lt most_runs (length runs)) (runs_redacted is.own.redact is.own.objects.state is.redacted) ∙ lt-ltb most_runs _ is.long)
+
+pub long_list_refused : LongListIsRefused
+long_list_refused sent = (
+  ((λ refused. long_source sent sent.source refl (failed (is_long sent.source) refused)), (λ is. ap (λ b. unless b too_long (Ok sent)) (long_tested sent is))),
+  (λ none. ap (λ b. unless b too_long (Ok sent)) (false_from_ne_true (is_long sent.source) (λ e. none (long_source sent sent.source refl e)))),
+)
+  where
+    failed : (b : Bool) → unless b too_long (Ok sent) ≡ Err too_long → b ≡ true
+    failed true h = refl
+    failed false h = absurd (cc)

@@ -1,5 +1,5 @@
 -- What stands before a snapshot is tested by its plan, and what is planned is of the pool.
-use Rattle.std.proofs.Common.{◌≡◌, ℕ, zero, suc, ◌<◌, ◌≤◌, Bool, true, false, ◌||◌, not, List, [], Option, Some, option_map, None, Result, Ok, Err, Contains, nat_lt, if◌then◌else◌, refl, sym, ap, ◌∙◌, subst, arith}
+use Rattle.std.proofs.Common.{◌≡◌, ℕ, zero, suc, ◌<◌, ◌≤◌, Bool, true, false, ◌&&◌, ◌||◌, not, List, Option, Some, option_map, None, is_some, Result, Ok, Err, Contains, nat_lt, if◌then◌else◌, refl, sym, ap, ◌∙◌, subst, arith}
 use Rattle.std.specs.List.{find}
 use Rattle.std.specs.Option.{IfSome, ok_or, option_and_then, option_map_or}
 use Rattle.std.specs.Str.{bytes_eq}
@@ -17,7 +17,7 @@ use Rattle.zst_model.specs.declared.sends.ask.SendAsk.{SendAsk}
 use Rattle.zst_model.specs.pools.Ancestry.{IsOrigin, IsIn, Marks, Source, OfSnapshot, OfBookmark, StandsBefore, Earlier, AtOrigin, BeforeOrigin, IsBelow, dataset_of_source, number_of_source}
 use Rattle.zst_model.specs.pools.Pool.{Pool, Dataset, Snapshot, Bookmark, HasDataset, IsPool, bookmark_named, dataset_named, dataset_of_bookmark, dataset_of_snapshot, is_before, snapshot_named}
 use Rattle.zst_model.specs.pools.Soundness.{Sound}
-use Rattle.zst_model.specs.sends.SendPlan.{absent, comes_before, earlier_origin, find_bookmark, find_redaction, find_snapshot, find_source, has_guids, if_before, if_no_relay, if_redaction, is_before_in, is_earlier, is_redacted, kind_of, marks, name_of_source, origin_of, redacts_snapshot, send_plan, sent_of}
+use Rattle.zst_model.specs.sends.SendPlan.{absent, comes_before, earlier_origin, find_bookmark, find_redaction, find_snapshot, find_source, has_guids, if_before, if_no_relay, if_redaction, is_before_in, is_earlier, kind_of, marks, name_of_source, origin_of, redacts_snapshot, send_plan, sent_of}
 use Rattle.zst_model.specs.sends.Headers.{Sent, IsRedactionOf}
 use Rattle.zst_model.specs.states.AppliedItems.{unless, ◌>>=◌}
 use Rattle.zst_model.proofs.OrderLaws.{same_bytes, bytes_same, not_before_itself}
@@ -25,7 +25,7 @@ use Rattle.zst_model.proofs.FoundElements.{found_passes, none_passes}
 use Rattle.zst_model.proofs.UniqueElements.{same_element}
 use Rattle.zst_model.proofs.GuidLists.{no_guids}
 use Rattle.zst_model.proofs.Results.{ok_parts, bind_ok, unless_ok}
-use Rattle.zst_laws.specs.SendPlans.{AncestorIsWanted, BeforeIsTested, IsPlanned, IsWhole, PlansAreOfPool, StandsBeforeSnapshot, name_of_from}
+use Rattle.zst_laws.specs.SendPlans.{AncestorIsWanted, BeforeIsTested, IsOnce, IsPlanned, PlansAreOfPool, StandsBeforeSnapshot, name_of_from}
 use Rattle.zst_laws.proofs.pools.Rows.{named_found}
 
 -- one that passes alone is found
@@ -235,25 +235,17 @@ redaction_passed pool s (Some bookmark) rest sent there h =
     let yes_it = not-false (redacts_snapshot bookmark s) ok.0 in
     (record { there = there; guid = grind (yes_it, nat_tests, arith); guids = grind (yes_it, nat_tests, arith) }, ok.1)
 
--- what isn't told as redacted isn't
-pub unrelayed : (s : Snapshot) (source : Option Source) → (has_guids s.redact || is_redacted source) ≡ false → (s.redact ≡ []) × IfSome source IsWhole
-unrelayed s source h =
-    let passed = neither (has_guids s.redact) (is_redacted source) h in (no_guids s.redact passed.0, whole source passed.1)
+-- what isn't told as redacted once more isn't
+pub is_once : (s : Snapshot) (list : Option Bookmark) → (has_guids s.redact && is_some list) ≡ false → IsOnce s list
+is_once s list h bookmark given = no_guids s.redact (first_fails (has_guids s.redact) (ap (λ (o : Option Bookmark). has_guids s.redact && is_some o) (sym given) ∙ h))
   where
-    neither : (a b : Bool) → (a || b) ≡ false → (a ≡ false) × (b ≡ false)
-    neither true b h = absurd (cc)
-    neither false b h = (refl, h)
+    first_fails : (b : Bool) → (b && true) ≡ false → b ≡ false
+    first_fails true e = absurd (true≢false e)
+    first_fails false e = refl
 
-    whole : (o : Option Source) → is_redacted o ≡ false → IfSome o IsWhole
-    whole None h = tt
-    whole (Some (OfSnapshot x)) h = no_guids x.redact h
-    whole (Some (OfBookmark x)) h = tt
-
-relay_passed : (s : Snapshot) (source : Option Source) (rest : Result Sent PlanFault) (sent : Sent) → if_no_relay s source rest ≡ Ok sent
-    → (s.redact ≡ []) × IfSome source IsWhole × (rest ≡ Ok sent)
-relay_passed s source rest sent h =
-    let ok = unless_ok (has_guids s.redact || is_redacted source) (plans.Unsupported lacks.Relay) rest sent h in
-    let free = unrelayed s source ok.0 in (free.0, free.1, ok.1)
+relay_passed : (s : Snapshot) (list : Option Bookmark) (rest : Result Sent PlanFault) (sent : Sent) → if_no_relay s list rest ≡ Ok sent → IsOnce s list × (rest ≡ Ok sent)
+relay_passed s list rest sent h =
+    let ok = unless_ok (has_guids s.redact && is_some list) (plans.Unsupported lacks.Relay) rest sent h in (is_once s list ok.0, ok.1)
 
 -- a source that passed the test stands before
 sources_stand : (pool : Pool) → IsPool pool → (s : Snapshot) (o : Option Source) → IfSome o (IsIn pool) → IfSome o (λ x. comes_before pool x s ≡ true)
@@ -272,11 +264,11 @@ planned_of_pool ask pool sent lawful h =
     let from = source_is_named ask.from pool f.0 f.1 in
     let list = redaction_is_named ask.redact pool l.0 l.1 in
     let made : Sent = record { snapshot = s.0; kind = kind_of pool s.0; source = f.0; redaction = l.0 } in
-    let past_before = before_passed pool s.0 f.0 (if_redaction s.0 l.0 (if_no_relay s.0 f.0 (Ok made))) sent l.2 in
-    let past_redaction = redaction_passed pool s.0 l.0 (if_no_relay s.0 f.0 (Ok made)) sent list.0 past_before.1 in
-    let past_relay = relay_passed s.0 f.0 (Ok made) sent past_redaction.1 in
+    let past_before = before_passed pool s.0 f.0 (if_redaction s.0 l.0 (if_no_relay s.0 l.0 (Ok made))) sent l.2 in
+    let past_redaction = redaction_passed pool s.0 l.0 (if_no_relay s.0 l.0 (Ok made)) sent list.0 past_before.1 in
+    let past_relay = relay_passed s.0 l.0 (Ok made) sent past_redaction.1 in
     let owner = All-contains (λ x. HasDataset pool (dataset_of_snapshot x)) pool.snapshots s.0 lawful.linked.snapshots own.0 in
-    subst (IsPlanned ask pool) (ok_parts made sent past_relay.2) (record {
+    subst (IsPlanned ask pool) (ok_parts made sent past_relay.1) (record {
       is_of = record {
         snapshot = own.0;
         dataset = owner.0;
@@ -290,8 +282,7 @@ planned_of_pool ask pool sent lawful h =
       source = from.1;
       redaction = list.1;
       before = sources_stand pool lawful s.0 f.0 from.0 past_before.0;
-      unredacted = past_relay.0;
-      whole_source = past_relay.1;
+      once = past_relay.0;
     })
 
 -- what is left once all is found
@@ -309,19 +300,19 @@ negated false h = refl
 
 -- the checks behind E6 don't give it
 no_ancestor_fault : (snapshot : Snapshot) (source : Option Source) (list : Option Bookmark) (to from : Name) (kind : ℕ)
-    → if_redaction {A = Sent} snapshot list (if_no_relay snapshot source (Ok (record { snapshot = snapshot; kind = kind; source = source; redaction = list }))) ≡ Err (plans.NotAncestor to from) → ⊥
+    → if_redaction {A = Sent} snapshot list (if_no_relay snapshot list (Ok (record { snapshot = snapshot; kind = kind; source = source; redaction = list }))) ≡ Err (plans.NotAncestor to from) → ⊥
 no_ancestor_fault snapshot source list to from kind h = of_list list h
   where
     of_relay : (b : Bool) (r : Sent) → unless b (plans.Unsupported lacks.Relay) (Ok r) ≡ Err (plans.NotAncestor to from) → ⊥
     of_relay true r h = cc
     of_relay false r h = cc
 
-    of_redaction : (b : Bool) (bookmark snap : List ℕ) (r : Sent) → unless b (plans.NotRedactionOf bookmark snap) (if_no_relay snapshot source (Ok r)) ≡ Err (plans.NotAncestor to from) → ⊥
+    of_redaction : (b : Bool) (bookmark snap : List ℕ) (r : Sent) → unless b (plans.NotRedactionOf bookmark snap) (if_no_relay snapshot list (Ok r)) ≡ Err (plans.NotAncestor to from) → ⊥
     of_redaction true bookmark snap r h = cc
-    of_redaction false bookmark snap r h = of_relay (has_guids snapshot.redact || is_redacted source) r h
+    of_redaction false bookmark snap r h = of_relay (has_guids snapshot.redact && is_some list) r h
 
-    of_list : (o : Option Bookmark) → if_redaction {A = Sent} snapshot o (if_no_relay snapshot source (Ok (record { snapshot = snapshot; kind = kind; source = source; redaction = list }))) ≡ Err (plans.NotAncestor to from) → ⊥
-    of_list None h = of_relay (has_guids snapshot.redact || is_redacted source) (record { snapshot = snapshot; kind = kind; source = source; redaction = list }) h
+    of_list : (o : Option Bookmark) → if_redaction {A = Sent} snapshot o (if_no_relay snapshot list (Ok (record { snapshot = snapshot; kind = kind; source = source; redaction = list }))) ≡ Err (plans.NotAncestor to from) → ⊥
+    of_list None h = of_relay (has_guids snapshot.redact && is_some list) (record { snapshot = snapshot; kind = kind; source = source; redaction = list }) h
     of_list (Some bookmark) h = of_redaction (not (redacts_snapshot bookmark snapshot)) bookmark.name snapshot.name (record { snapshot = snapshot; kind = kind; source = source; redaction = list }) h
 
 -- E6 comes exactly where Before says no
@@ -331,7 +322,7 @@ ancestor_wanted ask pool snapshot source list lawful sound has_snapshot has_sour
     let own = snapshot_is_named ask.snap pool snapshot has_snapshot in
     let fault = plans.NotAncestor (names.Snapshot snapshot.name) (name_of_source source) in
     let sent : Sent = record { snapshot = snapshot; kind = kind_of pool snapshot; source = Some source; redaction = list } in
-    let last = if_no_relay snapshot (Some source) (Ok sent) in
+    let last = if_no_relay snapshot list (Ok sent) in
     let rest = if_redaction snapshot list last in
     let left = all_left ask pool snapshot (Some source) list has_snapshot has_source has_list in
     let tested = before_tested pool source snapshot lawful sound here own.0 in (
@@ -355,7 +346,7 @@ plan_has_found ask pool sent h =
     let l = bind_ok (find_redaction ask.redact pool) (λ redaction. sent_of pool s.0 f.0 redaction) sent f.2 in
     let list = redaction_is_named ask.redact pool l.0 l.1 in
     let made : Sent = record { snapshot = s.0; kind = kind_of pool s.0; source = f.0; redaction = l.0 } in
-    let past_before = before_passed pool s.0 f.0 (if_redaction s.0 l.0 (if_no_relay s.0 f.0 (Ok made))) sent l.2 in
-    let past_redaction = redaction_passed pool s.0 l.0 (if_no_relay s.0 f.0 (Ok made)) sent list.0 past_before.1 in
-    let past_relay = relay_passed s.0 f.0 (Ok made) sent past_redaction.1 in
-    subst (HasFound ask pool) (ok_parts made sent past_relay.2) (record { snapshot = s.1; source = f.1; redaction = l.1; kind = refl })
+    let past_before = before_passed pool s.0 f.0 (if_redaction s.0 l.0 (if_no_relay s.0 l.0 (Ok made))) sent l.2 in
+    let past_redaction = redaction_passed pool s.0 l.0 (if_no_relay s.0 l.0 (Ok made)) sent list.0 past_before.1 in
+    let past_relay = relay_passed s.0 l.0 (Ok made) sent past_redaction.1 in
+    subst (HasFound ask pool) (ok_parts made sent past_relay.1) (record { snapshot = s.1; source = f.1; redaction = l.1; kind = refl })

@@ -91,11 +91,11 @@ before_base base snap number source redact b s h = record {
         (dated k i p n l q (includes_number snap choice k) refl (cases_lt i (end_at (snap.state k)))))
 
 -- the content of an index whose pair is not redacted is as before
-kept_beside : (o : Option Object) (pairs : ℕ → Bool) (i : ℕ) → pairs i ≡ false → content_at (option_map (redacted_object pairs) o) i ≡ content_at o i
+pub kept_beside : (o : Option Object) (pairs : ℕ → Bool) (i : ℕ) → pairs i ≡ false → content_at (option_map (redacted_object pairs) o) i ≡ content_at o i
 kept_beside None pairs i e = refl
 kept_beside (Some object) pairs i e = ap (block_content object.attr.block_size) (cond-false (pairs i) Redacted (object.blocks i) e)
 
-attr_beside : (o : Option Object) (pairs : ℕ → Bool) → attr_at (option_map (redacted_object pairs) o) ≡ attr_at o
+pub attr_beside : (o : Option Object) (pairs : ℕ → Bool) → attr_at (option_map (redacted_object pairs) o) ≡ attr_at o
 attr_beside None pairs = refl
 attr_beside (Some object) pairs = refl
 

@@ -1,12 +1,15 @@
 -- What BEGIN says of a send, and what the send is asked beside its snapshot (zfs-send(8), and `drr_begin` of zfs_ioctl.h).
-use Rattle.std.specs.Prelude.{◌≡◌, ℕ, ◌+◌, ◌^◌, ◌<◌, Bool, not, List, [], length, Option, Some, None, IfSome, Contains, option_map, bytes_eq, if◌then◌else◌}
+use Rattle.std.specs.Prelude.{◌≡◌, ℕ, ◌+◌, ◌^◌, ◌<◌, Bool, not, List, [], ◌∷◌, length, Option, Some, None, IfSome, Contains, option_map, bytes_eq, if◌then◌else◌}
 use Rattle.zst_model.specs.declared.sends.header.Header.{Header}
-use Rattle.zst_model.specs.fields.Lists.{has_pair}
+use Rattle.zst_model.specs.fields.Lists.{Runs, has_pair}
+use Rattle.zst_model.specs.fields.RunsOf.{runs_of}
 use Rattle.zst_model.specs.pools.Ancestry.{Source, OfSnapshot, OfBookmark, dataset_of_source, number_of_source, IsIn}
 use Rattle.zst_model.specs.pools.Pool.{Pool, Dataset, Snapshot, Bookmark, dataset_of_snapshot}
+use Rattle.zst_model.specs.pools.RedSet.{redacted_pairs}
 use Rattle.zst_model.specs.sends.Features.{redacts, sa_spill}
 use Rattle.zst_model.specs.sends.Inclusion.{Pairs, Choice, no_pairs}
 use Rattle.zst_model.specs.sends.View.{View, view_of}
+use Rattle.zst_model.specs.states.State.{State}
 
 -- what is sent: a snapshot, the kind of its dataset, the source that it is sent from or none, and the redaction bookmark of `--redact` or none
 pub record Sent : Type 0 where
@@ -56,14 +59,19 @@ clone_part snapshot (Some source) = if is_elsewhere snapshot source then clone_f
 unfoldable pub flags_of : Sent → ℕ
 flags_of sent = clone_part sent.snapshot sent.source + (free_records + spill_block)
 
--- REDACTED exactly where a redaction bookmark is given
-abbrev pub redacted_part : Option Bookmark → ℕ
-redacted_part None = 0
-redacted_part (Some bookmark) = redacts
+-- the redaction guids that BEGIN states: those of the redaction bookmark, or else the snapshot's own
+abbrev pub redaction_guids : Snapshot → Option Bookmark → List ℕ
+redaction_guids snapshot None = snapshot.redact
+redaction_guids snapshot (Some bookmark) = bookmark.redact
+
+-- REDACTED exactly where there are some
+abbrev pub redacted_part : List ℕ → ℕ
+redacted_part [] = 0
+redacted_part (guid ∷ guids) = redacts
 
 -- the features: SA_SPILL always
 unfoldable pub features_of : Sent → ℕ
-features_of sent = redacted_part sent.redaction + sa_spill
+features_of sent = redacted_part (redaction_guids sent.snapshot sent.redaction) + sa_spill
 
 -- the guid of a source
 abbrev pub guid_of_source : Source → ℕ
@@ -75,15 +83,10 @@ abbrev pub from_guid : Option Source → ℕ
 from_guid None = 0
 from_guid (Some source) = guid_of_source source
 
--- the redaction guids of the redaction bookmark
-abbrev pub redaction_guids : Option Bookmark → List ℕ
-redaction_guids None = []
-redaction_guids (Some bookmark) = bookmark.redact
-
--- the redaction guids of a source that is a redaction bookmark; any other bookmark has none
+-- the redaction guids of a source that is a redacted snapshot or a redaction bookmark; any other has none
 abbrev pub source_guids : Option Source → List ℕ
 source_guids None = []
-source_guids (Some (OfSnapshot snapshot)) = []
+source_guids (Some (OfSnapshot snapshot)) = snapshot.redact
 source_guids (Some (OfBookmark bookmark)) = bookmark.redact
 
 -- what BEGIN says of a send that isn't resumed
@@ -97,15 +100,24 @@ header_of sent = record {
   from = from_guid sent.source;
   name = sent.snapshot.name;
   resume = None;
-  redact = redaction_guids sent.redaction;
+  redact = redaction_guids sent.snapshot sent.redaction;
   from_redact = source_guids sent.source;
 }
 
--- the list of a source that is a redaction bookmark; any other bookmark has an empty one
+-- what is redacted of a snapshot with these redaction guids, as runs; of one that has none that is nothing
+abbrev pub redacted_runs : List ℕ → State → Runs
+redacted_runs [] state = []
+redacted_runs (guid ∷ guids) state = runs_of (redacted_pairs state)
+
+-- the runs of a source's list: of a redacted snapshot what is redacted in it, of a redaction bookmark what it lists; any other has an empty one
+abbrev pub source_runs : Option Source → Runs
+source_runs None = []
+source_runs (Some (OfSnapshot snapshot)) = redacted_runs snapshot.redact snapshot.objects.state
+source_runs (Some (OfBookmark bookmark)) = bookmark.runs
+
+-- the pairs of that list
 abbrev pub source_list : Option Source → Pairs
-source_list None = no_pairs
-source_list (Some (OfSnapshot snapshot)) = no_pairs
-source_list (Some (OfBookmark bookmark)) = has_pair bookmark.runs
+source_list source = has_pair (source_runs source)
 
 -- the list of the redaction bookmark
 abbrev pub redaction_list : Option Bookmark → Pairs

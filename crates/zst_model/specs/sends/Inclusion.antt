@@ -11,7 +11,7 @@ Pairs = ℕ → ℕ → Bool
 abbrev pub no_pairs : Pairs
 no_pairs k i = false
 
--- what a send was asked beside its snapshot: the source's number or none, the pairs of a source that is a redaction bookmark, and the pairs to redact
+-- what a send was asked beside its snapshot: the source's number or none, the pairs of the source's list, and the pairs to redact
 pub record Choice : Type 0 where
   pub from : Option ℕ
   pub source : Pairs

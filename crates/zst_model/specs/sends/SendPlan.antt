@@ -1,7 +1,8 @@
 -- What a send is to give, or why it can't (zfs-send(8)): its checks in their order.
-use Rattle.std.specs.Prelude.{ℕ, zero, suc, Bool, false, ◌&&◌, ◌||◌, ◌==◌, not, nat_lt, List, length, Option, Some, None, Result, Ok, if◌then◌else◌, bytes_eq}
+use Rattle.std.specs.Prelude.{ℕ, zero, suc, Bool, false, ◌&&◌, ◌||◌, ◌==◌, not, nat_lt, List, length, Option, Some, None, is_some, Result, Ok, if◌then◌else◌, bytes_eq}
 use Rattle.std.specs.Option.{ok_or, option_and_then, option_map_or}
 use Rattle.zst_model.specs.declared.refusals.faults.Lack.TheVariants as lacks
+use Rattle.zst_model.specs.declared.refusals.faults.Quantity.TheVariants as quantities
 use Rattle.zst_model.specs.declared.refusals.subjects.AbsentSubject.TheVariants as missing
 use Rattle.zst_model.specs.declared.refusals.subjects.Name.{Name}
 use Rattle.zst_model.specs.declared.refusals.subjects.Name.TheVariants as names
@@ -11,8 +12,9 @@ use Rattle.zst_model.specs.declared.sends.ask.FromName.{FromName}
 use Rattle.zst_model.specs.declared.sends.ask.FromName.TheVariants.{Snap, Book}
 use Rattle.zst_model.specs.declared.sends.ask.SendAsk.{SendAsk}
 use Rattle.zst_model.specs.pools.Ancestry.{Source, OfSnapshot, OfBookmark, dataset_of_source, number_of_source}
+use Rattle.zst_model.specs.pools.Limits.{most_runs}
 use Rattle.zst_model.specs.pools.Pool.{Pool, Snapshot, Bookmark, dataset_named, snapshot_named, bookmark_named, dataset_of_snapshot, dataset_of_bookmark}
-use Rattle.zst_model.specs.sends.Headers.{Sent}
+use Rattle.zst_model.specs.sends.Headers.{Sent, source_runs}
 use Rattle.zst_model.specs.states.AppliedItems.{unless, ◌>>=◌}
 
 -- ---- what stands before a snapshot, as a test
@@ -103,22 +105,16 @@ if_redaction snapshot None rest = rest
 if_redaction snapshot (Some bookmark) rest =
     unless (not (redacts_snapshot bookmark snapshot)) (plans.NotRedactionOf bookmark.name snapshot.name) rest
 
--- whether a source is a redacted snapshot
-abbrev pub is_redacted : Option Source → Bool
-is_redacted None = false
-is_redacted (Some (OfSnapshot snapshot)) = has_guids snapshot.redact
-is_redacted (Some (OfBookmark bookmark)) = false
-
--- E19: what is redacted isn't sent on
-abbrev pub if_no_relay : {A : Type 0} → Snapshot → Option Source → Result A PlanFault → Result A PlanFault
-if_no_relay snapshot source rest = unless (has_guids snapshot.redact || is_redacted source) (plans.Unsupported lacks.Relay) rest
+-- E19: a redacted snapshot is sent on as it is, and not redacted once more
+abbrev pub if_no_relay : {A : Type 0} → Snapshot → Option Bookmark → Result A PlanFault → Result A PlanFault
+if_no_relay snapshot redaction rest = unless (has_guids snapshot.redact && is_some redaction) (plans.Unsupported lacks.Relay) rest
 
 -- what was found, where it can be sent: E6, E7, E19
 abbrev pub sent_of : Pool → Snapshot → Option Source → Option Bookmark → Result Sent PlanFault
 sent_of pool snapshot source redaction =
     if_before pool snapshot source
     (if_redaction snapshot redaction
-    (if_no_relay snapshot source
+    (if_no_relay snapshot redaction
     (Ok (record { snapshot = snapshot; kind = kind_of pool snapshot; source = source; redaction = redaction }))))
 
 -- what a send is to give: E3 of the snapshot, of the source and of the bookmark come first
@@ -128,3 +124,19 @@ send_plan ask pool =
     >>= (λ snapshot. find_source ask.from pool
     >>= (λ source. find_redaction ask.redact pool
     >>= (λ redaction. sent_of pool snapshot source redaction)))
+
+-- ---- what the source's blocks tell besides
+
+-- whether a source is a redacted snapshot
+abbrev pub is_redacted : Option Source → Bool
+is_redacted None = false
+is_redacted (Some (OfSnapshot snapshot)) = has_guids snapshot.redact
+is_redacted (Some (OfBookmark bookmark)) = false
+
+-- E23: more runs are redacted of the source snapshot than a list may have
+abbrev pub if_listed : Sent → Result Sent PlanFault
+if_listed sent = unless (is_redacted sent.source && nat_lt most_runs (length (source_runs sent.source))) (plans.Limit quantities.Runs most_runs) (Ok sent)
+
+-- a plan, with that behind all its other checks: the directory doesn't tell it, but the blocks of the source do
+abbrev pub with_list : Result Sent PlanFault → Result Sent PlanFault
+with_list plan = plan >>= if_listed

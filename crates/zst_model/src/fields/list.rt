@@ -1,8 +1,7 @@
 ghost use Rattle.std.specs.Prelude.{◌≡◌, ◌↔◌, ◌≤◌, ◌<◌, [], true, not, find, length, IsSome, IsNone, IfSome, IfOk};
 ghost use Rattle.zst_model.specs.fields.Lists.{Runs, IsRunList, IsLeastFrom, HasNoneFrom, ends_by, has_pair, is_run, is_run_list, stands_before};
-ghost use Rattle.zst_model.specs.fields.PushedPairs.{PushesPair, ends_at, last_ends_at};
+ghost use Rattle.zst_model.specs.fields.PushedRuns.{PushesRun, ends_at, last_ends_at};
 ghost use Rattle.zst_model.specs.pools.Limits.{most_runs};
-ghost use Rattle.zst_model.specs.states.State.{index_bound, is_number};
 
 use crate::limits::{INDEX_BOUND, MOST_RUNS, NUMBER_BOUND};
 use crate::states::cell::Run;
@@ -62,22 +61,21 @@ impl List {
         self.runs
     }
 
-    /// Puts in a pair that stands behind all others: into the last run where that ends at it, and else as
+    /// Puts in a run that stands behind all pairs: into the last run where that ends at it, and else as
     /// a run of its own, unless the list has as many as it may. Tells whether it did.
     #[tactic(auto, using(std::proofs::lemmas::Bool::Decides::nat_tests), unfolding(crate::specs::pools::Limits::most_runs))]
-    pub fn push_pair(&mut self, object: u64, block: u64) -> Result<bool, AllocError>
-        requires object { is_number object ≡ true }
-        requires block { block < index_bound }
-        requires behind { HasNoneFrom (has_pair self.old) object block }
-        ensures pushed { IfOk result (PushesPair self.old self.new object block) }
+    pub fn push_run(&mut self, run: Run) -> Result<bool, AllocError>
+        requires run { is_run run ≡ true }
+        requires behind { HasNoneFrom (has_pair self.old) run.object run.first }
+        ensures pushed { IfOk result (PushesRun self.old self.new run) }
         ensures short { length self.old ≤ most_runs → length self.new ≤ most_runs }
         ensures lawful { IsRunList self.new }
     {
         let count = self.runs.len();
-        if last_ends_at(self.runs.as_slice(), object, block) {
+        if last_ends_at(self.runs.as_slice(), run.object, run.first) {
             let last = self.runs[count - 1];
             self.runs[count - 1] = Run {
-                count: last.count + 1,
+                count: last.count + run.count,
                 ..last
             };
             return Ok(true);
@@ -85,11 +83,7 @@ impl List {
         if count >= MOST_RUNS {
             return Ok(false);
         }
-        self.runs.push(Run {
-            object,
-            first: block,
-            count: 1,
-        })?;
+        self.runs.push(run)?;
         Ok(true)
     }
 

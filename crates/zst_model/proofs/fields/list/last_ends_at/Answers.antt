@@ -1,6 +1,6 @@
 use Rattle.std.proofs.Common.{rules, ◌≡◌, [], ◌∷◌, ◌++◌, sym, ap, ◌∙◌}
-use Rattle.zst_model.specs.fields.PushedPairs.{last_ends_at}
-use Rattle.zst_model.proofs.PushedPairs.{last_of_all}
+use Rattle.zst_model.specs.fields.PushedRuns.{last_ends_at}
+use Rattle.zst_model.proofs.PushedRuns.{last_of_all}
 use Rattle.zst_model.proofs.fields.list.last_ends_at.Goals as goal
 
 pub returns-in-Some : goal.returns-in-Some

@@ -1,7 +1,7 @@
--- What putting a pair behind all others makes of a list.
+-- What putting a run behind all pairs makes of a list.
 use Rattle.std.specs.Prelude.{◌≡◌, ℕ, suc, ◌+◌, ◌≤◌, Bool, true, false, [], ◌∷◌, length, ◌==◌, ◌&&◌, ◌||◌}
 use Rattle.zst_model.specs.declared.states.cell.Run.{Run}
-use Rattle.zst_model.specs.fields.Lists.{Runs, has_pair}
+use Rattle.zst_model.specs.fields.Lists.{Runs, has_pair, is_in_run}
 use Rattle.zst_model.specs.pools.Limits.{most_runs}
 
 -- a run ends at a pair: that stands behind its last
@@ -20,7 +20,7 @@ pub record IsFull (old new : Runs) (k i : ℕ) : Type 0 where
   pub many : most_runs ≤ length old
   pub alone : (j : ℕ) → suc j ≡ i → has_pair old k j ≡ false
 
--- a list has this pair too and no other more, or it is full
-abbrev pub PushesPair : Runs → Runs → ℕ → ℕ → Bool → Type 0
-PushesPair old new k i true = (l j : ℕ) → has_pair new l j ≡ (has_pair old l j || (k == l && i == j))
-PushesPair old new k i false = IsFull old new k i
+-- a list has the pairs of this run too and no others more, or it is full
+abbrev pub PushesRun : Runs → Runs → Run → Bool → Type 0
+PushesRun old new run true = (l j : ℕ) → has_pair new l j ≡ (has_pair old l j || is_in_run run l j)
+PushesRun old new run false = IsFull old new run.object run.first
