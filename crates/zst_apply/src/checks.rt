@@ -4,7 +4,7 @@ ghost use Rattle.zst_model.specs.states.AppliedItems.{is_unaligned};
 ghost use Rattle.zst_apply.specs.Checks.{free_check, redact_check, write_check};
 
 use zst_dnode::Dnode;
-use zst_model::ApplyFault;
+use zst_model::{ApplyFault, is_user_data};
 
 // Whether a number of bytes is no multiple of the block size.
 fn is_unaligned(size: u32, bytes: u64) -> bool
@@ -45,7 +45,7 @@ pub(crate) fn check_redact(dnode: &Dnode, offset: u64, length: u64) -> Result<()
     requires { 0 < dnode.now.block_size }
     ensures { result ≡ redact_check dnode.now.type_ dnode.now.block_size offset length }
 {
-    if dnode.type_ != 19 && dnode.type_ != 23 {
+    if !is_user_data(dnode.type_) {
         return Err(ApplyFault::NotUserData);
     }
     if is_unaligned(dnode.block_size, offset) || is_unaligned(dnode.block_size, length) {

@@ -30,7 +30,7 @@ use crate::trees::tree_of;
 use zst_block::{BlockFault, Io};
 use zst_dnode::Dnode;
 use zst_model::limits::INDEX_BOUND;
-use zst_model::{ApplyFault, Quantity};
+use zst_model::{ApplyFault, Quantity, is_user_data};
 use zst_outside::Disk;
 use zst_tree::ObjSet;
 
@@ -63,7 +63,7 @@ fn check_range(first: u64, count: u64) -> Result<(), ObjFault>
 fn check_redaction(dnode: &Dnode, first: u64, count: u64) -> Result<(), ApplyFault>
     ensures { result ≡ redaction_check dnode.now first count }
 {
-    if dnode.type_ != 19 && dnode.type_ != 23 {
+    if !is_user_data(dnode.type_) {
         return Err(ApplyFault::NotUserData);
     }
     if !dnode.block_size.is_power_of_two() && count > 0 && first.saturating_add(count) > 1 {

@@ -1,7 +1,11 @@
 mod LateIndices
 mod LateNumbers
+mod PresentNumbers
+mod PointerKinds
 mod DataIndices
-mod RedactedPairs
+mod WantedPairs
+mod WantedIndices
+mod LeastPairs
 mod GrowingLists
 mod Damage
 mod Sets

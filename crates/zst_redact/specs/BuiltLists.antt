@@ -1,8 +1,9 @@
 -- What the building of a redaction bookmark's list answers.
-use Rattle.std.specs.Prelude.{◌≡◌, ℕ, ◌≤◌, ◌<◌, true, length, Option, Some, None, Result, Ok, Err}
+use Rattle.std.specs.Prelude.{◌≡◌, ◌≤◌, ◌<◌, true, length, Option, Some, None, Result, Ok, Err}
 use Rattle.zst_block.specs.declared.fault.BlockFault.{BlockFault}
+use Rattle.zst_model.specs.declared.states.cell.Run.{Run}
 use Rattle.zst_model.specs.fields.Lists.{Runs}
-use Rattle.zst_model.specs.fields.PushedPairs.{IsFull, PushesPair}
+use Rattle.zst_model.specs.fields.PushedRuns.{IsFull, PushesRun}
 use Rattle.zst_model.specs.pools.Limits.{most_runs}
 use Rattle.zst_tree.specs.Indices.{IsNoDamage}
 use Rattle.zst_tree.specs.Faults.{IfFault}
@@ -19,12 +20,12 @@ BuildsList list (Err (Fault Limit)) = most_runs < length list
 BuildsList list (Err (Fault (Block fault))) = IsNoDamage fault
 BuildsList list (Err Memory) = Unit {0}
 
--- a pair is put in, or the list is full
-abbrev pub PutsPair : Runs → Runs → ℕ → ℕ → Result (Unit {0}) (OrMemory RedactFault) → Type 0
-PutsPair old new k i (Ok done) = PushesPair old new k i true
-PutsPair old new k i (Err (Fault Limit)) = IsFull old new k i
-PutsPair old new k i (Err (Fault (Block fault))) = ⊥
-PutsPair old new k i (Err Memory) = Unit {0}
+-- a run is put in, or the list is full
+abbrev pub PutsRun : Runs → Runs → Run → Result (Unit {0}) (OrMemory RedactFault) → Type 0
+PutsRun old new run (Ok done) = PushesRun old new run true
+PutsRun old new run (Err (Fault Limit)) = IsFull old new run.object run.first
+PutsRun old new run (Err (Fault (Block fault))) = ⊥
+PutsRun old new run (Err Memory) = Unit {0}
 
 -- the block fault of a fault
 abbrev pub block_of : RedactFault → Option BlockFault

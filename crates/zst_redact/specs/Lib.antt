@@ -1,3 +1,4 @@
 pub mod Passes
 pub mod Damage
 pub mod BuiltLists
+pub mod Wanted

@@ -5,22 +5,22 @@ use Rattle.zst_block.specs.IoCalls.{Looks}
 use Rattle.zst_model.specs.fields.Lists.{HasNoneFrom, IsRunList, has_pair}
 use Rattle.zst_model.specs.fields.RunsOf.{IsListBefore}
 use Rattle.zst_model.specs.pools.Limits.{most_runs}
-use Rattle.zst_model.specs.pools.RedSet.{red_set}
 use Rattle.zst_model.specs.states.DatedState.{DatedState}
 use Rattle.zst_redact.specs.Passes.{HoldStates}
+use Rattle.zst_redact.specs.Wanted.{sets_beside, wanted_pairs}
 use Rattle.zst_redact.proofs.lists.counted.Given as goal
 
--- the list has the redacted pairs before the one from which the search goes on
-abbrev pub invariant-pairs : goal.invariant-pairs
-invariant-pairs g l = record {
+-- the list has the wanted pairs before the one from which the search goes on
+abbrev pub invariant-runs : goal.invariant-runs
+invariant-runs g l = record {
   some : 0 < l.at.0;
   lawful : IsRunList l.list;
   none : HasNoneFrom (has_pair l.list) l.at.0 l.at.1;
   short : length l.list ≤ most_runs;
-  grown : (state : DatedState) (kept : List DatedState) → IsHonest l.io → HoldStates (blocks_of l.fn.io) l.snap l.redactions state kept → IsListBefore (red_set state.state l.number kept) l.at.0 l.at.1 l.list;
+  grown : (state : DatedState) (kept : List DatedState) → IsHonest l.io → HoldStates (blocks_of l.fn.io) l.snap (sets_beside l.wanted) state kept → IsListBefore (wanted_pairs l.wanted state kept) l.at.0 l.at.1 l.list;
   looks : Looks (io_of l.fn.io) (io_of l.io) None;
 }
 
 -- numbers are below 2^48, and indices below 2^43
-abbrev pub decreases-pairs : goal.decreases-pairs
-decreases-pairs g l = (281474976710656 - l.at.0) * 17592186044416 + (17592186044416 - l.at.1)
+abbrev pub decreases-runs : goal.decreases-runs
+decreases-runs g l = (281474976710656 - l.at.0) * 17592186044416 + (17592186044416 - l.at.1)

@@ -1,49 +1,18 @@
--- The least redacted pair at or after one.
-use Rattle.std.proofs.Common.{◌≡◌, inl, inr, ℕ, ◌+◌, ◌^◌, ◌<◌, ◌≤◌, true, false, refl, sym, ◌∙◌, subst, ap, ⊎_elim, arith, List, nat_lt}
-use Rattle.std.specs.Prelude.{Option, Some, None}
-use Rattle.std.proofs.lemmas.Bool.{and_parts, and_right, cases_Bool, cases_lt, false≢true, false_from_ne_true, ltb-true}
+-- The least pair of a set at or after one.
+use Rattle.std.proofs.Common.{◌≡◌, inl, inr, ℕ, ◌+◌, ◌^◌, ◌<◌, ◌≤◌, true, false, refl, sym, ◌∙◌, subst, ⊎_elim, arith, nat_lt, nat_le, ◌==◌, ◌&&◌}
+use Rattle.std.specs.Prelude.{Some, None}
+use Rattle.std.proofs.lemmas.Bool.{and_parts, cases_lt, false≢true, false_from_ne_true, ltb-true}
+use Rattle.std.proofs.lemmas.Bool.Decides.{nat_tests}
 use Rattle.zst_model.specs.fields.Lists.{HasNoneFrom, IsAtOrAfter, IsLeastFrom}
-use Rattle.zst_model.specs.pools.RedSet.{is_data, is_user_block, red_set}
 use Rattle.zst_model.specs.sends.Inclusion.{Pairs}
-use Rattle.zst_model.specs.states.DatedState.{DatedState}
-use Rattle.zst_model.specs.states.State.{IsObjectOrNone, IsState, Object, State, index_bound, is_number, is_user_data, number_bound}
-use Rattle.zst_model.proofs.ObjectNumbers.{absent_outside}
+use Rattle.zst_model.specs.states.State.{index_bound, is_number, number_bound}
 use Rattle.zst_traverse.specs.Runs.{FindsIn}
-use Rattle.zst_redact.specs.Passes.{PassesNumbers, are_late}
+use Rattle.zst_redact.specs.Passes.{FindsRunIn, IsRunFrom, PassesNumbers}
 
 -- a set of pairs of numbers and indices alone
 pub record AreBounded (pairs : Pairs) : Type 0 where
   pub number : (k i : ℕ) → pairs k i ≡ true → is_number k ≡ true
   pub index : (k i : ℕ) → pairs k i ≡ true → i < index_bound
-
--- redacted pairs are such
-module _ (state : State) (lawful : IsState state) (number : ℕ) (kept : List DatedState) where
-  user_block : (k i : ℕ) → red_set state number kept k i ≡ true → is_user_block (state k) i ≡ true
-  user_block k i is = (and_parts (is_user_block (state k) i) (are_late number kept k i) is).0
-
-  no_user_block : (k i : ℕ) → state k ≡ None → is_user_block (state k) i ≡ false
-  no_user_block k i none = ap (λ (o : Option Object). is_user_block o i) none
-
-  past_index : (object : Option Object) → IsObjectOrNone object → (i : ℕ) → index_bound ≤ i → is_user_block object i ≡ false
-  past_index None is i over = refl
-  past_index (Some object) is i over = and_right (is_user_data object.attr) (is_data (object.blocks i)) (ap is_data (is.bounded i over))
-
-  pub red_bounded : AreBounded (red_set state number kept)
-  red_bounded = record {
-    number = λ k i is. ⊎_elim
-        (λ yes_it. yes_it)
-        (λ isnt. absurd (false≢true (sym (no_user_block k i (absent_outside state lawful k isnt)) ∙ user_block k i is)))
-        (cases_Bool (is_number k));
-    index = λ k i is. ⊎_elim
-        (λ under. under)
-        (λ over. absurd (false≢true (sym (past_index (state k) (lawful.objects k) i over) ∙ user_block k i is)))
-        (cases_lt i index_bound);
-  }
-
-  -- a number at which no index is late has none
-  pub none_of_numbers : (from : ℕ) (passed : Option ℕ) → PassesNumbers (are_late number kept) from passed → PassesNumbers (red_set state number kept) from passed
-  none_of_numbers from None none = λ k i on. and_right (is_user_block (state k) i) (are_late number kept k i) (none k i on)
-  none_of_numbers from (Some to) none = λ k i on under. and_right (is_user_block (state k) i) (are_late number kept k i) (none k i on under)
 
 -- what stands at or after a pair that stands at or after another stands at or after that one too
 pub after_both : (k i l j m n : ℕ) → IsAtOrAfter k i l j → IsAtOrAfter l j m n → IsAtOrAfter k i m n
@@ -55,7 +24,7 @@ pub record IsSearchedTo (pairs : Pairs) (start at : ℕ × ℕ) : Type 0 where
 
 module _ (pairs : Pairs) (bounded : AreBounded pairs) (start : ℕ × ℕ) (k i : ℕ) (searched : IsSearchedTo pairs start (k, i)) (after : IsAtOrAfter start.0 start.1 k i) where
   -- the first of its number
-  pub least_here : (found : ℕ) → FindsIn (pairs k) i (2 ^ 43) (Some found) → IsLeastFrom pairs start.0 start.1 k found
+  least_here : (found : ℕ) → FindsIn (pairs k) i (2 ^ 43) (Some found) → IsLeastFrom pairs start.0 start.1 k found
   unfolding index_bound
   least_here found first = record {
     has = first.passes;
@@ -72,7 +41,19 @@ module _ (pairs : Pairs) (bounded : AreBounded pairs) (start : ℕ × ℕ) (k i 
         (searched.rest l j at is);
   }
 
-  module _ (none : FindsIn (pairs k) i (2 ^ 43) None) where
+  -- and the run of those that follow it
+  pub run_here : (first count : ℕ) → FindsRunIn (pairs k) i (2 ^ 43) (Some (first, count)) → IsRunFrom pairs start.0 start.1 (record { object = k; first = first; count = count })
+  run_here first count found = record {
+    least = least_here first found.first;
+    all = λ l j inside.
+        let at = parts_of k first count l j inside in
+        subst (λ (n : ℕ). pairs n j ≡ true) at.0 (found.all j at.1 at.2);
+  }
+    where
+      parts_of : (o f c l j : ℕ) → (o == l && (nat_le f j && nat_lt j (f + c))) ≡ true → (o ≡ l) × (f ≤ j) × (j < f + c)
+      parts_of o f c l j inside = (grind (arith, nat_tests), grind (arith, nat_tests), grind (arith, nat_tests))
+
+  module _ (none : FindsRunIn (pairs k) i (2 ^ 43) None) where
     -- where the number has none, those of the set stand behind it
     behind : (l j : ℕ) → IsAtOrAfter start.0 start.1 l j → pairs l j ≡ true → k < l
     unfolding index_bound

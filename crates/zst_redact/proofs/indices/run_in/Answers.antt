@@ -12,10 +12,11 @@ use Rattle.zst_objset.specs.Dnodes.{SlotIs}
 use Rattle.zst_objset.specs.Sets.{SetHolds}
 use Rattle.zst_objset.proofs.LeafLaws.{look_on}
 use Rattle.zst_redact.specs.Damage.{IsDamagedAmong}
+use Rattle.zst_redact.specs.Wanted.{sets_beside}
 use Rattle.zst_redact.proofs.Damage.{first_told, set_told}
-use Rattle.zst_redact.proofs.DataIndices.{absent_none, other_none, own_found}
 use Rattle.zst_redact.proofs.Sets.{lawful_at}
-use Rattle.zst_redact.proofs.indices.pair_in.Goals as goal
+use Rattle.zst_redact.proofs.WantedIndices.{absent_none, other_none, own_found}
+use Rattle.zst_redact.proofs.indices.run_in.Goals as goal
 
 -- a type of user data is an object's that has it
 user_type : (type_ other : ℕ) (user answer : Bool) → type_ ≡ other → answer ≡ (type_ == 19 || type_ == 23) → answer ≡ user → (other == 19 || other == 23) ≡ user
@@ -36,7 +37,7 @@ returns-in_err-slot-clause-damaged g c = λ honest.
     let p = err_from_is_err_and c.from_residual.result c.from_residual.ensures.1 in
     let disk = disk_of c.args.io.now in
     let fault = c.in_err-slot.field-0.0 in
-    rw (p.1, p.2) (first_told (IsSeen disk.seen) disk.size c.args.snap.now c.args.redactions.now fault (set_told (IsSeen disk.seen) disk.size c.args.snap.now fault (c.in_err-slot.ensures.damaged honest)))
+    rw (p.1, p.2) (first_told (IsSeen disk.seen) disk.size c.args.snap.now (sets_beside c.args.wanted) fault (set_told (IsSeen disk.seen) disk.size c.args.snap.now fault (c.in_err-slot.ensures.damaged honest)))
 
 pub returns-in_err-slot-clause-looks : goal.returns-in_err-slot-clause-looks
 returns-in_err-slot-clause-looks g c =
@@ -46,7 +47,7 @@ returns-in_err-slot-clause-looks g c =
 pub returns-in-Absent-clause-found : goal.returns-in-Absent-clause-found
 returns-in-Absent-clause-found g c = λ state kept honest hold.
     let absent = subst (SlotIs (blocks_of c.slot_at.new.io) state c.args.object) c.in-Absent.is (c.in_ok-slot.ensures.found state honest hold.snapshot) in
-    absent_none state c.args.number kept c.args.object c.args.from absent.none
+    absent_none c.args.wanted state kept c.args.object c.args.from absent.none
 
 pub returns-in-Absent-clause-range : goal.returns-in-Absent-clause-range
 returns-in-Absent-clause-range g c = tt
@@ -59,33 +60,33 @@ returns-in-Absent-clause-looks g c = c.in_ok-slot.ensures.looks.looks
 
 pub returns-then-is_user_data-clause-found : goal.returns-then-is_user_data-clause-found
 returns-then-is_user_data-clause-found g c = λ state kept honest hold.
-    let was = c.index_from.ensures.looks.reads.honest honest in
+    let was = c.run_from.ensures.looks.reads.honest honest in
     let looks = c.in_ok-slot.ensures.looks.looks in
     let there = subst (SlotIs (blocks_of c.slot_at.new.io) state c.args.object) c.in-There.is (c.in_ok-slot.ensures.found state was hold.snapshot) in
     let user = user_type c.in-There.dnode.type_ there.object.attr.type_ true c.is_user_data.result there.is.type_is c.is_user_data.ensures c.if-is_user_data.true in
-    let each = look_on (λ (seen : List ℕ) (space : FreeSectors). AllZip (SetHolds (Has seen space)) c.args.redactions.now kept) looks hold.each in
-    own_found state c.args.number kept c.args.object c.args.from there.object there.there user c.index_from.result
-    (c.index_from.ensures.found there.object (state.number_date c.args.object) (state.index_date c.args.object) there.map kept honest (lawful_at state.state hold.snapshot.lawful c.args.object there.object there.there) there.is each)
+    let each = look_on (λ (seen : List ℕ) (space : FreeSectors). AllZip (SetHolds (Has seen space)) (sets_beside c.args.wanted) kept) looks hold.each in
+    own_found c.args.wanted state kept c.args.object c.args.from there.object there.there user c.run_from.result
+    (c.run_from.ensures.found there.object (state.number_date c.args.object) (state.index_date c.args.object) there.map kept honest (lawful_at state.state hold.snapshot.lawful c.args.object there.object there.there) there.is each)
 
 pub returns-then-is_user_data-clause-range : goal.returns-then-is_user_data-clause-range
-returns-then-is_user_data-clause-range g c = c.index_from.ensures.range
+returns-then-is_user_data-clause-range g c = c.run_from.ensures.range
 
 pub returns-then-is_user_data-clause-damaged : goal.returns-then-is_user_data-clause-damaged
 returns-then-is_user_data-clause-damaged g c = λ honest.
-    let was = c.index_from.ensures.looks.reads.honest honest in
+    let was = c.run_from.ensures.looks.reads.honest honest in
     let looks = c.in_ok-slot.ensures.looks.looks in
     let stands = look_on (λ (seen : List ℕ) (space : FreeSectors). StandsIn (IsSeen seen) c.args.snap.now c.in-There.dnode) looks
     (subst (SlotStands (IsSeen (disk_of c.args.io.now).seen) c.args.snap.now) c.in-There.is (c.in_ok-slot.ensures.stands was)) in
-    seen_before looks (λ (seen : List ℕ) (size : ℕ). IfDamaged c.index_from.result (IsDamagedAmong (IsSeen seen) size (c.args.snap.now ∷ c.args.redactions.now))) (c.index_from.ensures.damaged c.args.snap.now honest stands)
+    seen_before looks (λ (seen : List ℕ) (size : ℕ). IfDamaged c.run_from.result (IsDamagedAmong (IsSeen seen) size (c.args.snap.now ∷ sets_beside c.args.wanted))) (c.run_from.ensures.damaged c.args.snap.now honest stands)
 
 pub returns-then-is_user_data-clause-looks : goal.returns-then-is_user_data-clause-looks
-returns-then-is_user_data-clause-looks g c = Looks-then c.in_ok-slot.ensures.looks.looks c.index_from.ensures.looks
+returns-then-is_user_data-clause-looks g c = Looks-then c.in_ok-slot.ensures.looks.looks c.run_from.ensures.looks
 
 pub returns-else-is_user_data-clause-found : goal.returns-else-is_user_data-clause-found
 returns-else-is_user_data-clause-found g c = λ state kept honest hold.
     let there = subst (SlotIs (blocks_of c.slot_at.new.io) state c.args.object) c.in-There.is (c.in_ok-slot.ensures.found state honest hold.snapshot) in
     let other = user_type c.in-There.dnode.type_ there.object.attr.type_ false c.is_user_data.result there.is.type_is c.is_user_data.ensures c.if-is_user_data.false in
-    other_none state c.args.number kept c.args.object c.args.from there.object there.there other
+    other_none c.args.wanted state kept c.args.object c.args.from there.object there.there other
 
 pub returns-else-is_user_data-clause-range : goal.returns-else-is_user_data-clause-range
 returns-else-is_user_data-clause-range g c = tt

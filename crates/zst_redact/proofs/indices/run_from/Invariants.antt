@@ -8,14 +8,14 @@ use Rattle.zst_model.specs.states.State.{IsObject, Object}
 use Rattle.zst_tree.specs.Indices.{Map}
 use Rattle.zst_objset.specs.Dnodes.{ObjectIs}
 use Rattle.zst_objset.specs.Sets.{SetHolds}
-use Rattle.zst_redact.specs.Passes.{are_data}
-use Rattle.zst_redact.proofs.indices.index_from.Given as goal
+use Rattle.zst_redact.specs.Wanted.{are_wanted, sets_beside}
+use Rattle.zst_redact.proofs.indices.run_from.Given as goal
 
 abbrev pub invariant-loop-at : goal.invariant-loop-at
 invariant-loop-at g l = record {
   from_on : l.from ≤ l.at;
   none : (own : Object) (date : ℕ) (dates : ℕ → ℕ) (map : Map) (kept : List DatedState) → IsHonest l.io → IsObject own → ObjectIs (blocks_of l.fn.io) l.dnode own date dates map
-      → AllZip (SetHolds (blocks_of l.fn.io)) l.redactions kept → (i : ℕ) → l.from ≤ i → i < l.at → are_data own l.number kept l.object i ≡ false;
+      → AllZip (SetHolds (blocks_of l.fn.io)) (sets_beside l.wanted) kept → (i : ℕ) → l.from ≤ i → i < l.at → are_wanted l.wanted own kept l.object i ≡ false;
   looks : Looks (io_of l.fn.io) (io_of l.io) None;
 }
 
