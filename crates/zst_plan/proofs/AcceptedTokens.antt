@@ -1,7 +1,7 @@
 -- Tokens that a send accepts.
-use Rattle.std.proofs.Common.{◌≡◌, ◌≢◌, ℕ, ◌<◌, Bool, true, false, not, ◌&&◌, ◌||◌, ◌==◌, List, [], length, Option, Some, None, option_map, Result, Ok, Err, Contains, bytes_eq, if◌then◌else◌, refl, sym, ap, ◌∙◌, find}
+use Rattle.std.proofs.Common.{◌≡◌, ◌≢◌, ℕ, ◌<◌, Bool, true, false, not, ◌&&◌, ◌==◌, List, length, Option, Some, None, is_some, option_map, Result, Ok, Err, Contains, bytes_eq, if◌then◌else◌, refl, sym, ap, ◌∙◌, find}
 use Rattle.std.specs.Option.{ok_or, option_or}
-use Rattle.std.proofs.lemmas.Bool.{and_from, and_parts, eq-eqb, eqb-true, lt-ltb, ne_eqb, not_from_true, or_from}
+use Rattle.std.proofs.lemmas.Bool.{and_from, and_parts, eq-eqb, eqb-true, false_from_ne_true, lt-ltb, ltb-true, ne_eqb, not_from_true}
 use Rattle.zst_model.specs.declared.refusals.faults.Lack.TheVariants as lacks
 use Rattle.zst_model.specs.declared.refusals.subjects.Name.TheVariants as names
 use Rattle.zst_model.specs.declared.refusals.plan_fault.PlanFault.{PlanFault}
@@ -10,16 +10,17 @@ use Rattle.zst_model.specs.pools.Ancestry.{Source, OfSnapshot, OfBookmark}
 use Rattle.zst_model.specs.pools.Pool.{Pool, Snapshot, Bookmark, IsPool}
 use Rattle.zst_model.specs.pools.Soundness.{Sound}
 use Rattle.zst_model.specs.sends.Headers.{Sent}
-use Rattle.zst_model.specs.sends.SendPlan.{comes_before, has_guids, if_no_relay, if_redaction, is_redacted, kind_of, name_of_source, redacts_snapshot, sent_of}
+use Rattle.zst_model.specs.sends.SendPlan.{comes_before, has_guids, if_no_relay, if_redaction, kind_of, name_of_source, redacts_snapshot, sent_of}
 use Rattle.zst_model.specs.states.AppliedItems.{◌>>=◌}
 use Rattle.zst_model.proofs.OrderLaws.{bytes_same, same_bytes}
 use Rattle.zst_laws.specs.LineageRefusals.{NoneHolds}
+use Rattle.zst_laws.specs.SendPlans.{IsOnce}
 use Rattle.zst_laws.proofs.pools.SendPlans.{before_tested}
 use Rattle.zst_laws.proofs.pools.StepRefusals.{passed}
 use Rattle.zst_token.specs.declared.token.Token.{Token}
 use Rattle.zst_plan.specs.AcceptedStreams.{IsFirst}
 use Rattle.zst_plan.specs.AcceptedTokens.{FromIsAbsent, HasNoFrom, IsFirstTo, IsMarkFrom, IsMarkOf, IsRedactedBy, ByNone, ByMark, IsSentFrom, FromNothing, FromSnapshot, FromMark, IsSnapshotFrom, MarkIsAbsent, SentIsAbsent, TokensAreAccepted}
-use Rattle.zst_plan.specs.ResumePlan.{find_from, find_marked, find_to, first_bookmark, first_from, first_snapshot, is_from, is_marked, no_guid, resumed_send}
+use Rattle.zst_plan.specs.ResumePlan.{find_from, find_mark, find_marked, find_to, first_bookmark, first_from, first_snapshot, is_from, is_marked, no_guid, resumed_send}
 use Rattle.zst_plan.proofs.FirstElements.{first_found, first_there, none_found}
 use Rattle.zst_plan.proofs.PlanSteps.{kind_found}
 
@@ -30,7 +31,7 @@ module _ (token : Token) (pool : Pool) where
   then_marked sent source found = found >>= (λ redaction. sent_of pool sent source redaction)
 
   abbrev then_from : Snapshot → Result (Option Source) PlanFault → Result Sent PlanFault
-  then_from sent found = found >>= (λ source. then_marked sent source (find_marked token pool))
+  then_from sent found = found >>= (λ source. then_marked sent source (find_marked token pool sent))
 
   abbrev to_found : Option Snapshot → Result Snapshot PlanFault
   to_found found = ok_or found (no_guid token.to)
@@ -125,7 +126,7 @@ module _ (token : Token) (pool : Pool) where
 
     source_found : {source : Option Source} → IsSentFrom token pool sent source → find_from token pool sent ≡ Ok source
     source_found (FromNothing zero) = ap if_nothing (eq-eqb token.from 0 zero)
-    source_found (FromSnapshot s some first whole) =
+    source_found (FromSnapshot s some first) =
         from_source (Some (OfSnapshot s)) some (ap (λ (o : Option Source). option_or o (first_bookmark token pool sent)) (snapshot_found s first))
     source_found (FromMark b some none first) =
         from_source (Some (OfBookmark b)) some
@@ -138,21 +139,16 @@ module _ (token : Token) (pool : Pool) where
 
     -- E6 and E19 pass it
     abbrev past_source : Option Source → Option Bookmark → Result Sent PlanFault
-    past_source source redaction = if_redaction sent redaction (if_no_relay sent source (Ok (record { snapshot = sent; kind = kind_of pool sent; source = source; redaction = redaction })))
+    past_source source redaction = if_redaction sent redaction (if_no_relay sent redaction (Ok (record { snapshot = sent; kind = kind_of pool sent; source = source; redaction = redaction })))
 
     stands : {source : Option Source} (redaction : Option Bookmark) → IsSentFrom token pool sent source → sent_of pool sent source redaction ≡ past_source source redaction
     stands redaction (FromNothing zero) = refl
-    stands redaction (FromSnapshot s some first whole) =
+    stands redaction (FromSnapshot s some first) =
         passed (not (comes_before pool (OfSnapshot s) sent)) (plans.NotAncestor (names.Snapshot sent.name) (name_of_source (OfSnapshot s))) (past_source (Some (OfSnapshot s)) redaction)
         (not_from_true (comes_before pool (OfSnapshot s) sent) (snapshot_before s (first_snapshot_there s first) first.holds))
     stands redaction (FromMark b some none first) =
         passed (not (comes_before pool (OfBookmark b) sent)) (plans.NotAncestor (names.Snapshot sent.name) (name_of_source (OfBookmark b))) (past_source (Some (OfBookmark b)) redaction)
         (not_from_true (comes_before pool (OfBookmark b) sent) (mark_before b (first_mark_there b first) first.holds))
-
-    is_whole : {source : Option Source} → IsSentFrom token pool sent source → is_redacted source ≡ false
-    is_whole (FromNothing zero) = refl
-    is_whole (FromSnapshot s some first whole) = ap (λ (gs : List ℕ). has_guids gs) whole
-    is_whole (FromMark b some none first) = refl
 
   -- ---- the redaction bookmark
 
@@ -169,49 +165,73 @@ module _ (token : Token) (pool : Pool) where
   marked_found found = ok_or (option_map Some found) (no_guid token.to)
 
   abbrev if_marked : Bool → Result (Option Bookmark) PlanFault
-  if_marked some = if some then marked_found (find (is_marked token) pool.bookmarks) else Ok None
+  if_marked some = if some then marked_found (find (is_marked token) pool.bookmarks) else Err (no_guid token.to)
 
-  redaction_found : {redaction : Option Bookmark} → IsRedactedBy token pool redaction → find_marked token pool ≡ Ok redaction
-  redaction_found (ByNone none) = ap if_marked (ap (λ (gs : List ℕ). has_guids gs) none)
-  redaction_found (ByMark b some first) =
-      ap if_marked (lt-ltb 0 (length token.redact) some)
+  abbrev if_other : Bool → Result (Option Bookmark) PlanFault
+  if_other own = if own then Ok None else find_mark token pool
+
+  -- what is sent has other redaction guids
+  are_others : (sent : Snapshot) → token.redact ≢ sent.redact → bytes_eq sent.redact token.redact ≡ false
+  are_others sent other = false_from_ne_true (bytes_eq sent.redact token.redact) (λ e. other (sym (same_bytes sent.redact token.redact e)))
+
+  redaction_found : {redaction : Option Bookmark} (sent : Snapshot) → IsRedactedBy token pool sent redaction → find_marked token pool sent ≡ Ok redaction
+  redaction_found sent (ByNone own) = ap if_other (bytes_same sent.redact token.redact (sym own))
+  redaction_found sent (ByMark b other some first) =
+      ap if_other (are_others sent other)
+      ∙ ap if_marked (lt-ltb 0 (length token.redact) some)
       ∙ ap marked_found
       (first_found (is_marked token) (IsMarkOf token) pool.bookmarks (λ x k e. mark_of x e) b (mark_is_found b first.holds) first)
 
-  no_redaction : 0 < length token.redact → NoneHolds (IsMarkOf token) pool.bookmarks → find_marked token pool ≡ Err (no_guid token.to)
-  no_redaction some none =
-      ap if_marked (lt-ltb 0 (length token.redact) some)
-      ∙ ap marked_found (none_found (is_marked token) (IsMarkOf token) pool.bookmarks (λ x k e. mark_of x e) none)
+  no_mark_of : (0 < length token.redact → NoneHolds (IsMarkOf token) pool.bookmarks) → find_mark token pool ≡ Err (no_guid token.to)
+  no_mark_of none = go (has_guids token.redact) refl
+    where
+      go : (some : Bool) → has_guids token.redact ≡ some → find_mark token pool ≡ Err (no_guid token.to)
+      go true e =
+          ap if_marked e
+          ∙ ap marked_found (none_found (is_marked token) (IsMarkOf token) pool.bookmarks (λ x k e. mark_of x e) (none (ltb-true 0 (length token.redact) e)))
+      go false e = ap if_marked e
+
+  no_redaction : (sent : Snapshot) → token.redact ≢ sent.redact → (0 < length token.redact → NoneHolds (IsMarkOf token) pool.bookmarks)
+      → find_marked token pool sent ≡ Err (no_guid token.to)
+  no_redaction sent other none = ap if_other (are_others sent other) ∙ no_mark_of none
 
   -- E7 passes it
-  redacts_it : {redaction : Option Bookmark} (sent : Snapshot) (rest : Result Sent PlanFault) → IsFirstTo token pool sent → IsRedactedBy token pool redaction
+  redacts_it : {redaction : Option Bookmark} (sent : Snapshot) (rest : Result Sent PlanFault) → IsFirstTo token pool sent → IsRedactedBy token pool sent redaction
       → if_redaction sent redaction rest ≡ rest
-  redacts_it sent rest first (ByNone none) = refl
-  redacts_it sent rest first (ByMark b some mark) =
+  redacts_it sent rest first (ByNone own) = refl
+  redacts_it sent rest first (ByMark b other some mark) =
       passed (not (redacts_snapshot b sent)) (plans.NotRedactionOf b.name sent.name) rest
       (not_from_true (redacts_snapshot b sent)
       (and_from (has_guids b.redact) (b.guid == sent.guid)
       (ap (λ (gs : List ℕ). has_guids gs) mark.holds.1 ∙ lt-ltb 0 (length token.redact) some)
       (eq-eqb b.guid sent.guid (mark.holds.0 ∙ sym first.holds))))
 
+-- E19 passes what isn't redacted once more
+passes_once : (sent : Snapshot) (redaction : Option Bookmark) → IsOnce sent redaction → (has_guids sent.redact && is_some redaction) ≡ false
+passes_once sent None once = go (has_guids sent.redact)
+  where
+    go : (some : Bool) → (some && false) ≡ false
+    go true = refl
+    go false = refl
+passes_once sent (Some b) once = ap (λ (gs : List ℕ). has_guids gs && true) (once b refl)
+
 pub accepted_so : (token : Token) (pool : Pool) (sent : Snapshot) (source : Option Source) (redaction : Option Bookmark)
-    → IsPool pool → Sound pool → IsFirstTo token pool sent → sent.redact ≡ [] → IsSentFrom token pool sent source → IsRedactedBy token pool redaction
+    → IsPool pool → Sound pool → IsFirstTo token pool sent → IsOnce sent redaction → IsSentFrom token pool sent source → IsRedactedBy token pool sent redaction
     → resumed_send token pool ≡ Ok (record { snapshot = sent; kind = kind_of pool sent; source = source; redaction = redaction })
-accepted_so token pool sent source redaction lawful sound first whole from marked =
+accepted_so token pool sent source redaction lawful sound first once from marked =
     let there = first_there (λ (s : Snapshot). s.guid ≡ token.to) pool.snapshots sent first in
     let relay : Result Sent PlanFault = Ok (record { snapshot = sent; kind = kind_of pool sent; source = source; redaction = redaction }) in
     sent_by token pool
     ∙ ap (then_to token pool) (sent_found token pool sent first)
     ∙ ap (then_from token pool sent) (source_found token pool lawful sound sent there from)
-    ∙ ap (then_marked token pool sent source) (redaction_found token pool marked)
+    ∙ ap (then_marked token pool sent source) (redaction_found token pool sent marked)
     ∙ stands token pool lawful sound sent there redaction from
-    ∙ redacts_it token pool sent (if_no_relay sent source relay) first marked
-    ∙ passed (has_guids sent.redact || is_redacted source) (plans.Unsupported lacks.Relay) relay
-    (or_from (has_guids sent.redact) (is_redacted source) (ap (λ (gs : List ℕ). has_guids gs) whole) (is_whole token pool lawful sound sent there from))
+    ∙ redacts_it token pool sent (if_no_relay sent redaction relay) first marked
+    ∙ passed (has_guids sent.redact && is_some redaction) (plans.Unsupported lacks.Relay) relay (passes_once sent redaction once)
 
 pub accepted : TokensAreAccepted
-accepted token pool sent source redaction dataset lawful sound first whole from marked found =
-    accepted_so token pool sent source redaction lawful sound first whole from marked
+accepted token pool sent source redaction dataset lawful sound first once from marked found =
+    accepted_so token pool sent source redaction lawful sound first once from marked
     ∙ ap (λ (kind : ℕ). Ok (record { snapshot = sent; kind = kind; source = source; redaction = redaction })) (kind_found pool sent dataset found)
 
 pub sent_absent : SentIsAbsent
@@ -228,9 +248,9 @@ from_absent token pool sent lawful sound first some none =
     ∙ ap (then_from token pool sent) (no_source token pool lawful sound sent there some none)
 
 pub mark_absent : MarkIsAbsent
-mark_absent token pool sent source lawful sound first from some none =
+mark_absent token pool sent source lawful sound first from other none =
     let there = first_there (λ (s : Snapshot). s.guid ≡ token.to) pool.snapshots sent first in
     sent_by token pool
     ∙ ap (then_to token pool) (sent_found token pool sent first)
     ∙ ap (then_from token pool sent) (source_found token pool lawful sound sent there from)
-    ∙ ap (then_marked token pool sent source) (no_redaction token pool some none)
+    ∙ ap (then_marked token pool sent source) (no_redaction token pool sent other none)

@@ -9,7 +9,6 @@ use Rattle.zst_dir.specs.RowNames.{AreNamed, NamesBookmark, NamesPartial, NamesS
 use Rattle.zst_dir.specs.Rows.{Rows}
 use Rattle.zst_dir.specs.declared.rows.Bookmark.{Bookmark}
 use Rattle.zst_dir.specs.declared.rows.Dataset.{Dataset}
-use Rattle.zst_dir.specs.declared.rows.Snapshot.{Snapshot}
 use Rattle.zst_dir.proofs.NamedRows.{dataset_is_there}
 use Rattle.zst_model.specs.declared.refusals.faults.Quantity.TheVariants as quantities
 use Rattle.zst_model.specs.declared.refusals.subjects.Holder.TheVariants as holders

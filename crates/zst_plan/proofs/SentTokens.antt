@@ -1,5 +1,5 @@
 -- The token of what was sent.
-use Rattle.std.proofs.Common.{◌≡◌, ◌≢◌, ℕ, ◌<◌, ◌^◌, ◌==◌, List, [], length, Option, Some, None, Ok, Contains, refl, sym, ◌∙◌, subst, arith, find}
+use Rattle.std.proofs.Common.{◌≡◌, ◌≢◌, ℕ, ◌<◌, ◌^◌, ◌==◌, List, [], length, Option, Some, None, Ok, Contains, refl, sym, ap, ◌∙◌, subst, arith, find}
 use Rattle.std.specs.Option.{IfSome}
 use Rattle.std.proofs.lemmas.Bool.{eq-eqb, eqb-true, true≢false}
 use Rattle.std.proofs.lemmas.List.Elements.{All-contains}
@@ -16,15 +16,15 @@ use Rattle.zst_model.specs.states.State.{IsState}
 use Rattle.zst_model.proofs.FoundElements.{found_passes, none_passes}
 use Rattle.zst_laws.specs.LineageRefusals.{NoneHolds}
 use Rattle.zst_laws.specs.RedactionLists.{HaveOwnGuids}
-use Rattle.zst_laws.specs.SendPlans.{IsWhole, StandsBeforeSnapshot}
+use Rattle.zst_laws.specs.SendPlans.{IsOnce, StandsBeforeSnapshot}
 use Rattle.zst_laws.proofs.pools.SendPlans.{plan_has_found, planned_of_pool}
 use Rattle.zst_token.specs.PartialToken.{token_for}
 use Rattle.zst_token.specs.declared.token.Token.{Token}
 use Rattle.zst_plan.specs.AcceptedStreams.{IsFirst}
-use Rattle.zst_plan.specs.AcceptedTokens.{ByMark, ByNone, FromMark, FromNothing, FromSnapshot, HasWholeSource, IsAgain, IsFirstTo, IsMarkFrom, IsMarkOf, IsRedactedBy, IsSentFrom, IsSnapshotFrom, SendsHaveTokens}
+use Rattle.zst_plan.specs.AcceptedTokens.{ByMark, ByNone, FromMark, FromNothing, FromSnapshot, IsAgain, IsFirstTo, IsMarkFrom, IsMarkOf, IsRedactedBy, IsSentFrom, IsSnapshotFrom, SendsHaveTokens}
 use Rattle.zst_plan.specs.ResumePlan.{is_from, is_marked, resumed_send}
 use Rattle.zst_plan.proofs.AcceptedTokens.{accepted_so, mark_is, mark_is_found, mark_of, mark_passes, snapshot_is, snapshot_passes}
-use Rattle.zst_plan.proofs.FirstElements.{first_there, found_is_first, none_holds}
+use Rattle.zst_plan.proofs.FirstElements.{found_is_first, none_holds}
 
 -- a guid isn't 0
 is_some_guid : (guid : ℕ) → IsGuid guid → guid ≢ 0
@@ -51,11 +51,12 @@ record HasFrom (token : Token) (pool : Pool) (sent : Snapshot) (source : Option 
   guid : from_guid other ≡ from_guid source
   guids : source_guids other ≡ source_guids source
 
--- and by a bookmark with the redaction guids of this one
-record HasMark (token : Token) (pool : Pool) (redaction : Option Bookmark) : Type 0 where
+-- and is for the same redaction guids as with this bookmark, or with none
+record HasMark (token : Token) (pool : Pool) (sent : Snapshot) (redaction : Option Bookmark) : Type 0 where
   other : Option Bookmark
-  redacted_by : IsRedactedBy token pool other
-  guids : redaction_guids other ≡ redaction_guids redaction
+  redacted_by : IsRedactedBy token pool sent other
+  once : IsOnce sent other
+  guids : redaction_guids sent other ≡ redaction_guids sent redaction
 
 module _ (token : Token) (pool : Pool) (lawful : IsPool pool) (sound : Sound pool) (sent : Snapshot) (there : Contains pool.snapshots sent) where
   first_from : (s : Snapshot) → find (λ x. is_from token pool sent (OfSnapshot x)) pool.snapshots ≡ Some s → IsFirst (IsSnapshotFrom token pool sent) pool.snapshots s
@@ -75,28 +76,28 @@ module _ (token : Token) (pool : Pool) (lawful : IsPool pool) (sound : Sound poo
   none_mark e = none_holds (λ x. is_from token pool sent (OfBookmark x)) (IsMarkFrom token pool sent) pool.bookmarks (mark_passes token pool lawful sound sent there) e
 
   -- from a snapshot
-  from_snapshot : (s : Snapshot) → Contains pool.snapshots s → StandsBeforeSnapshot pool (OfSnapshot s) sent → s.redact ≡ [] → token.from ≡ s.guid → token.from_redact ≡ []
+  from_snapshot : (s : Snapshot) → Contains pool.snapshots s → StandsBeforeSnapshot pool (OfSnapshot s) sent → token.from ≡ s.guid → token.from_redact ≡ s.redact
       → HasFrom token pool sent (Some (OfSnapshot s))
-  from_snapshot s here before whole from redact = go (find (λ x. is_from token pool sent (OfSnapshot x)) pool.snapshots) refl
+  from_snapshot s here before from redact = go (find (λ x. is_from token pool sent (OfSnapshot x)) pool.snapshots) refl
     where
       some : token.from ≢ 0
       some zero = is_some_guid s.guid (All-contains (λ x. IsGuid x.guid × IsGuidSet x.redact × IsState x.objects.state × (x.time < 2 ^ 64)) pool.snapshots s lawful.snapshots here).0 (sym from ∙ zero)
 
       go : (o : Option Snapshot) → find (λ x. is_from token pool sent (OfSnapshot x)) pool.snapshots ≡ o → HasFrom token pool sent (Some (OfSnapshot s))
-      go None e = absurd (none_from e s here (record { guid = sym from; redact = whole ∙ sym redact; before = before }))
+      go None e = absurd (none_from e s here (record { guid = sym from; redact = sym redact; before = before }))
       go (Some other) e =
           let first = first_from other e in
           record {
             other = Some (OfSnapshot other);
-            sent_from = FromSnapshot other some first (first.holds.redact ∙ redact);
+            sent_from = FromSnapshot other some first;
             guid = first.holds.guid ∙ from;
-            guids = refl;
+            guids = first.holds.redact ∙ redact;
           }
 
   -- from a bookmark, in place of which a snapshot may be found
   from_bookmark : (b : Bookmark) → Contains pool.bookmarks b → StandsBeforeSnapshot pool (OfBookmark b) sent → token.from ≡ b.guid → token.from_redact ≡ b.redact
-      → ((s : Snapshot) → Contains pool.snapshots s → s.guid ≡ b.guid → s.redact ≡ []) → HasFrom token pool sent (Some (OfBookmark b))
-  from_bookmark b here before from redact wholes = go (find (λ x. is_from token pool sent (OfSnapshot x)) pool.snapshots) refl
+      → HasFrom token pool sent (Some (OfBookmark b))
+  from_bookmark b here before from redact = go (find (λ x. is_from token pool sent (OfSnapshot x)) pool.snapshots) refl
     where
       some : token.from ≢ 0
       some zero = is_some_guid b.guid (All-contains (λ x. IsGuid x.guid × IsGuidSet x.redact × IsRunList x.runs × (x.time < 2 ^ 64)) pool.bookmarks b lawful.bookmarks here).0 (sym from ∙ zero)
@@ -117,60 +118,66 @@ module _ (token : Token) (pool : Pool) (lawful : IsPool pool) (sound : Sound poo
       go None e = at_mark (none_from e) (find (λ x. is_from token pool sent (OfBookmark x)) pool.bookmarks) refl
       go (Some other) e =
           let first = first_from other e in
-          let whole = wholes other (first_there (IsSnapshotFrom token pool sent) pool.snapshots other first) (first.holds.guid ∙ from) in
           record {
             other = Some (OfSnapshot other);
-            sent_from = FromSnapshot other some first whole;
+            sent_from = FromSnapshot other some first;
             guid = first.holds.guid ∙ from;
-            guids = sym whole ∙ first.holds.redact ∙ redact;
+            guids = first.holds.redact ∙ redact;
           }
 
   -- from any source
-  from_source : (source : Option Source) → IfSome source (IsIn pool) → IfSome source (λ s. StandsBeforeSnapshot pool s sent) → IfSome source IsWhole
-      → token.from ≡ from_guid source → token.from_redact ≡ source_guids source
-      → ((s : Snapshot) → Contains pool.snapshots s → s.guid ≡ from_guid source → s.redact ≡ []) → HasFrom token pool sent source
-  from_source None here before whole from redact wholes = record { other = None; sent_from = FromNothing from; guid = refl; guids = refl }
-  from_source (Some (OfSnapshot s)) here before whole from redact wholes = from_snapshot s here before whole from redact
-  from_source (Some (OfBookmark b)) here before whole from redact wholes = from_bookmark b here before from redact wholes
+  from_source : (source : Option Source) → IfSome source (IsIn pool) → IfSome source (λ s. StandsBeforeSnapshot pool s sent)
+      → token.from ≡ from_guid source → token.from_redact ≡ source_guids source → HasFrom token pool sent source
+  from_source None here before from redact = record { other = None; sent_from = FromNothing from; guid = refl; guids = refl }
+  from_source (Some (OfSnapshot s)) here before from redact = from_snapshot s here before from redact
+  from_source (Some (OfBookmark b)) here before from redact = from_bookmark b here before from redact
 
 module _ (token : Token) (pool : Pool) where
-  -- the redaction bookmark
-  with_mark : (b : Bookmark) → Contains pool.bookmarks b → 0 < length b.redact → b.guid ≡ token.to → token.redact ≡ b.redact → HasMark token pool (Some b)
-  with_mark b here some guid redact = go (find (is_marked token) pool.bookmarks) refl
+  -- the redaction bookmark, of a snapshot that has no redaction guids itself
+  with_mark : (sent : Snapshot) (b : Bookmark) → Contains pool.bookmarks b → 0 < length b.redact → b.guid ≡ token.to → token.redact ≡ b.redact → sent.redact ≡ []
+      → HasMark token pool sent (Some b)
+  with_mark sent b here some guid redact whole = go (find (is_marked token) pool.bookmarks) refl
     where
-      go : (o : Option Bookmark) → find (is_marked token) pool.bookmarks ≡ o → HasMark token pool (Some b)
+      has : 0 < length token.redact
+      has = subst (λ (gs : List ℕ). 0 < length gs) (sym redact) some
+
+      others : token.redact ≢ sent.redact
+      others same = let none : length token.redact ≡ 0 = ap (λ (gs : List ℕ). length gs) (same ∙ whole) in let more = has in omega (arith, none, more)
+
+      go : (o : Option Bookmark) → find (is_marked token) pool.bookmarks ≡ o → HasMark token pool sent (Some b)
       go None e = absurd (none_holds (is_marked token) (IsMarkOf token) pool.bookmarks (λ y k is. mark_is_found token pool y is) e b here (guid, sym redact))
       go (Some other) e =
           let first = found_is_first (is_marked token) (IsMarkOf token) pool.bookmarks (λ y k passes. mark_of token pool y passes) (λ y k is. mark_is_found token pool y is) other e in
           record {
             other = Some other;
-            redacted_by = ByMark other (subst (λ (gs : List ℕ). 0 < length gs) (sym redact) some) first;
+            redacted_by = ByMark other others has first;
+            once = λ bookmark given. whole;
             guids = first.holds.1 ∙ redact;
           }
 
-  marked_by : (sent : Snapshot) (redaction : Option Bookmark) → IfSome redaction (IsRedactionOf pool sent) → token.to ≡ sent.guid → token.redact ≡ redaction_guids redaction
-      → HasMark token pool redaction
-  marked_by sent None is to redact = record { other = None; redacted_by = ByNone redact; guids = refl }
-  marked_by sent (Some b) is to redact = with_mark b is.there is.guids (is.guid ∙ sym to) redact
+  marked_by : (sent : Snapshot) (redaction : Option Bookmark) → IfSome redaction (IsRedactionOf pool sent) → IsOnce sent redaction → token.to ≡ sent.guid
+      → token.redact ≡ redaction_guids sent redaction → HasMark token pool sent redaction
+  marked_by sent None is once to redact = record { other = None; redacted_by = ByNone redact; once = once; guids = refl }
+  marked_by sent (Some b) is once to redact = with_mark sent b is.there is.guids (is.guid ∙ sym to) redact (once b refl)
 
 -- a token with the guids of what was sent
 record IsTokenOf (token : Token) (sent : Sent) : Type 0 where
   to : token.to ≡ sent.snapshot.guid
   from : token.from ≡ from_guid sent.source
-  redact : token.redact ≡ redaction_guids sent.redaction
+  redact : token.redact ≡ redaction_guids sent.snapshot sent.redaction
   from_redact : token.from_redact ≡ source_guids sent.source
 
-again_sent : (ask : SendAsk) (pool : Pool) (sent : Sent) (token : Token) → IsPool pool → Sound pool → HaveOwnGuids pool → HasWholeSource pool sent → send_plan ask pool ≡ Ok sent
+again_sent : (ask : SendAsk) (pool : Pool) (sent : Sent) (token : Token) → IsPool pool → Sound pool → HaveOwnGuids pool → send_plan ask pool ≡ Ok sent
     → IsTokenOf token sent → (again : Sent) × (resumed_send token pool ≡ Ok again) × IsAgain sent again
-again_sent ask pool sent token lawful sound own whole h is =
+again_sent ask pool sent token lawful sound own h is =
     let planned = planned_of_pool ask pool sent lawful h in
     let found = plan_has_found ask pool sent h in
     let there = planned.is_of.snapshot in
     let first = sent_is_first token pool lawful sound sent.snapshot there own is.to in
-    let from = from_source token pool lawful sound sent.snapshot there sent.source planned.is_of.source planned.before planned.whole_source is.from is.from_redact whole in
-    let mark = marked_by token pool sent.snapshot sent.redaction planned.is_of.redaction is.to is.redact in
+    let from = from_source token pool lawful sound sent.snapshot there sent.source planned.is_of.source planned.before is.from is.from_redact in
+    let mark = marked_by token pool sent.snapshot sent.redaction planned.is_of.redaction planned.once is.to is.redact in
     let made : Sent = record { snapshot = sent.snapshot; kind = kind_of pool sent.snapshot; source = from.other; redaction = mark.other } in
-    let taken = accepted_so token pool sent.snapshot from.other mark.other lawful sound first planned.unredacted from.sent_from mark.redacted_by in
+    let taken = accepted_so token pool sent.snapshot from.other mark.other lawful sound first mark.once from.sent_from mark.redacted_by in
     (made, taken, record { snapshot = refl; kind = sym found.kind; from = from.guid; from_redact = from.guids; redact = mark.guids })
 
 is_token_of : (sent : Sent) (point : Point) → IsTokenOf (token_for (header_of sent) point) sent
@@ -178,4 +185,4 @@ unfolding token_for
 is_token_of sent point = record { to = refl; from = refl; redact = refl; from_redact = refl }
 
 pub sends_have_tokens : SendsHaveTokens
-sends_have_tokens ask pool sent point lawful sound own whole h = again_sent ask pool sent (token_for (header_of sent) point) lawful sound own whole h (is_token_of sent point)
+sends_have_tokens ask pool sent point lawful sound own h = again_sent ask pool sent (token_for (header_of sent) point) lawful sound own h (is_token_of sent point)

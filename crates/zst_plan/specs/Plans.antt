@@ -1,5 +1,5 @@
 -- Which send a plan is of.
-use Rattle.std.specs.Prelude.{◌≡◌, ◌<◌, length, Option, Some, None, IfSome, option_map, ℕ, Result}
+use Rattle.std.specs.Prelude.{◌≡◌, ◌<◌, List, [], length, Option, Some, None, IfSome, option_map, ℕ, Result}
 use Rattle.zst_dir.specs.Rows.{Rows}
 use Rattle.zst_model.specs.pools.Ancestry.{Source, OfSnapshot, OfBookmark, number_of_source}
 use Rattle.zst_model.specs.pools.Pool.{Pool, Snapshot, Bookmark}
@@ -22,6 +22,11 @@ abbrev pub bookmark_source : Option Source → Option Bookmark
 bookmark_source None = None
 bookmark_source (Some (OfSnapshot snapshot)) = None
 bookmark_source (Some (OfBookmark bookmark)) = Some bookmark
+
+-- the redaction guids of a bookmark, where there is one
+abbrev pub mark_guids : Option Bookmark → List ℕ
+mark_guids None = []
+mark_guids (Some bookmark) = bookmark.redact
 
 -- the plan is from this source: its place is that of the snapshot or of the bookmark, and its number and guid are the source's
 pub record IsFrom (rows : Rows) (pool : Pool) (plan : SendPlan) (source : Option Source) : Type 0 where

@@ -1,5 +1,5 @@
 -- What a send from a token is to give, or why it can't (zfs-send(8), -t): its checks in their order.
-use Rattle.std.specs.Prelude.{ℕ, ◌==◌, ◌&&◌, Bool, List, Option, Some, None, option_map, Result, Ok, if◌then◌else◌, bytes_eq, find}
+use Rattle.std.specs.Prelude.{ℕ, ◌==◌, ◌&&◌, Bool, List, Option, Some, None, option_map, Result, Ok, Err, if◌then◌else◌, bytes_eq, find}
 use Rattle.std.specs.Option.{ok_or, option_or}
 use Rattle.zst_model.specs.declared.refusals.subjects.AbsentSubject.TheVariants as missing
 use Rattle.zst_model.specs.declared.refusals.plan_fault.PlanFault.{PlanFault}
@@ -48,15 +48,19 @@ find_from token pool to = if token.from == 0 then Ok None else ok_or (option_map
 abbrev pub is_marked : Token → Bookmark → Bool
 is_marked token bookmark = bookmark.guid == token.to && bytes_eq bookmark.redact token.redact
 
--- the redaction bookmark: the first such one, where the token has redaction guids
-abbrev pub find_marked : Token → Pool → Result (Option Bookmark) PlanFault
-find_marked token pool =
-    if has_guids token.redact then ok_or (option_map Some (find (is_marked token) pool.bookmarks)) (no_guid token.to) else Ok None
+-- the first such bookmark; a token without redaction guids has none
+abbrev pub find_mark : Token → Pool → Result (Option Bookmark) PlanFault
+find_mark token pool =
+    if has_guids token.redact then ok_or (option_map Some (find (is_marked token) pool.bookmarks)) (no_guid token.to) else Err (no_guid token.to)
+
+-- the redaction bookmark: none where the snapshot has the token's redaction guids itself, and else the first that has the to guid and these; a token without redaction guids is of no redacted snapshot
+abbrev pub find_marked : Token → Pool → Snapshot → Result (Option Bookmark) PlanFault
+find_marked token pool to = if bytes_eq to.redact token.redact then Ok None else find_mark token pool
 
 -- what a send from a token is to give: E3 of the snapshot, of the source and of the bookmark come first, and then the checks of each send
 unfoldable pub resumed_send : Token → Pool → Result Sent PlanFault
 resumed_send token pool =
     find_to token pool
     >>= (λ snapshot. find_from token pool snapshot
-    >>= (λ source. find_marked token pool
+    >>= (λ source. find_marked token pool snapshot
     >>= (λ redaction. sent_of pool snapshot source redaction)))

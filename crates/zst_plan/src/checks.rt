@@ -4,7 +4,7 @@ ghost use Rattle.zst_dir.specs.RowNames.{AreNamed, NamesBookmark, NamesSnapshot}
 ghost use Rattle.zst_model.specs.pools.Ancestry as plain;
 ghost use Rattle.zst_model.specs.pools.Pool.{Pool, Bookmark as PlainBookmark, Snapshot as PlainSnapshot};
 ghost use Rattle.zst_model.specs.sends.Headers.{Sent};
-ghost use Rattle.zst_model.specs.sends.SendPlan.{has_guids, if_before, if_no_relay, if_redaction, is_redacted, redacts_snapshot};
+ghost use Rattle.zst_model.specs.sends.SendPlan.{has_guids, if_before, if_no_relay, if_redaction, redacts_snapshot};
 ghost use Rattle.zst_plan.specs.Places.{FindAlike, Judges};
 ghost use Rattle.zst_plan.specs.Sources.{FoundBookmark, NamesSource};
 
@@ -61,24 +61,13 @@ pub fn check_redaction(snapshot: &Snapshot, redaction: Option<&Bookmark>) -> Res
     }
 }
 
-// Whether the source is a redacted snapshot.
-fn is_redacted(source: &Option<Source<'_>>) -> bool
-    ensures { (from : Option plain.Source) → FindAlike NamesSource source.now from → result ≡ is_redacted from }
+/// E19 where a snapshot that is redacted already is to be redacted once more.
+pub fn check_no_relay(snapshot: &Snapshot, redaction: Option<&Bookmark>) -> Result<(), PlanFault>
+    ensures { (to : PlainSnapshot) (list : Option PlainBookmark) (rest : Result Sent PlanFault) → NamesSnapshot snapshot.now to
+        → FindAlike FoundBookmark redaction.entry list → Judges (if_no_relay to list rest) rest result }
 {
-    match source {
-        Some(Source::Snapshot { row, .. }) => has_guids(&row.redact),
-        Some(Source::Bookmark { .. }) => false,
-        None => false,
+    match redaction {
+        Some(_) if has_guids(&snapshot.redact) => Err(PlanFault::Unsupported(Lack::Relay)),
+        _ => Ok(()),
     }
-}
-
-/// E19 where the snapshot, or the snapshot that it is sent from, is redacted.
-pub fn check_no_relay(snapshot: &Snapshot, source: &Option<Source<'_>>) -> Result<(), PlanFault>
-    ensures { (to : PlainSnapshot) (from : Option plain.Source) (rest : Result Sent PlanFault) → NamesSnapshot snapshot.now to
-        → FindAlike NamesSource source.now from → Judges (if_no_relay to from rest) rest result }
-{
-    if has_guids(&snapshot.redact) || is_redacted(source) {
-        return Err(PlanFault::Unsupported(Lack::Relay));
-    }
-    Ok(())
 }

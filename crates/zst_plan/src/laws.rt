@@ -6,8 +6,8 @@ ghost use Rattle.zst_plan.specs.RefusedStreams.{TargetIsThere, LatestIsAnother, 
 ghost use Rattle.zst_plan.specs.RefusedStreams.{OriginIsAbsent, OriginIsAnother, FullWantsFrees, SourceIsAbsent, CloneIsOfKind};
 ghost use Rattle.zst_plan.specs.RefusedStreams.{BaseIsRedacted, NameIsTaken, PartialsAreFull, TargetsAreFull, ReceivesAreFull};
 
-/// An increment that is contained in a redacted base is of a snapshot that the base was redacted for, or its redaction bookmark,
-/// or that of its source, is for some of these.
+/// An increment that is contained in a redacted base, and neither of nor from a redacted snapshot, is of a snapshot that the base was
+/// redacted for, or its redaction bookmark, or that of its source, is for some of these.
 pub fn contained_is_covered()
     ensures { ContainedIsCovered }
 {}

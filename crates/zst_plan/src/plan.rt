@@ -1,13 +1,15 @@
-ghost use Rattle.std.specs.Prelude.{◌≡◌, ◌+◌, ◌<◌, Option, length, IfSome, is_some};
+ghost use Rattle.std.specs.Prelude.{◌≡◌, ◌+◌, ◌<◌, Option, length, IfSome};
 ghost use Rattle.zst_dir.specs.RowNames.{AreNamed, NamesSnapshot};
 ghost use Rattle.zst_model.specs.pools.Ancestry as plain;
 ghost use Rattle.zst_model.specs.pools.Pool.{Pool, Bookmark as PlainBookmark, Snapshot as PlainSnapshot};
-ghost use Rattle.zst_model.specs.sends.Headers.{Sent, clone_part, features_of, free_records, header_of, redaction_guids, spill_block};
+ghost use Rattle.zst_model.specs.sends.Features.{sa_spill};
+ghost use Rattle.zst_model.specs.sends.Headers.{Sent, clone_part, free_records, header_of, redacted_part, redaction_guids, source_guids, spill_block};
 ghost use Rattle.zst_model.specs.sends.SendPlan.{kind_of};
 ghost use Rattle.zst_plan.specs.Places.{FindAlike, StandsAt};
-ghost use Rattle.zst_plan.specs.Plans.{IsInside, IsPlanOf};
+ghost use Rattle.zst_plan.specs.Plans.{IsInside, IsPlanOf, bookmark_source, mark_guids, snapshot_source};
 ghost use Rattle.zst_plan.specs.Sources.{NamesSource};
 
+use crate::checks::has_guids;
 use crate::flags::{CLONE, FREE_RECORDS, SA_SPILL, SPILL_BLOCK};
 use crate::lookups::{bookmark_at, dataset_of};
 use crate::source::Source;
@@ -60,17 +62,41 @@ pub fn kind_of(dir: &Dir, snapshot: &Snapshot) -> u32
 fn guids_at(dir: &Dir, place: Option<usize>) -> GuidSet
     requires { IfSome place (λ p. p < length dir.now.bookmarks) }
     ensures { (pool : Pool) (bookmark : Option PlainBookmark) → AreNamed dir.now pool → FindAlike (StandsAt dir.now.bookmarks pool.bookmarks) place bookmark
-        → result ≡ redaction_guids bookmark }
+        → result ≡ mark_guids bookmark }
 {
     bookmark_at(dir, place).map_or_else(GuidSet::empty, |bookmark| bookmark.redact.duplicate())
 }
 
-// The features of BEGIN: REDACTED where there is a bookmark of `--redact`.
-#[tactic(auto, unfolding(zst_model::specs::sends::Headers::features_of, zst_model::specs::sends::Features::redacts, zst_model::specs::sends::Features::sa_spill))]
-fn features_of(redacted: bool) -> u32
-    ensures { (sent : Sent) → redacted ≡ is_some sent.redaction → result ≡ features_of sent }
+// The redaction guids of the bookmark at this place, or else the snapshot's own.
+fn stated_guids(dir: &Dir, snapshot: &Snapshot, place: Option<usize>) -> GuidSet
+    requires { IfSome place (λ p. p < length dir.now.bookmarks) }
+    ensures { (pool : Pool) (to : PlainSnapshot) (bookmark : Option PlainBookmark) → AreNamed dir.now pool → NamesSnapshot snapshot.now to
+        → FindAlike (StandsAt dir.now.bookmarks pool.bookmarks) place bookmark → result ≡ redaction_guids to bookmark }
 {
-    if redacted {
+    match bookmark_at(dir, place) {
+        Some(bookmark) => bookmark.redact.duplicate(),
+        None => snapshot.redact.duplicate(),
+    }
+}
+
+// The redaction guids of the snapshot at the first place, or else of the bookmark at the other.
+fn source_guids(dir: &Dir, from_snap: Option<usize>, book_f: Option<usize>) -> GuidSet
+    requires snapshot { IfSome from_snap (λ p. p < length dir.now.snapshots) }
+    requires bookmark { IfSome book_f (λ p. p < length dir.now.bookmarks) }
+    ensures { (pool : Pool) (source : Option plain.Source) → AreNamed dir.now pool → FindAlike (StandsAt dir.now.snapshots pool.snapshots) from_snap (snapshot_source source)
+        → FindAlike (StandsAt dir.now.bookmarks pool.bookmarks) book_f (bookmark_source source) → result ≡ source_guids source }
+{
+    match from_snap {
+        Some(place) => dir.snapshots()[place].redact.duplicate(),
+        None => guids_at(dir, book_f),
+    }
+}
+
+// The features of BEGIN: REDACTED where it states redaction guids.
+fn features_of(guids: &GuidSet) -> u32
+    ensures { result ≡ redacted_part guids.now + sa_spill }
+{
+    if has_guids(guids) {
         REDACTED | SA_SPILL
     } else {
         SA_SPILL
@@ -84,17 +110,18 @@ impl SendPlan {
         ensures { (pool : Pool) (sent : Sent) → AreNamed dir.now pool → IsPlanOf dir.now pool self.now sent → result ≡ header_of sent }
     {
         let snapshot = &dir.snapshots()[self.snap];
+        let redact = stated_guids(dir, snapshot, self.book_t);
         Header {
             kind: kind_of(dir, snapshot),
             flags: self.flags,
-            features: features_of(self.book_t.is_some()),
+            features: features_of(&redact),
             time: snapshot.time,
             to: snapshot.guid,
             from: self.from_guid,
             name: NameText::new(snapshot.name.text().as_bytes()),
             resume: None,
-            redact: guids_at(dir, self.book_t),
-            from_redact: guids_at(dir, self.book_f),
+            redact,
+            from_redact: source_guids(dir, self.from_snap, self.book_f),
         }
     }
 }

@@ -1,13 +1,13 @@
 // What a token names, looked up in the directory.
-ghost use Rattle.std.specs.Prelude.{◌≡◌, ◌==◌, ◌&&◌, IfOk, IfSome};
+ghost use Rattle.std.specs.Prelude.{◌≡◌, ◌<◌, ◌==◌, ◌&&◌, length, IfOk, IfSome};
 ghost use Rattle.std.specs.List.{position};
 ghost use Rattle.std.specs.Str.{bytes_eq};
 ghost use Rattle.zst_dir.specs.RowNames.{AreNamed, NamesSnapshot};
 ghost use Rattle.zst_model.specs.pools.Ancestry as plain;
 ghost use Rattle.zst_model.specs.pools.Pool.{Pool, Snapshot as PlainSnapshot};
-ghost use Rattle.zst_plan.specs.Places.{AnswerAlike, AnswersRedaction, AnswersSnapshot, FindAlike};
+ghost use Rattle.zst_plan.specs.Places.{AnswerAlike, AnswersRedaction, AnswersSnapshot, FindAlike, StandsAt};
 ghost use Rattle.zst_plan.specs.Plans.{AnswersPlan};
-ghost use Rattle.zst_plan.specs.ResumePlan.{find_from, find_marked, find_to, first_bookmark, first_from, first_snapshot, is_from, no_guid, resumed_send};
+ghost use Rattle.zst_plan.specs.ResumePlan.{find_from, find_mark, find_marked, find_to, first_bookmark, first_from, first_snapshot, is_from, no_guid, resumed_send};
 ghost use Rattle.zst_plan.specs.Sources.{FindsFirst, IsInRows, IsSource, NamesSource};
 
 use crate::checks::has_guids;
@@ -106,14 +106,35 @@ fn first_marked(dir: &Dir, token: &Token) -> Option<usize>
     })
 }
 
-// Its place, where the token has redaction guids.
-fn find_marked(dir: &Dir, token: &Token) -> Result<Option<usize>, PlanFault>
-    ensures { AnswersRedaction dir.now (find_marked token.now) result }
+// The place of the first bookmark with the token's to guid and redaction guids: E3 where there is none, and where the token has no
+// redaction guids.
+fn find_mark(dir: &Dir, token: &Token) -> Result<Option<usize>, PlanFault>
+    ensures { AnswersRedaction dir.now (find_mark token.now) result }
 {
+    let fault = no_guid(token.to);
     if !has_guids(&token.redact) {
+        return Err(fault);
+    }
+    first_marked(dir, token).map(Some).ok_or(fault)
+}
+
+// Whether the snapshot has the token's redaction guids itself.
+fn is_redacted_alike(token: &Token, to: &Snapshot) -> bool
+    ensures { result ≡ bytes_eq to.now.redact token.now.redact }
+{
+    to.redact.as_slice() == token.redact.as_slice()
+}
+
+// The place of the redaction bookmark, which a snapshot that has the token's redaction guids itself needs none of.
+fn find_marked(dir: &Dir, token: &Token, to: &Snapshot) -> Result<Option<usize>, PlanFault>
+    ensures inside { IfOk result (λ place. IfSome place (λ p. p < length dir.now.bookmarks)) }
+    ensures found { (pool : Pool) (later : PlainSnapshot) → AreNamed dir.now pool → NamesSnapshot to.now later
+        → AnswerAlike (FindAlike (StandsAt dir.now.bookmarks pool.bookmarks)) result (find_marked token.now pool later) }
+{
+    if is_redacted_alike(token, to) {
         return Ok(None);
     }
-    first_marked(dir, token).map(Some).ok_or(no_guid(token.to))
+    find_mark(dir, token)
 }
 
 /// What a send from a token is to give: the places of what the token names, or the first refusal
@@ -124,7 +145,8 @@ pub fn resume_plan(dir: &Dir, token: &Token) -> Result<SendPlan, PlanFault>
     ensures to { IfOk result (λ plan. position (λ snapshot. snapshot.guid == token.now.to) dir.now.snapshots ≡ Some plan.snap) }
 {
     let snap = find_to(dir, token)?;
-    let source = find_from(dir, token, &dir.snapshots()[snap])?;
-    let book_t = find_marked(dir, token)?;
+    let snapshot = &dir.snapshots()[snap];
+    let source = find_from(dir, token, snapshot)?;
+    let book_t = find_marked(dir, token, snapshot)?;
     checked_plan(dir, snap, &source, book_t)
 }

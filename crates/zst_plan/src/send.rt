@@ -71,7 +71,7 @@ fn plan_of(
     }
 }
 
-/// The plan of what was found: E6, E7 or E19 where it can't be sent.
+/// The plan of what was found: E6 or E7 where it can't be sent, and E19 where a redacted snapshot is to be redacted once more.
 pub fn checked_plan(
     dir: &Dir,
     snap: usize,
@@ -88,7 +88,7 @@ pub fn checked_plan(
     let snapshot = &dir.snapshots()[snap];
     check_before(dir, snapshot, source)?;
     check_redaction(snapshot, bookmark_at(dir, book_t))?;
-    check_no_relay(snapshot, source)?;
+    check_no_relay(snapshot, bookmark_at(dir, book_t))?;
     Ok(plan_of(snap, snapshot, source, book_t))
 }
 

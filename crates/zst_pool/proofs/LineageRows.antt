@@ -87,8 +87,9 @@ module _ {bound : Option ℕ} (has : Blocks) (rows : Rows) (pool : Pool) (runs :
         bookmarks = inserted-Match (BookmarkIs has) (λ a b. is_before a.name b.name) (λ a b. is_before a.name b.name) (bookmark_row name snapshot) (bookmark_of name taken)
             (λ x y matches. ap (is_before name) (sym matches.named.name))
             (record {
-              named = record { name = refl; guid = is.named.guid; time = is.named.time; number = is.named.number; redact = refl; no_list = λ none. refl };
+              named = record { name = refl; guid = is.named.guid; time = is.named.time; number = is.named.number; redact = refl };
               list = record { lawful = refl; count_is = refl; leaves = λ some. absurd (omega (arith, some)) };
+              no_list = λ none. refl;
             })
             rows.bookmarks pool.bookmarks runs.bookmarks;
         partials = runs.partials;

@@ -1,11 +1,9 @@
 -- What stands for a pool names it.
-use Rattle.std.proofs.Common.{◌≡◌, suc, List, [], ◌∷◌, map, refl, arith, Option, ℕ}
-use Rattle.std.specs.List.{All}
+use Rattle.std.proofs.Common.{List, [], ◌∷◌, map, refl, Option, ℕ}
 use Rattle.zst_uber.specs.declared.uber.Uber.{Uber}
 use Rattle.zst_model.specs.pools.Pool.{Pool}
 use Rattle.zst_tree.specs.Indices.{Blocks}
 use Rattle.zst_dir.specs.Rows.{Rows}
-use Rattle.zst_dir.specs.declared.rows.Bookmark.{Bookmark}
 use Rattle.zst_pool.specs.Plans.{bare_bookmark, bare_dataset, bare_partial, bare_pool, bare_snapshot}
 use Rattle.zst_dir.specs.RowNames.{AreNamed, Match, NamesBookmark, NamesDataset, NamesPartial, NamesSnapshot}
 use Rattle.zst_image.specs.Reads.{BookmarkIs, DatasetIs, IsNamedBy, PartialIs, RunsBy, SnapshotIs}
@@ -25,23 +23,16 @@ each_made : {A B : Type 0} (Named : A → B → Type 0) (make : A → B) → ((a
 each_made Named make of [] = tt
 each_made Named make of (x ∷ xs) = (of x, each_made Named make of xs)
 
-each_bookmark : (rows : List Bookmark) → All (λ bookmark. bookmark.redact ≡ [] → bookmark.runs ≡ 0) rows → Match NamesBookmark rows (map bare_bookmark rows)
-each_bookmark [] none = tt
-each_bookmark (row ∷ rows) none = (
-  record { name = refl; guid = refl; time = refl; number = refl; redact = refl; no_list = none 0 row (omega arith) },
-  each_bookmark rows (λ k other below. none (suc k) other (omega (arith, below))),
-)
-
 -- a body and its rows name the pool whose objects nothing touched
-pub bare_is_named : (uber : Uber) (rows : Rows) → All (λ bookmark. bookmark.redact ≡ [] → bookmark.runs ≡ 0) rows.bookmarks → IsNamedBy uber rows (bare_pool uber rows)
-bare_is_named uber rows none = record {
+pub bare_is_named : (uber : Uber) (rows : Rows) → IsNamedBy uber rows (bare_pool uber rows)
+bare_is_named uber rows = record {
   id = refl;
   number = refl;
   guids = refl;
   are_named = record {
     datasets = each_made NamesDataset bare_dataset (λ row. record { name = refl; kind = refl; origin = refl; redact = refl }) rows.datasets;
     snapshots = each_made NamesSnapshot bare_snapshot (λ row. record { name = refl; guid = refl; time = refl; number = refl; redact = refl }) rows.snapshots;
-    bookmarks = each_bookmark rows.bookmarks none;
+    bookmarks = each_made NamesBookmark bare_bookmark (λ row. record { name = refl; guid = refl; time = refl; number = refl; redact = refl }) rows.bookmarks;
     partials = each_made NamesPartial bare_partial (λ row. record { target = refl; component = refl; keep = refl; header = refl; base = refl; point = refl }) rows.partials;
   };
 }

@@ -273,11 +273,6 @@ sets_hold has [] (s ∷ redactions) m = absurd m
 sets_hold has (row ∷ rows) [] m = absurd m
 sets_hold has (row ∷ rows) (s ∷ redactions) m = (m.0.objects, sets_hold has rows redactions m.1)
 
--- they are as many
-pub sets_length : (rows : List Snapshot) → length (sets_of rows) ≡ length rows
-sets_length [] = refl
-sets_length (row ∷ rows) = ap suc (sets_length rows)
-
 -- their guids are those of the snapshots that they name
 pub same_guids : (rows : List Snapshot) (redactions : List plain.Snapshot) → Match NamesSnapshot rows redactions → row_guids rows ≡ guids_of redactions
 same_guids [] [] m = refl
@@ -309,8 +304,9 @@ redaction_runs has rows pool runs name row others taken redactions count tree so
   bookmarks = inserted-Match (BookmarkIs has) (λ a b. is_before a.name b.name) (λ a b. is_before a.name b.name) (redaction_row name row (row_guids others) count tree) (redaction_of name taken redactions)
       (λ x y matches. ap (is_before name) (sym matches.named.name))
       (record {
-        named = record { name = refl; guid = is.named.guid; time = is.named.time; number = is.named.number; redact = sym guids; no_list = λ none. absurd (guids_some others some none) };
+        named = record { name = refl; guid = is.named.guid; time = is.named.time; number = is.named.number; redact = sym guids };
         list = list;
+        no_list = λ none. absurd (guids_some others some none);
       })
       rows.bookmarks pool.bookmarks runs.bookmarks;
   partials = runs.partials;

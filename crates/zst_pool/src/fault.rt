@@ -150,7 +150,7 @@ impl From<CommitFault> for PoolFault {
 
 /// What the building of a list answers, as a pool's answer.
 #[tactic(auto, unfolding(zst_model::specs::pools::Limits::most_runs))]
-pub(crate) fn of_built(built: Result<List, OrMemory<RedactFault>>) -> Result<List, PoolFault>
+pub fn of_built(built: Result<List, OrMemory<RedactFault>>) -> Result<List, PoolFault>
     ensures { result ≡ of_built built }
 {
     match built {

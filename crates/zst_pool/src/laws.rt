@@ -1,5 +1,5 @@
 // What the definitions of a pool say of one another.
-ghost use Rattle.std.specs.Prelude.{◌≡◌, ℕ, Bool, Option, [], All};
+ghost use Rattle.std.specs.Prelude.{◌≡◌, ℕ, Bool, Option};
 ghost use Rattle.zst_outside.specs.Images.{Leaves};
 ghost use Rattle.zst_space.specs.FreeSectors.{FreeSectors};
 ghost use Rattle.zst_block.specs.Blocks.{FillsFree, FitsDisk, Has};
@@ -15,10 +15,10 @@ ghost use Rattle.zst_pool.specs.Plans.{bare_pool};
 
 use zst_outside::Disk;
 
-/// A body and its rows name a pool, whatever the object sets hold: one whose objects nothing touched
-/// yet. Only a bookmark with redaction guids has a list.
+/// A body and its rows name a pool, whatever the object sets and the lists hold: one whose objects nothing
+/// touched yet.
 pub fn rows_name_a_pool()
-    ensures { (uber : Uber) (rows : Rows) → All (λ bookmark. bookmark.redact ≡ [] → bookmark.runs ≡ 0) rows.bookmarks → IsNamedBy uber rows (bare_pool uber rows) }
+    ensures { (uber : Uber) (rows : Rows) → IsNamedBy uber rows (bare_pool uber rows) }
 {}
 
 /// A pool that was just opened is at rest; as each pool that an image reads as keeps all its partial

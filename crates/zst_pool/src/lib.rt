@@ -23,6 +23,6 @@ mod redacts;
 mod reopened_pools;
 mod rollbacks;
 
-pub use fault::PoolFault;
+pub use fault::{PoolFault, of_built};
 pub use laws::{blocks_leave_it_at_rest, opened_is_at_rest, rows_name_a_pool};
 pub use pool::Pool;

@@ -53,7 +53,6 @@ fn build_list<D: Disk>(
     row: &Snapshot,
     rows: &[Snapshot],
 ) -> Result<List, PoolFault>
-    requires some { 0 < length rows.now }
     ensures list { (taken : Plain) (redactions : Several Plain) → IsHonest io.new → SnapshotIs None (blocks_of io.old) row.now taken → Match (SnapshotIs None (blocks_of io.old)) rows.now redactions
         → MakesList (left_of taken redactions) result }
     ensures short { IfOk result (λ list. length list ≤ most_runs) }

@@ -1,4 +1,4 @@
-//! What is listed of what no command redacts yet.
+//! What is listed of redactions in a directory that is spelled by hand, and of redacted blocks in a set.
 mod rows;
 mod sets;
 

@@ -45,6 +45,23 @@ fn a_redacted_send_has_the_guids_that_it_is_for(rt: HostRuntime) -> Result<(), F
 }
 
 #[test]
+fn redacted_snapshots_are_sent_on_with_their_guids(rt: HostRuntime) -> Result<(), Fail> {
+    let dir = clones(rt.alloc())?;
+    let full = planned(&dir, "d@x", "")?.header(&dir);
+    // REDACTED is bit 21, SA_SPILL bit 2.
+    assert_eq!(rt; full.features, 0x20_0004);
+    assert!(rt; full.redact.as_slice() == [7].as_slice());
+    assert!(rt; full.from_redact.as_slice().is_empty());
+    let plan = planned(&dir, "d@y", "d@x")?;
+    assert!(rt; plan.from_snap == Some(6) && plan.book_t.is_none());
+    let increment = plan.header(&dir);
+    assert_eq!(rt; increment.features, 0x20_0004);
+    assert!(rt; increment.redact.as_slice() == [7].as_slice());
+    assert!(rt; increment.from_redact.as_slice() == [7].as_slice());
+    Ok(())
+}
+
+#[test]
 fn what_no_command_makes_is_refused_in_order(rt: HostRuntime) -> Result<(), Fail> {
     let dir = clones(rt.alloc())?;
     for (snap, from, redact, text) in [
@@ -53,8 +70,8 @@ fn what_no_command_makes_is_refused_in_order(rt: HostRuntime) -> Result<(), Fail
         ("d@x", "d@y", "", "not an ancestor of d@x: d@y"),
         ("a@t", "", "a#r", "not a redaction of a@t: a#r"),
         ("d@x", "", "d#x", "not a redaction of d@x: d#x"),
-        ("d@x", "", "", "unsupported: relay"),
-        ("d@y", "d@x", "", "unsupported: relay"),
+        ("d@y", "d@x", "d#z", "not a redaction of d@y: d#z"),
+        ("d@x", "", "d#z", "unsupported: relay"),
     ] {
         let ask = ask(snap, from, redact)?;
         assert!(rt; is_refused(&dir, &ask, text), "{text}");

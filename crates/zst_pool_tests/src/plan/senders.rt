@@ -25,16 +25,17 @@ fn push_clones(out: &mut Vec<u8>) -> Result<(), AllocError> {
     push_dataset(out, ("d", ""), &[("x", 65, 6), ("y", 66, 9)], (&[], &[7]))
 }
 
-// Their directory. Of `a@s` there are a plain bookmark and a redaction bookmark, and `a#o` has its number and another guid.
+// Their directory. Of `a@s` and of `d@x` there are a plain bookmark and a redaction bookmark, and `a#o` has the number of `a@s` and another guid.
 pub(super) fn clones(alloc: Global) -> Result<Dir, Fail> {
     let mut out = Vec::new(alloc);
     push_clones(&mut out)?;
-    push_word(&mut out, 4)?;
+    push_word(&mut out, 5)?;
     for (name, guid, number, redact) in [
         ("a#o", 99, 3, [].as_slice()),
         ("a#r", 17, 3, [7, 9].as_slice()),
         ("a#s", 17, 3, [].as_slice()),
         ("d#x", 65, 6, [].as_slice()),
+        ("d#z", 65, 6, [9].as_slice()),
     ] {
         push_bookmark(&mut out, name, [guid, 1_700_000_000, number], redact, 0)?;
     }

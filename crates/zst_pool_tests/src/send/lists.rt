@@ -1,69 +1,53 @@
 // Sends by the lists of redaction bookmarks.
-ghost use Rattle.std.specs.Prelude.{◌≡◌};
-
-use super::sends::{ask, sent, take_rest};
+use super::sends::{ask, sent};
 use crate::bytes_of;
-use crate::pool::lists::{Mark, bookmark, mark_in};
-use crate::pools::{SMALL, pool_on, step_on, with_lines};
+use crate::pool::lists::bookmark;
+use crate::pools::with_lines;
 use crate::refusals::TestRefusal;
 use std::alloc::Global;
-use std::process::Abort;
-use zst_model::{Refusal, Run};
-use zst_outside::{Disk, MemDisk};
-use zst_pool::Pool;
-use zst_send::{FromName, Send, SendAsk};
+use zst_model::Refusal;
+use zst_outside::MemDisk;
+use zst_send::{FromName, SendAsk};
 
-// The one block of the small pool's file.
-const FIRST: Run = Run {
-    object: 1,
-    first: 0,
-    count: 1,
-};
+// The small pool's file and snapshot, a bookmark that withholds its one block, which a clone has changed, and a later snapshot.
+const MARKED: [&str; 9] = [
+    "fs here tank/a",
+    "object here tank/a 1 19 512 0 none none",
+    "write here tank/a 1 0 aa",
+    "snapshot here tank/a@s",
+    "clone here tank/a@s tank/c",
+    "write here tank/c 1 0 bb",
+    "snapshot here tank/c@x",
+    "redact here tank/a@s tank/a#k tank/c@x",
+    "snapshot here tank/a@t",
+];
 
-// Makes the small pool's snapshot one of which that block is to be redacted.
-fn mark_small(
-    rt: &impl Abort,
-    alloc: Global,
-    pool: &mut Pool<'_, MemDisk>,
-) -> Result<(), TestRefusal>
-    ensures same { pool.new.io.disk.ghost_name ≡ pool.old.io.disk.ghost_name }
-{
-    let (guid, number) = match pool.kept.dir.snapshots().first() {
-        Some(row) => (row.guid, row.number),
-        None => (0, 0),
-    };
-    if guid == 0 {
-        return Err(TestRefusal(Refusal::Failed));
-    }
-    let mark = Mark {
-        guid,
-        number,
-        run: FIRST,
-    };
-    mark_in(rt, alloc, pool, "tank/a#k", mark)
-}
-
-// What a send of this ask gives of the small pool that is marked so.
-fn sent_marked(
-    rt: &impl Abort,
+// What a send of a snapshot gives; an empty text asks for no source.
+fn sent_plain(
     alloc: Global,
     disk: &mut MemDisk,
-    ask: &SendAsk,
+    snap: &str,
+    from: &str,
 ) -> Result<Vec<u8>, TestRefusal> {
-    let mut pool = pool_on(alloc, disk)?;
-    mark_small(rt, alloc, &mut pool)?;
-    let mut send = Send::open(&mut pool, alloc, ask)?;
-    let mut bytes = Vec::new(alloc);
-    take_rest(alloc, &mut send, &mut pool, 700, &mut bytes)?;
-    Ok(bytes)
+    Ok(sent(alloc, disk, &ask(snap, from)?, 700)?.bytes)
 }
 
-// A send of the snapshot but for the marked block.
-fn ask_redacted() -> Result<SendAsk, TestRefusal> {
-    Ok(SendAsk {
+// What a send of the first snapshot gives that withholds the block.
+fn sent_redacted(alloc: Global, disk: &mut MemDisk) -> Result<Vec<u8>, TestRefusal> {
+    let asked = SendAsk {
         redact: Some(bookmark("tank/a#k")?),
         ..ask("tank/a@s", "")?
-    })
+    };
+    Ok(sent(alloc, disk, &asked, 700)?.bytes)
+}
+
+// What a send of the later snapshot from the bookmark gives.
+fn sent_from_mark(alloc: Global, disk: &mut MemDisk) -> Result<Vec<u8>, TestRefusal> {
+    let asked = SendAsk {
+        from: Some(FromName::Book(bookmark("tank/a#k")?)),
+        ..ask("tank/a@t", "")?
+    };
+    Ok(sent(alloc, disk, &asked, 700)?.bytes)
 }
 
 // A disk on which each sector that begins with a byte begins with another.
@@ -79,10 +63,9 @@ fn spoiled(alloc: Global, disk: &mut MemDisk, old: u8, new: u8) -> Result<MemDis
 
 #[test]
 fn a_withheld_block_is_sent_as_redacted(rt: HostRuntime) -> Result<(), TestRefusal> {
-    let alloc = rt.alloc();
-    let mut disk = with_lines(alloc, &SMALL)?;
-    let whole = sent(alloc, &mut disk, &ask("tank/a@s", "")?, 700)?.bytes;
-    let redacted = sent_marked(&rt, alloc, &mut disk, &ask_redacted()?)?;
+    let mut disk = with_lines(rt.alloc(), &MARKED)?;
+    let whole = sent_plain(rt.alloc(), &mut disk, "tank/a@s", "")?;
+    let redacted = sent_redacted(rt.alloc(), &mut disk)?;
     assert!(rt; whole.iter().any(|byte| *byte == 0xaa));
     assert!(rt; redacted.len() < whole.len());
     Ok(())
@@ -90,31 +73,23 @@ fn a_withheld_block_is_sent_as_redacted(rt: HostRuntime) -> Result<(), TestRefus
 
 #[test]
 fn damage_of_a_withheld_block_is_no_matter(rt: HostRuntime) -> Result<(), TestRefusal> {
-    let alloc = rt.alloc();
-    let mut disk = with_lines(alloc, &SMALL)?;
-    let mut damaged = spoiled(alloc, &mut disk, 0xaa, 0xab)?;
-    match sent_marked(&rt, alloc, &mut damaged, &ask("tank/a@s", "")?) {
+    let mut disk = with_lines(rt.alloc(), &MARKED)?;
+    let mut damaged = spoiled(rt.alloc(), &mut disk, 0xaa, 0xab)?;
+    match sent_plain(rt.alloc(), &mut damaged, "tank/a@s", "") {
         Err(TestRefusal(Refusal::Damaged { .. })) => {}
         _ => panic!(rt; "a damaged block is sent"),
     }
-    let redacted = sent_marked(&rt, alloc, &mut disk, &ask_redacted()?)?;
-    let beside = sent_marked(&rt, alloc, &mut damaged, &ask_redacted()?)?;
+    let redacted = sent_redacted(rt.alloc(), &mut disk)?;
+    let beside = sent_redacted(rt.alloc(), &mut damaged)?;
     assert!(rt; redacted == beside);
     Ok(())
 }
 
 #[test]
 fn what_a_source_lacks_is_sent_again(rt: HostRuntime) -> Result<(), TestRefusal> {
-    let alloc = rt.alloc();
-    let mut disk = with_lines(alloc, &SMALL)?;
-    step_on(alloc, &mut disk, "snapshot here tank/a@t")?;
-    let none = sent(alloc, &mut disk, &ask("tank/a@t", "tank/a@s")?, 700)?.bytes;
-    let from = Some(FromName::Book(bookmark("tank/a#k")?));
-    let asked = SendAsk {
-        from,
-        ..ask("tank/a@t", "")?
-    };
-    let some = sent_marked(&rt, alloc, &mut disk, &asked)?;
+    let mut disk = with_lines(rt.alloc(), &MARKED)?;
+    let none = sent_plain(rt.alloc(), &mut disk, "tank/a@t", "tank/a@s")?;
+    let some = sent_from_mark(rt.alloc(), &mut disk)?;
     assert!(rt; none.len() + 824 < some.len());
     Ok(())
 }

@@ -1,31 +1,25 @@
-use Rattle.std.proofs.Common.{rules, ◌∙◌, ◌≡◌, ◌&&◌, ◌==◌, Bool, true, false, Option, Some, None, Ok, bytes_eq, if◌then◌else◌, option_map, refl, sym, subst, Result}
-use Rattle.std.specs.List.{find}
-use Rattle.std.specs.Option.{ok_or}
-use Rattle.zst_dir.specs.RowNames.{NamesBookmark}
+use Rattle.std.proofs.Common.{◌∙◌, ℕ, Bool, List, Option, None, Result, Ok, bytes_eq, if◌then◌else◌, sym, ap}
 use Rattle.zst_model.specs.declared.refusals.plan_fault.PlanFault.{PlanFault}
-use Rattle.zst_model.specs.pools.Pool.{Bookmark}
-use Rattle.zst_model.specs.sends.SendPlan.{has_guids}
-use Rattle.zst_plan.specs.Places.{AnswerAlike, FindAlike, StandsAt}
-use Rattle.zst_plan.specs.ResumePlan.{is_marked, no_guid}
-use Rattle.zst_plan.proofs.LookupLemmas.{answers_by, both_find, wrapped}
+use Rattle.zst_model.specs.pools.Pool.{Pool, Bookmark}
+use Rattle.zst_plan.specs.Places.{FindAlike, StandsAt}
+use Rattle.zst_plan.specs.ResumePlan.{find_mark, find_marked}
 use Rattle.zst_plan.proofs.resume.find_marked.Goals as goal
+use Rattle.zst_plan.proofs.AlikeAnswers.{answers, hands_on}
+use Rattle.zst_token.specs.declared.token.Token.{Token}
 
--- what is looked up where there are redaction guids
-looks_up : (b : Bool) (found : Option Bookmark) (fault : PlanFault) → b ≡ true → (if b then ok_or (option_map Some found) fault else Ok None) ≡ ok_or (option_map Some found) fault
-looks_up true found fault is = refl
-looks_up false found fault is = absurd (cc)
+-- none where the guids are the snapshot's own
+abbrev if_other : Token → Pool → Bool → Result (Option Bookmark) PlanFault
+if_other token pool own = if own then Ok None else find_mark token pool
 
-pub returns : goal.returns
-returns c = record {
-  inside = search rules;
-  found = λ pool are.
-      let rows = c.args.dir.now in
-      let token = c.args.token.now in
-      let found = find (is_marked token) pool.bookmarks in
-      let alike = both_find NamesBookmark (λ bookmark. bookmark.guid == token.to && bytes_eq bookmark.redact token.redact) (is_marked token)
-      (λ x y names. rw (names.guid, names.redact) refl) rows.bookmarks pool.bookmarks are.bookmarks c.first_marked.result c.first_marked.ensures in
-      subst (λ (r : Result (Option Bookmark) PlanFault). AnswerAlike (FindAlike (StandsAt rows.bookmarks pool.bookmarks)) c.ok_or.result r)
-      (sym (looks_up (has_guids token.redact) found (no_guid token.to) (sym c.has_guids.ensures ∙ c.if-not-has_guids.false)))
-      (answers_by (FindAlike (StandsAt rows.bookmarks pool.bookmarks)) c.map.result (option_map Some found) c.no_guid.result (no_guid token.to) c.ok_or.result c.ok_or.ensures.value c.no_guid.ensures
-      (wrapped (StandsAt rows.bookmarks pool.bookmarks) c.first_marked.result c.map.result found (λ x w made. search rules) c.map.ensures.cases alike));
-}
+pub returns-then-is_redacted_alike-clause-found : goal.returns-then-is_redacted_alike-clause-found
+returns-then-is_redacted_alike-clause-found c = λ pool later are names.
+    let token = c.args.token.now in
+    let own = ap (λ (guids : List ℕ). bytes_eq guids token.redact) names.redact ∙ sym c.is_redacted_alike.ensures ∙ c.if-is_redacted_alike.true in
+    answers (FindAlike (StandsAt c.args.dir.now.bookmarks pool.bookmarks)) None None (find_marked token pool later) (ap (if_other token pool) own) tt
+
+pub returns-clause-found : goal.returns-clause-found
+returns-clause-found c = λ pool later are names.
+    let token = c.args.token.now in
+    let other = ap (λ (guids : List ℕ). bytes_eq guids token.redact) names.redact ∙ sym c.is_redacted_alike.ensures ∙ c.if-is_redacted_alike.false in
+    hands_on (FindAlike (StandsAt c.args.dir.now.bookmarks pool.bookmarks)) c.find_mark.result (find_marked token pool later) (find_mark token pool) (ap (if_other token pool) other)
+    (c.find_mark.ensures.found pool are)

@@ -34,7 +34,9 @@ returns-in_err-book_t-clause-plans c = record {
       let token = c.args.token.now in
       refuses_list rows pool (find_to token pool) (find_from token pool) (find_marked token pool) (resumed_send token pool) (token_send token pool) c.from_residual-in_err-book_t.result c.in_ok-snap.snap (c.in_ok-snap.ensures.finds.found pool are)
       c.in_ok-source.source (λ snapshot at. c.in_ok-source.ensures.found pool snapshot are (row_names rows pool are c.in_ok-snap.snap c.index-snapshots-snap.result snapshot at
-      (c.index-snapshots-snap.is ∙ ap (λ (xs : List Snapshot). get_or xs c.in_ok-snap.snap c.index-snapshots-snap.result) c.snapshots.ensures))) c.in_err-book_t.field-0.0 c.from_residual-in_err-book_t.ensures.1 (c.in_err-book_t.ensures.found pool are);
+      (c.index-snapshots-snap.is ∙ ap (λ (xs : List Snapshot). get_or xs c.in_ok-snap.snap c.index-snapshots-snap.result) c.snapshots.ensures))) c.in_err-book_t.field-0.0 c.from_residual-in_err-book_t.ensures.1
+      (λ snapshot at. c.in_err-book_t.ensures.found pool snapshot are (row_names rows pool are c.in_ok-snap.snap c.index-snapshots-snap.result snapshot at
+      (c.index-snapshots-snap.is ∙ ap (λ (xs : List Snapshot). get_or xs c.in_ok-snap.snap c.index-snapshots-snap.result) c.snapshots.ensures)));
 }
 
 pub returns-clause-plans : goal.returns-clause-plans
@@ -45,6 +47,8 @@ returns-clause-plans c = record {
       let token = c.args.token.now in
       checks_found rows pool (find_to token pool) (find_from token pool) (find_marked token pool) (resumed_send token pool) (token_send token pool) c.checked_plan.result c.in_ok-snap.snap (c.in_ok-snap.ensures.finds.found pool are)
       c.in_ok-source.source (λ snapshot at. c.in_ok-source.ensures.found pool snapshot are (row_names rows pool are c.in_ok-snap.snap c.index-snapshots-snap.result snapshot at
-      (c.index-snapshots-snap.is ∙ ap (λ (xs : List Snapshot). get_or xs c.in_ok-snap.snap c.index-snapshots-snap.result) c.snapshots.ensures))) c.in_ok-book_t.book_t (c.in_ok-book_t.ensures.found pool are)
+      (c.index-snapshots-snap.is ∙ ap (λ (xs : List Snapshot). get_or xs c.in_ok-snap.snap c.index-snapshots-snap.result) c.snapshots.ensures))) c.in_ok-book_t.book_t
+      (λ snapshot at. c.in_ok-book_t.ensures.found pool snapshot are (row_names rows pool are c.in_ok-snap.snap c.index-snapshots-snap.result snapshot at
+      (c.index-snapshots-snap.is ∙ ap (λ (xs : List Snapshot). get_or xs c.in_ok-snap.snap c.index-snapshots-snap.result) c.snapshots.ensures)))
       (λ snapshot from redaction at. c.checked_plan.ensures.exact pool snapshot from redaction are at);
 }

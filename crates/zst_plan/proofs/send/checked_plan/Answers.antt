@@ -41,7 +41,7 @@ returns-in_err-check_no_relay-clause-exact c = λ pool snapshot source redaction
     both_refuse (IsPlanOf rows pool) c.from_residual-in_err-check_no_relay.result (sent_of pool snapshot source redaction) fault (err_is c.from_residual-in_err-check_no_relay.result fault c.from_residual-in_err-check_no_relay.ensures.1)
     (c.in_ok-check_before.ensures pool snapshot source (after_before pool snapshot source redaction) are names names_from
     ∙ c.in_ok-check_redaction.ensures snapshot redaction (after_redaction pool snapshot source redaction) names (c.bookmark_at.ensures pool redaction are list)
-    ∙ c.in_err-check_no_relay.ensures snapshot source (Ok (the_sent pool snapshot source redaction)) names names_from)
+    ∙ c.in_err-check_no_relay.ensures snapshot redaction (Ok (the_sent pool snapshot source redaction)) names (c.bookmark_at-2.ensures pool redaction are list))
 
 pub returns-clause-exact : goal.returns-clause-exact
 returns-clause-exact c = λ pool snapshot source redaction are at from list.
@@ -52,5 +52,5 @@ returns-clause-exact c = λ pool snapshot source redaction are at from list.
     subst (AnswerAlike (IsPlanOf rows pool) (Ok c.plan_of.result))
     (sym (c.in_ok-check_before.ensures pool snapshot source (after_before pool snapshot source redaction) are names names_from
     ∙ c.in_ok-check_redaction.ensures snapshot redaction (after_redaction pool snapshot source redaction) names (c.bookmark_at.ensures pool redaction are list)
-    ∙ c.in_ok-check_no_relay.ensures snapshot source (Ok (the_sent pool snapshot source redaction)) names names_from))
+    ∙ c.in_ok-check_no_relay.ensures snapshot redaction (Ok (the_sent pool snapshot source redaction)) names (c.bookmark_at-2.ensures pool redaction are list)))
     (c.plan_of.ensures.plan rows pool (the_sent pool snapshot source redaction) at names from list refl)

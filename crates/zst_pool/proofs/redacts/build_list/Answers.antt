@@ -1,6 +1,6 @@
 use Rattle.std.specs.Prelude.{IfErr, Result}
 use Rattle.std.specs.List.{AllZip}
-use Rattle.std.proofs.Common.{◌∙◌, ◌∷◌, ℕ, List, length, sym, ap, subst, arith}
+use Rattle.std.proofs.Common.{◌∙◌, ◌∷◌, ℕ, List, sym, ap, subst}
 use Rattle.zst_block.specs.Blocks.{Has}
 use Rattle.zst_block.specs.IoCalls.{Looks}
 use Rattle.zst_block.specs.IoStates.{io_of}
@@ -20,13 +20,8 @@ use Rattle.zst_pool.specs.Redactions.{MakesList, left_of, sets_of}
 use Rattle.zst_pool.specs.declared.fault.PoolFault.{PoolFault}
 use Rattle.zst_pool.specs.declared.fault.PoolFault.TheVariants.{OutOfMemory}
 use Rattle.zst_pool.proofs.BuiltLists.{built_damage, built_lists, built_open, built_short, built_stop, makes_built}
-use Rattle.zst_pool.proofs.RedactionRows.{sets_hold, sets_length}
+use Rattle.zst_pool.proofs.RedactionRows.{sets_hold}
 use Rattle.zst_pool.proofs.redacts.build_list.Goals as goal
-
-pub build-requires : goal.build-requires
-build-requires g c =
-    let same = c.as_slice.ensures.value ∙ c.in_ok-sets.ensures in
-    record { some = omega (arith, ap (λ (sets : List ObjSet). length sets) same, sets_length c.args.rows.now, c.requires.some) }
 
 pub returns-in_err-sets-clause-list : goal.returns-in_err-sets-clause-list
 returns-in_err-sets-clause-list g c = λ taken redactions told own rest.
