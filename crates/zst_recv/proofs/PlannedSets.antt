@@ -1,6 +1,5 @@
 -- Of which pool a plan over rows is, and that it begins with one set.
-use Rattle.std.proofs.Common.{◌≡◌, ℕ, suc, Bool, true, false, ◌&&◌, ◌||◌, nat_lt, List, [], ◌∷◌, map, Option, Some, None, Result, Ok, Err, refl, sym, ap, ◌∙◌, subst, arith}
-use Rattle.std.specs.List.{All}
+use Rattle.std.proofs.Common.{◌≡◌, ℕ, Bool, true, false, ◌&&◌, ◌||◌, nat_lt, List, [], ◌∷◌, map, Option, Some, None, Result, Ok, Err, refl, sym, ap, ◌∙◌, subst, arith}
 use Rattle.std.proofs.lemmas.Bool.{and_from, and_parts, and_right, false_from_ne_true, ltb-true, or_from, or_left}
 use Rattle.zst_model.specs.declared.refusals.plan_fault.PlanFault.{PlanFault}
 use Rattle.zst_model.specs.pools.Pool.{Pool, is_before, untouched}
@@ -14,7 +13,6 @@ use Rattle.zst_model.proofs.UniqueElements.{same_element}
 use Rattle.zst_tree.specs.declared.tree.ObjSet.{ObjSet}
 use Rattle.zst_dir.specs.RowNames.{Match, NamesBookmark, NamesDataset, NamesPartial, NamesSnapshot}
 use Rattle.zst_dir.specs.Rows.{Rows, IsLawful}
-use Rattle.zst_dir.specs.declared.rows.Bookmark.{Bookmark}
 use Rattle.zst_dir.specs.declared.rows.Dataset.{Dataset}
 use Rattle.zst_dir.specs.declared.rows.Partial.{Partial}
 use Rattle.zst_dir.specs.declared.rows.Snapshot.{Snapshot}
@@ -78,20 +76,13 @@ each_made : {A B : Type 0} (Is : A → B → Type 0) (make : A → B) → ((a : 
 each_made Is make of [] = tt
 each_made Is make of (x ∷ xs) = (of x, each_made Is make of xs)
 
-each_bookmark : (rows : List Bookmark) → All (λ bookmark. bookmark.redact ≡ [] → bookmark.runs ≡ 0) rows → Match NamesBookmark rows (map bare_bookmark rows)
-each_bookmark [] none = tt
-each_bookmark (row ∷ rows) none = (
-  record { name = refl; guid = refl; time = refl; number = refl; redact = refl; no_list = none 0 row (omega arith) },
-  each_bookmark rows (λ k other below. none (suc k) other (omega (arith, below))),
-)
-
 pub dated_named : RowsNameDatedPools
-dated_named rows none = (
+dated_named rows = (
   dated_pool rows,
   record {
     datasets = each_made NamesDataset dated_dataset (λ row. record { name = refl; kind = refl; origin = refl; redact = refl }) rows.datasets;
     snapshots = each_made NamesSnapshot bare_snapshot (λ row. record { name = refl; guid = refl; time = refl; number = refl; redact = refl }) rows.snapshots;
-    bookmarks = each_bookmark rows.bookmarks none;
+    bookmarks = each_made NamesBookmark bare_bookmark (λ row. record { name = refl; guid = refl; time = refl; number = refl; redact = refl }) rows.bookmarks;
     partials = each_made NamesPartial bare_partial (λ row. record { target = refl; component = refl; keep = refl; header = refl; base = refl; point = refl }) rows.partials;
   },
   each_made TellsHead dated_dataset (λ row number. tells_date number (latest_date row.head)) rows.datasets,
@@ -125,6 +116,6 @@ module _ (rows : Rows) (lawful : IsLawful rows) (target : List ℕ) where
   one_plan (Err fault) one other a b = absurd a
 
 pub one_planned : OneSetIsPlanned
-one_planned rows ask header one other lawful none a b =
-    let pool = dated_named rows none in
+one_planned rows ask header one other lawful a b =
+    let pool = dated_named rows in
     one_plan rows lawful ask.target (recv_plan ask header pool.0) one other (a.planned pool.0 pool.1 (λ full there. pool.2)) (b.planned pool.0 pool.1 (λ full there. pool.2))

@@ -1,5 +1,5 @@
 -- That the set with which a receive begins is for the rows alone to say.
-use Rattle.std.specs.Prelude.{◌≡◌, [], All}
+use Rattle.std.specs.Prelude.{◌≡◌}
 use Rattle.zst_model.specs.declared.sends.header.Header.{Header}
 use Rattle.zst_model.specs.pools.Pool.{Pool}
 use Rattle.zst_tree.specs.declared.tree.ObjSet.{ObjSet}
@@ -9,16 +9,12 @@ use Rattle.zst_plan.specs.Receipts.{TellsDates}
 use Rattle.zst_plan.specs.declared.receive.RecvAsk.{RecvAsk}
 use Rattle.zst_recv.specs.Damage.{IsPlannedSet}
 
--- only a bookmark with redaction guids has a list
-abbrev pub HasPlainBookmarks : Rows → Type 0
-HasPlainBookmarks rows = All (λ bookmark. bookmark.redact ≡ [] → bookmark.runs ≡ 0) rows.bookmarks
-
--- such rows name some pool whose heads are dated as their sets tell, so that each plan over them is of one
+-- rows name some pool whose heads are dated as their sets tell, so that each plan over them is of one
 abbrev pub RowsNameDatedPools : Type 0
-RowsNameDatedPools = (rows : Rows) → HasPlainBookmarks rows → (pool : Pool) × AreNamed rows pool × TellsDates rows pool
+RowsNameDatedPools = (rows : Rows) → (pool : Pool) × AreNamed rows pool × TellsDates rows pool
 
--- and where they are lawful, a header's BEGIN begins with one set: no other of the directory stands in its place
+-- and where they are lawful a header's BEGIN begins with one set: no other of the directory stands in its place
 abbrev pub OneSetIsPlanned : Type 0
 OneSetIsPlanned =
-    (rows : Rows) (ask : RecvAsk) (header : Header) (one other : ObjSet) → IsLawful rows → HasPlainBookmarks rows
+    (rows : Rows) (ask : RecvAsk) (header : Header) (one other : ObjSet) → IsLawful rows
     → IsPlannedSet rows ask header one → IsPlannedSet rows ask header other → one ≡ other

@@ -17,4 +17,5 @@ mod TouchedItems
 pub mod SetDates
 mod SetsBut
 mod ListReads
+mod SourceLists
 pub mod StandingRows

@@ -1,5 +1,5 @@
 -- What a plan's rows tell of the send that it is of, where they stand for what a pool lists.
-use Rattle.std.proofs.Common.{◌≡◌, ℕ, Bool, true, false, List, [], ◌∷◌, length, Option, Some, None, Result, Ok, Err, cond, option_map, suc, zero, ◌<◌, sym, ap, ◌∙◌, subst, get_or, arith}
+use Rattle.std.proofs.Common.{◌≡◌, inl, inr, ℕ, Bool, true, false, List, [], ◌∷◌, length, Option, Some, None, Result, Ok, Err, cond, option_map, suc, zero, ◌<◌, refl, sym, ap, ◌∙◌, subst, get_or, arith}
 use Rattle.std.specs.Prelude.{IfErr, IfOk}
 use Rattle.std.proofs.lemmas.List.Quantifiers.{position-Some}
 use Rattle.std.specs.List.{find, position}
@@ -11,13 +11,13 @@ use Rattle.zst_model.specs.declared.sends.ask.SendAsk.{SendAsk}
 use Rattle.zst_model.specs.fields.Lists.{Runs, has_pair}
 use Rattle.zst_model.specs.pools.Ancestry.{number_of_source}
 use Rattle.zst_model.specs.pools.Pool.{Pool}
-use Rattle.zst_model.specs.sends.Headers.{Sent, choice_of, redaction_list, source_list}
+use Rattle.zst_model.specs.sends.Headers.{Sent, choice_of, redaction_list, source_list, source_runs}
 use Rattle.zst_model.specs.sends.Inclusion.{Choice, Pairs}
-use Rattle.zst_model.specs.sends.SendPlan.{send_plan}
+use Rattle.zst_model.specs.sends.SendPlan.{is_redacted, send_plan, with_list}
 use Rattle.zst_objset.specs.Damage.{DamageFact}
 use Rattle.zst_objset.specs.Dnodes.{outside}
 use Rattle.zst_objset.specs.TightSets.{SetIsTightIn}
-use Rattle.zst_plan.specs.Plans.{IsPlanOf, bookmark_source}
+use Rattle.zst_plan.specs.Plans.{IsPlanOf}
 use Rattle.zst_plan.specs.declared.plan.SendPlan.{SendPlan}
 use Rattle.zst_plan.proofs.AlikeAnswers.{at_names}
 use Rattle.zst_block.specs.declared.fault.BlockFault.{BlockFault}
@@ -29,9 +29,9 @@ use Rattle.zst_pool.specs.declared.fault.PoolFault.{PoolFault}
 use Rattle.zst_pool.specs.declared.fault.PoolFault.TheVariants.{Plan, CannotApply, Redacted, Full, Damaged, DiskFault, Failed, OutOfMemory}
 use Rattle.zst_traverse.specs.Cells.{choice_with}
 use Rattle.zst_tree.specs.Indices.{Blocks}
-use Rattle.zst_send.specs.Openings.{IsPlanned, Opens, Starts, runs_in, set_where}
+use Rattle.zst_send.specs.Openings.{IsPlanned, IsUnlisted, Opens, Starts, runs_in, set_where}
 use Rattle.zst_send.specs.declared.send.Send.{Send}
-use Rattle.zst_send.proofs.StandingRows.{redaction_pairs, source_pairs}
+use Rattle.zst_send.proofs.StandingRows.{redaction_pairs}
 
 -- what is found is the first that passes
 found_at : {A : Type 0} (p : A → Bool) (d : A) (xs : List A) (i : ℕ) → i < length xs → p (get_or xs i d) ≡ true → ((k : ℕ) → k < i → p (get_or xs k d) ≡ false) → find p xs ≡ Some (get_or xs i d)
@@ -59,11 +59,11 @@ abbrev choice : Option ℕ → Pairs → Pairs → Choice
 choice from source redact = record { from = from; source = source; redact = redact }
 
 -- what is sent is what the plan's source and these two lists include
-pub plan_choice : (sent : Sent) (from : Option ℕ) (listed redact : Runs) → from ≡ option_map number_of_source sent.source → listed ≡ runs_in (bookmark_source sent.source) → redact ≡ runs_in sent.redaction
+pub plan_choice : (sent : Sent) (from : Option ℕ) (listed redact : Runs) → from ≡ option_map number_of_source sent.source → listed ≡ source_runs sent.source → redact ≡ runs_in sent.redaction
     → choice_of sent ≡ choice_with from listed redact
 plan_choice sent from listed redact number lists redacts =
     ap (λ (from : Option ℕ). choice from (source_list sent.source) (redaction_list sent.redaction)) (sym number)
-    ∙ ap (λ (source : Pairs). choice from source (redaction_list sent.redaction)) (source_pairs sent.source ∙ ap has_pair (sym lists))
+    ∙ ap (λ (runs : Runs). choice from (has_pair runs) (redaction_list sent.redaction)) (sym lists)
     ∙ ap (λ (pairs : Pairs). choice from (has_pair listed) pairs) (redaction_pairs sent.redaction ∙ ap has_pair (sym redacts))
 
 -- the set of the snapshot's row is known as well as the rows
@@ -76,28 +76,36 @@ plan_holds {bound} has rows running runs plan sent is row here =
 
 -- the fault of the plan is the refusal
 pub refuses : (has : Blocks) (ask : SendAsk) (pool : Pool) (result : Result Send PoolFault) (fault : PlanFault) → result ≡ Err (Plan fault) → send_plan ask pool ≡ Err fault → Opens has ask pool result
-refuses has ask pool result fault same is = subst (λ (r : Result Send PoolFault). Opens has ask pool r) (sym same) is
+refuses has ask pool result fault same is = subst (λ (r : Result Send PoolFault). Opens has ask pool r) (sym same) (ap (λ (plan : Result Sent PlanFault). with_list plan) is)
 
 -- so it is for the plan alone
 pub plan_refuses : (plan : Result Sent PlanFault) (result : Result Send PoolFault) (fault : PlanFault) → result ≡ Err (Plan fault) → plan ≡ Err fault → IsPlanned plan result
-plan_refuses plan result fault same is = subst (λ (r : Result Send PoolFault). IsPlanned plan r) (sym same) is
+plan_refuses plan result fault same is = subst (λ (r : Result Send PoolFault). IsPlanned plan r) (sym same) (inl is)
 
--- what passes is opened, unless a list can't be read
-pub passes_planned : (plan : Result Sent PlanFault) (sent : Sent) (result : Result Send PoolFault) → plan ≡ Ok sent → IfErr result IsUnread → IsPlanned plan result
-passes_planned plan sent (Ok send) is unread = (sent, is)
-passes_planned plan sent (Err (Plan fault)) is unread = absurd unread
-passes_planned plan sent (Err (CannotApply fault)) is unread = absurd unread
-passes_planned plan sent (Err (Redacted object block)) is unread = absurd unread
-passes_planned plan sent (Err (Full need largest)) is unread = absurd unread
-passes_planned plan sent (Err (Damaged sector stated found)) is unread = (sent, is)
-passes_planned plan sent (Err DiskFault) is unread = (sent, is)
-passes_planned plan sent (Err Failed) is unread = absurd unread
-passes_planned plan sent (Err OutOfMemory) is unread = (sent, is)
+-- where a list can't be read, the plan passes
+unread_planned : (plan : Result Sent PlanFault) (sent : Sent) (fault : PoolFault) → plan ≡ Ok sent → IsUnread fault → IsPlanned plan (Err fault)
+unread_planned plan sent (Plan fault) is unread = absurd unread
+unread_planned plan sent (CannotApply fault) is unread = absurd unread
+unread_planned plan sent (Redacted object block) is unread = absurd unread
+unread_planned plan sent (Full need largest) is unread = absurd unread
+unread_planned plan sent (Damaged sector stated found) is unread = (sent, is)
+unread_planned plan sent DiskFault is unread = (sent, is)
+unread_planned plan sent Failed is unread = absurd unread
+unread_planned plan sent OutOfMemory is unread = (sent, is)
+
+-- what passes is opened, unless a list can't be read or made
+pub passes_planned : (plan : Result Sent PlanFault) (sent : Sent) (redacted : Type 0) (result : Result Send PoolFault) → plan ≡ Ok sent → (redacted → is_redacted sent.source ≡ true)
+    → IfErr result (IsUnlisted redacted) → IsPlanned plan result
+passes_planned plan sent redacted (Ok send) is source unlisted = (sent, is)
+passes_planned plan sent redacted (Err fault) is source unlisted = elim unlisted [
+  | inl unread ↦ unread_planned plan sent fault is unread
+  | inr long ↦ subst (λ (f : PoolFault). IsPlanned plan (Err f)) (sym long.1) (inr (sent, is, source long.0, refl))
+]
 
 -- and starts by its plan
 pub starts_opened : (has : Blocks) (ask : SendAsk) (pool : Pool) (sent : Sent) (result : Result Send PoolFault) → send_plan ask pool ≡ Ok sent → Starts has sent None result → Opens has ask pool result
-starts_opened has ask pool sent (Ok send) is starts = (sent, is, starts)
-starts_opened has ask pool sent (Err (Plan fault)) is starts = absurd starts
+starts_opened has ask pool sent (Ok send) is starts = (sent, ap (λ (plan : Result Sent PlanFault). with_list plan) is ∙ starts.0, starts.1)
+starts_opened has ask pool sent (Err (Plan fault)) is starts = ap (λ (plan : Result Sent PlanFault). with_list plan) is ∙ starts
 starts_opened has ask pool sent (Err (CannotApply fault)) is starts = absurd starts
 starts_opened has ask pool sent (Err (Redacted object block)) is starts = absurd starts
 starts_opened has ask pool sent (Err (Full need largest)) is starts = absurd starts
@@ -106,9 +114,12 @@ starts_opened has ask pool sent (Err DiskFault) is starts = tt
 starts_opened has ask pool sent (Err Failed) is starts = absurd starts
 starts_opened has ask pool sent (Err OutOfMemory) is starts = tt
 
--- a list that can't be read isn't that the pool failed before
-pub open_yet : (result : Result Send PoolFault) → IfErr result IsUnread → ¬ (result ≡ Err Failed)
-open_yet result unread is = absurd (subst (λ (r : Result Send PoolFault). IfErr r IsUnread) is unread)
+-- a list that can't be read or made isn't that the pool failed before
+pub open_yet : (redacted : Type 0) (result : Result Send PoolFault) → IfErr result (IsUnlisted redacted) → ¬ (result ≡ Err Failed)
+open_yet redacted result unlisted is = elim (subst (λ (r : Result Send PoolFault). IfErr r (IsUnlisted redacted)) is unlisted) [
+  | inl unread ↦ absurd unread
+  | inr long ↦ let same = long.1 in absurd (cc same)
+]
 
 -- ---- what it tells
 
@@ -120,10 +131,6 @@ tight_opened has plan sent (Ok send) is tight = λ other also.
     let same : sent ≡ other = cc (is, also) in
     subst (λ (o : Sent). SetIsTightIn has (outside (has_pair send.subject.redact) has) send.subject.set o.snapshot.objects) same tight
 tight_opened has plan sent (Err fault) is tight = tt
-
-pub tells_more : (Is More : DamageFact) → ((sector : ℕ) (stated found : List ℕ) → Is sector stated found → More sector stated found) → (result : Result Send PoolFault) → IfErr result (IsOf Is) → IfErr result (IsOf More)
-tells_more Is More more (Ok send) told = tt
-tells_more Is More more (Err fault) told = λ sector stated found same. more sector stated found (told sector stated found same)
 
 pub plan_tells : (Is : DamageFact) (result : Result Send PoolFault) (fault : PlanFault) → result ≡ Err (Plan fault) → IfErr result (IsOf Is)
 plan_tells Is result fault same = subst (λ (r : Result Send PoolFault). IfErr r (IsOf Is)) (sym same) (λ sector stated found is. absurd (cc is))

@@ -3,7 +3,7 @@ ghost use Rattle.zst_model.specs.sends.View.{header_from};
 ghost use Rattle.zst_record.specs.Payload.{stated_point};
 
 use crate::block_buffer::BlockBuffer;
-use crate::lists::list_at;
+use crate::lists::{list_at, source_list};
 use crate::send_state::SendState;
 use crate::subject::Subject;
 use std::alloc::Global;
@@ -37,25 +37,24 @@ impl Send {
     ghost use Rattle.zst_model.specs.pools.Pool.{Pool as Plain};
     ghost use Rattle.zst_model.specs.declared.refusals.subjects.Name.TheVariants as names;
     ghost use Rattle.zst_model.specs.declared.sends.header.Point.{Point};
-    ghost use Rattle.zst_model.specs.sends.Headers.{Sent};
+    ghost use Rattle.zst_model.specs.sends.Headers.{Sent, source_runs};
     ghost use Rattle.zst_model.specs.sends.SendPlan.{send_plan};
     ghost use Rattle.zst_objset.specs.Dnodes.{outside};
     ghost use Rattle.zst_objset.specs.TightSets.{SetIsTightIn};
-    ghost use Rattle.zst_plan.specs.Plans.{IsInside, IsPlanOf, bookmark_source};
+    ghost use Rattle.zst_plan.specs.Plans.{IsInside, IsPlanOf};
     ghost use Rattle.zst_pool.specs.Damage.{IsOf};
-    ghost use Rattle.zst_pool.specs.Lists.{IsUnread};
     ghost use Rattle.zst_pool.specs.Lookups.{set_named};
     ghost use Rattle.zst_pool.specs.Queries.{stop_of};
     ghost use Rattle.zst_send.specs.Costs.{TakeCosts};
     ghost use Rattle.zst_send.specs.Damage.{IsDamagedSend};
     ghost use Rattle.zst_send.specs.KnownPointers.{IsAmong, Knows};
-    ghost use Rattle.zst_send.specs.Openings.{IsDamagedOpening, IsDamagedPlan, IsPlanned, Opens, ReadsLists, Resumes, StandsPlanned, StandsSent, Starts, runs_in, set_where, set_with};
+    ghost use Rattle.zst_send.specs.Openings.{IsDamagedOpening, IsDamagedPlan, IsPlanned, IsRedactedAt, IsUnlisted, Opens, ReadsLists, Resumes, StandsPlanned, StandsSent, Starts, runs_in, set_where, set_with};
     ghost use Rattle.zst_send.specs.PendingRecords.{BufferFits};
     ghost use Rattle.zst_send.specs.Sends.{SendFits, SendsFrom, TakesFrom, begun_text, sent_set};
     ghost use Rattle.zst_send.specs.Subjects.{IsTightFor};
     ghost use Rattle.zst_send.specs.Takes.{AreThere, FillsAtMost, ReadsPool};
 
-    /// Plans a send, reads the lists of its bookmarks and takes all of its memory.
+    /// Plans a send, makes the list of a redacted source, reads those of its bookmarks and takes all of its memory.
     pub fn open<D: Disk>(
         pool: &mut Pool<'_, D>,
         alloc: Global,
@@ -67,9 +66,9 @@ impl Send {
         // Of a pool of tight sets its set is tight.
         ensures tight { (image : List ℕ) (space : FreeSectors) (running : Plain) (number : ℕ) → pool.old.io.failed ≡ false → RunsBy (Some number) (Has image space) pool.old.kept.dir running
             → IfOk result (λ send. (sent : Sent) → send_plan ask.now running ≡ Ok sent → SetIsTightIn (Has image space) (outside (has_pair send.subject.redact) (Has image space)) send.subject.set sent.snapshot.objects) }
-        // Its refusals are those of the rows alone, whatever the object sets and the lists hold, unless a list can't be read.
+        // Its refusals are those of the rows alone, whatever the object sets and the lists hold, unless a list can't be read or made.
         ensures planned { (running : Plain) → pool.old.io.failed ≡ false → AreNamed pool.old.kept.dir running → IsPlanned (send_plan ask.now running) result }
-        // E25 tells a list of one of its two bookmarks.
+        // E25 tells a list of one of its two bookmarks, or the set of a redacted source.
         ensures damaged { IsHonest pool.new.io → IfErr result (IsOf (IsDamagedOpening pool.old.io.space.end (disk_of pool.old.io).seen (disk_of pool.old.io).size pool.old.kept.dir (send_plan ask.now))) }
         // It is of the object set that the asked name has, and keeps no pointer yet.
         ensures set { IfOk result (λ send. set_named (names.Snapshot ask.now.snap) pool.old.kept.dir ≡ Some (sent_set send)) }
@@ -85,8 +84,8 @@ impl Send {
         Send::of_plan(&mut pool.io, alloc, &pool.kept.dir, &plan, None)
     }
 
-    /// A send by this plan from a point on, which reads the lists of its bookmarks and takes all of its memory: its BEGIN has
-    /// RESUMING and that point besides.
+    /// A send by this plan from a point on, which makes the list of a redacted source, reads those of its bookmarks and takes
+    /// all of its memory: its BEGIN has RESUMING and that point besides.
     pub fn resume<D: Disk>(
         pool: &mut Pool<'_, D>,
         alloc: Global,
@@ -101,9 +100,9 @@ impl Send {
         // Of a pool of tight sets its set is tight.
         ensures tight { (image : List ℕ) (space : FreeSectors) (running : Plain) (sent : Sent) (number : ℕ) → RunsBy (Some number) (Has image space) pool.old.kept.dir running → IsPlanOf pool.old.kept.dir running plan.now sent
             → IfOk result (λ send. SetIsTightIn (Has image space) (outside (has_pair send.subject.redact) (Has image space)) send.subject.set sent.snapshot.objects) }
-        // It isn't refused, unless a list can't be read.
+        // It isn't refused, unless a list can't be read or made.
         ensures planned { (running : Plain) (sent : Sent) → pool.old.io.failed ≡ false → AreNamed pool.old.kept.dir running → IsPlanOf pool.old.kept.dir running plan.now sent → IsPlanned (Ok sent) result }
-        // E25 tells a list of one of its two bookmarks.
+        // E25 tells a list of one of its two bookmarks, or the set of a redacted source.
         ensures damaged { IsHonest pool.new.io → IfErr result (IsOf (IsDamagedPlan pool.old.io.space.end (disk_of pool.old.io).seen (disk_of pool.old.io).size pool.old.kept.dir plan.now)) }
         // It is of the object set of the planned snapshot, the first with its guid, and keeps no pointer yet.
         ensures set { (guid : ℕ) → position (λ snapshot. snapshot.guid == guid) pool.old.kept.dir.snapshots ≡ Some plan.now.snap → IfOk result (λ send. set_with guid pool.old.kept.dir ≡ Some (sent_set send)) }
@@ -158,7 +157,7 @@ impl Send {
         Ok(count)
     }
 
-    // A send by this plan, from its beginning or from a point, over a disk that works: the lists are read of it.
+    // A send by this plan, from its beginning or from a point, over a disk that works, of which its lists are made and read.
     fn of_plan<D: Disk>(
         io: &mut Io<'_, D>,
         alloc: Global,
@@ -171,14 +170,14 @@ impl Send {
             → Starts (blocks_of io.new) sent start result }
         ensures tight { (image : List ℕ) (space : FreeSectors) (running : Plain) (sent : Sent) (number : ℕ) → RunsBy (Some number) (Has image space) dir.now running → IsPlanOf dir.now running plan.now sent
             → IfOk result (λ send. SetIsTightIn (Has image space) (outside (has_pair send.subject.redact) (Has image space)) send.subject.set sent.snapshot.objects) }
-        ensures unread { IfErr result IsUnread }
+        ensures unlisted { IfErr result (IsUnlisted (IsRedactedAt dir.now plan.now.from_snap)) }
         ensures damaged { IsHonest io.new → IfErr result (IsOf (IsDamagedPlan io.old.space.end (disk_of io.old).seen (disk_of io.old).size dir.now plan.now)) }
         ensures set { (test : SnapshotRow → Bool) → position test dir.now.snapshots ≡ Some plan.now.snap → IfOk result (λ send. set_where test dir.now ≡ Some (sent_set send)) }
         ensures knows { (images : List (List ℕ)) → IfOk result (Knows (IsAmong images)) }
         ensures fits { IfOk result SendFits }
         ensures looks { Looks (io_of io.old) (io_of io.new) (stop_of result) }
     {
-        let listed = list_at(io, alloc, dir, plan.book_f)?;
+        let listed = source_list(io, alloc, dir, plan)?;
         let redact = list_at(io, alloc, dir, plan.book_t)?;
         let buffer = BlockBuffer::new(alloc)?;
         Ok(Send::planned(dir, plan, start, listed, redact, buffer))
@@ -200,7 +199,7 @@ impl Send {
         ensures knows { (images : List (List ℕ)) → Knows (IsAmong images) result }
         ensures fits { SendFits result }
         ensures sends { (image : List ℕ) (space : FreeSectors) (running : Plain) (sent : Sent) → AreNamed dir.now running → IsPlanOf dir.now running plan.now sent → StandsSent (Has image space) dir.now running sent
-            → listed ≡ runs_in (bookmark_source sent.source) → redact ≡ runs_in sent.redaction → SendsFrom (Has image space) result sent start [] (begun_text sent start) }
+            → listed ≡ source_runs sent.source → redact ≡ runs_in sent.redaction → SendsFrom (Has image space) result sent start [] (begun_text sent start) }
         ensures tight { (image : List ℕ) (space : FreeSectors) (running : Plain) (sent : Sent) (number : ℕ) → RunsBy (Some number) (Has image space) dir.now running → IsPlanOf dir.now running plan.now sent
             → SetIsTightIn (Has image space) (outside (has_pair result.subject.redact) (Has image space)) result.subject.set sent.snapshot.objects }
     {

@@ -11,8 +11,10 @@ use Rattle.zst_plan.specs.Plans.{IsPlanOf}
 use Rattle.zst_plan.proofs.AlikeAnswers.{ok_alike, err_alike}
 use Rattle.zst_pool.proofs.NamedPools.{rows_named}
 use Rattle.zst_pool.specs.declared.fault.PoolFault.TheVariants.{Plan}
-use Rattle.zst_send.specs.Openings.{IsDamagedOpening, IsDamagedPlan}
-use Rattle.zst_send.proofs.PlanRows.{open_yet, passes_planned, plan_refuses, plan_tells, refuses, starts_opened, tells_more, tight_opened}
+use Rattle.zst_send.specs.Openings.{IsDamagedOpening, IsDamagedPlan, IsRedactedAt}
+use Rattle.zst_send.proofs.PlanRows.{open_yet, passes_planned, plan_refuses, plan_tells, refuses, starts_opened, tight_opened}
+use Rattle.zst_send.proofs.SourceLists.{tells_more}
+use Rattle.zst_send.proofs.StandingRows.{redacted_by_row}
 use Rattle.zst_send.proofs.send.Send.open.Goals as goal
 
 -- ---- a pool that has failed
@@ -85,7 +87,8 @@ returns-clause-planned g c = λ running live named.
     let rows = c.args.pool.now.kept.dir in
     let ask = c.args.ask.now in
     let s = ok_alike (IsPlanOf rows running) c.in_ok-plan.plan (send_plan ask running) (c.in_ok-plan.ensures.plans.found running named) in
-    passes_planned (send_plan ask running) s.0 c.of_plan.result s.1 c.of_plan.ensures.unread
+    let from = c.in_ok-plan.plan.from_snap in
+    passes_planned (send_plan ask running) s.0 (IsRedactedAt rows from) c.of_plan.result s.1 (redacted_by_row rows running from s.0.source named s.2.source.snapshot) c.of_plan.ensures.unlisted
 
 pub returns-clause-damaged : goal.returns-clause-damaged
 returns-clause-damaged g c = λ honest.
@@ -102,7 +105,7 @@ returns-clause-set g c = c.of_plan.ensures.set (λ snapshot. bytes_eq snapshot.n
 pub returns-clause-pool : goal.returns-clause-pool
 returns-clause-pool g c = record {
   failed_pool = λ failed. absurd (true≢false (sym failed ∙ c.if-pool.false));
-  open_still = λ still is. open_yet c.of_plan.result c.of_plan.ensures.unread is;
+  open_still = λ still is. open_yet (IsRedactedAt c.args.pool.now.kept.dir c.in_ok-plan.plan.from_snap) c.of_plan.result c.of_plan.ensures.unlisted is;
   looks = c.of_plan.ensures.looks;
   kept = refl;
 }
