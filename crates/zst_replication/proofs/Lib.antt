@@ -40,5 +40,6 @@ mod SoundSnapshots
 mod PoolInvariants
 mod SoundFeeds
 mod RedactedBases
+mod Relays
 mod ListedReceives
 mod TextTokens

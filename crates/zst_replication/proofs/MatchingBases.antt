@@ -1,5 +1,5 @@
 -- Which bases match what is sent.
-use Rattle.std.proofs.Common.{◌≡◌, ℕ, ◌<◌, ◌^◌, ◌==◌, false, List, ◌++◌, map, Option, Some, None, option_map, Ok, refl, sym, ap, ◌∙◌, subst, arith}
+use Rattle.std.proofs.Common.{◌≡◌, ℕ, ◌<◌, ◌^◌, ◌==◌, false, List, [], ◌∷◌, ◌++◌, length, map, Option, Some, None, option_map, Ok, refl, sym, ap, ◌∙◌, subst, arith}
 use Rattle.std.specs.Prelude.{Contains, IfSome}
 use Rattle.std.proofs.lemmas.Bool.Decides.{nat_tests}
 use Rattle.std.proofs.lemmas.List.Elements.{All-contains, Contains-append_left}
@@ -48,6 +48,11 @@ module _ (pool : Pool) (is : IsPool pool) where
   some_guid (OfSnapshot snapshot) there = (snapshot_is snapshot there).0.0
   some_guid (OfBookmark bookmark) there =
       (All-contains (λ (b : Bookmark). IsGuid b.guid × IsGuidSet b.redact × IsRunList b.runs × (b.time < 2 ^ 64)) pool.bookmarks bookmark is.bookmarks there).0.0
+
+-- what has guids isn't empty
+pub isnt_empty : (guids : List ℕ) → 0 < length guids → guids ≡ [] → ⊥
+isnt_empty [] some e = let never : 0 < 0 = some in omega (arith, never)
+isnt_empty (guid ∷ guids) some e = cc
 
 pub not_full : (guid : ℕ) → 0 < guid → (guid == 0) ≡ false
 not_full guid some = grind (arith, nat_tests, some)

@@ -1,5 +1,5 @@
 -- Plans of receives of what was sent.
-use Rattle.std.proofs.Common.{◌≡◌, ◌≢◌, ℕ, ◌+◌, true, List, Option, Some, None, bit_and, refl, sym, ap, ◌∙◌, subst, arith}
+use Rattle.std.proofs.Common.{◌≡◌, ◌≢◌, ℕ, ◌+◌, true, List, [], ◌∷◌, Option, Some, None, bit_and, refl, sym, ap, ◌∙◌, subst, arith}
 use Rattle.std.specs.Prelude.{Contains, IfSome, bytes_eq}
 use Rattle.std.specs.Option.{option_map_or}
 use Rattle.std.proofs.lemmas.Bool.{true≢false}
@@ -8,9 +8,9 @@ use Rattle.zst_names.specs.Marks.{at_is_mark}
 use Rattle.zst_names.specs.Names.{IsSnapshot, component_of, dataset_of}
 use Rattle.zst_names.proofs.MarkedNames.{join_is_name}
 use Rattle.zst_model.specs.pools.Ancestry.{Source, IsIn}
-use Rattle.zst_model.specs.pools.Pool.{Bookmark, Dataset, HasDataset, IsPool, Pool, Snapshot, dataset_named, dataset_of_snapshot, snapshot_named}
+use Rattle.zst_model.specs.pools.Pool.{Dataset, HasDataset, IsPool, Pool, Snapshot, dataset_named, dataset_of_snapshot, snapshot_named}
 use Rattle.zst_model.specs.sends.Features.{redacts, resuming, sa_spill}
-use Rattle.zst_model.specs.sends.Headers.{Sent, features_of, from_guid, guid_of_source, header_of, redacted_part}
+use Rattle.zst_model.specs.sends.Headers.{Sent, features_of, from_guid, guid_of_source, header_of, redacted_part, redaction_guids}
 use Rattle.zst_model.proofs.FoundElements.{found_passes, none_passes}
 use Rattle.zst_model.proofs.OrderLaws.{bytes_same, same_bytes}
 use Rattle.zst_plan.specs.AcceptedStreams.{Asked, ComesAs, IsFresh, Stated, StreamsBegin, TakesLatest, TakesNothing, nothing, over}
@@ -20,14 +20,14 @@ use Rattle.zst_replication.specs.PlannedReceives.{CanReceive, FullIsPlanned, Inc
 use Rattle.zst_replication.proofs.MatchingBases.{some_guid}
 
 -- a send that isn't resumed says so
-says_none : (redaction : Option Bookmark) → bit_and (redacted_part redaction + sa_spill) resuming ≡ 0
+says_none : (guids : List ℕ) → bit_and (redacted_part guids + sa_spill) resuming ≡ 0
 unfolding sa_spill redacts resuming
-says_none None = refl
-says_none (Some bookmark) = refl
+says_none [] = refl
+says_none (guid ∷ guids) = refl
 
 not_resumed : (sent : Sent) → bit_and (header_of sent).features resuming ≡ 0
 unfolding features_of
-not_resumed sent = says_none sent.redaction
+not_resumed sent = says_none (redaction_guids sent.snapshot sent.redaction)
 
 -- the component that comes
 comes_as : (ask : RecvAsk) (sent : Sent) → IsSnapshot sent.snapshot.name → ComesAs ask (header_of sent) (component_asked ask sent)

@@ -1,5 +1,5 @@
 -- A receive of a send that goes on with a partial state of its target, and what is sent for it.
-use Rattle.std.proofs.Common.{◌≡◌, ℕ, ◌+◌, ◌==◌, ◌&&◌, Bool, true, not, List, ◌++◌, ◌∷◌, Option, Some, None, Result, Ok, Err, refl, sym, ap, ◌∙◌, subst, eq-eqb}
+use Rattle.std.proofs.Common.{◌≡◌, ℕ, ◌+◌, ◌==◌, ◌&&◌, Bool, true, not, List, [], ◌++◌, ◌∷◌, Option, Some, None, Result, Ok, Err, refl, sym, ap, ◌∙◌, subst, eq-eqb}
 use Rattle.std.specs.Prelude.{bit_and, bit_or, bytes_eq, if◌then◌else◌}
 use Rattle.std.specs.Option.{option_map_or}
 use Rattle.std.proofs.lemmas.List.Elements.{All-contains}
@@ -9,9 +9,9 @@ use Rattle.zst_model.specs.declared.refusals.plan_fault.PlanFault.TheVariants as
 use Rattle.zst_model.specs.declared.sends.header.Header.{Header}
 use Rattle.zst_model.specs.declared.sends.header.Point.{Point}
 use Rattle.zst_model.specs.pools.KeptPool.{kept_of}
-use Rattle.zst_model.specs.pools.Pool.{Bookmark, HasSnapshot, IsPool, Partial, Pool, Snapshot, partial_of, snapshot_named}
+use Rattle.zst_model.specs.pools.Pool.{HasSnapshot, IsPool, Partial, Pool, Snapshot, partial_of, snapshot_named}
 use Rattle.zst_model.specs.sends.Features.{redacts, resuming, sa_spill}
-use Rattle.zst_model.specs.sends.Headers.{Sent, features_of, header_of, redacted_part, sent_view}
+use Rattle.zst_model.specs.sends.Headers.{Sent, features_of, header_of, redacted_part, redaction_guids, sent_view}
 use Rattle.zst_model.specs.sends.PartialProgress.{IsPartWay}
 use Rattle.zst_model.specs.sends.Target.{target}
 use Rattle.zst_model.specs.sends.View.{View}
@@ -99,14 +99,14 @@ fit_received laws sent also state ask pool after partial last pieces lawful unde
 same_is : (n : ℕ) → (n == n) ≡ true
 same_is n = eq-eqb n n refl
 
-says_resuming : (redaction : Option Bookmark) → not (bit_and (bit_or (redacted_part redaction + sa_spill) resuming) resuming == 0) ≡ true
+says_resuming : (guids : List ℕ) → not (bit_and (bit_or (redacted_part guids + sa_spill) resuming) resuming == 0) ≡ true
 unfolding sa_spill resuming redacts
-says_resuming None = refl
-says_resuming (Some bookmark) = refl
+says_resuming [] = refl
+says_resuming (guid ∷ guids) = refl
 
 is_resuming : (sent : Sent) (point : Point) → is_resumed (begun sent (Some point)) ≡ true
 unfolding features_of
-is_resuming sent point = says_resuming sent.redaction
+is_resuming sent point = says_resuming (redaction_guids sent.snapshot sent.redaction)
 
 goes_so : (partial : Partial) (header : Header) → partial.header ≡ header → (features : ℕ) → goes_on partial (record header { features = features; resume = Some partial.point }) ≡ true
 goes_so partial header same features =

@@ -1,6 +1,6 @@
 -- What is sent of a lawful pool can be stated, from its beginning and from each point.
-use Rattle.std.proofs.Common.{◌≡◌, inl, inr, ℕ, suc, ◌+◌, ◌<◌, ◌^◌, ◌==◌, ◌||◌, not, nat_lt, Bool, true, false, List, [], ◌∷◌, length, Option, Some, None, option_map, Result, Ok, refl, sym, ap, ◌∙◌, subst, cond, find, arith}
-use Rattle.std.specs.Prelude.{Contains, IfSome, bit_and, bit_or, bytes_eq, if◌then◌else◌}
+use Rattle.std.proofs.Common.{◌≡◌, inl, inr, ℕ, suc, ◌+◌, ◌<◌, ◌^◌, ◌==◌, ◌&&◌, ◌||◌, not, nat_lt, Bool, true, false, List, [], ◌∷◌, length, Option, Some, None, option_map, Result, Ok, Err, refl, sym, ap, ◌∙◌, subst, cond, find, arith}
+use Rattle.std.specs.Prelude.{Contains, IfSome, bit_and, bit_or, bytes_eq, is_some, if◌then◌else◌}
 use Rattle.std.specs.List.{position_or_len}
 use Rattle.std.specs.Option.{ok_or, option_map_or, option_or}
 use Rattle.std.proofs.lemmas.Bool.{true≢false, and_parts, eqb-true, ltb-true, not-false}
@@ -17,8 +17,8 @@ use Rattle.zst_model.specs.fields.Guids.{IsGuidSet}
 use Rattle.zst_model.specs.pools.Ancestry.{Source, OfSnapshot, OfBookmark, IsIn}
 use Rattle.zst_model.specs.pools.Pool.{Bookmark, Dataset, HasDataset, IsGuid, IsKind, IsPool, IsStated, Pool, Snapshot, dataset_named, dataset_of_snapshot}
 use Rattle.zst_model.specs.sends.Features.{redacts, resuming, sa_spill}
-use Rattle.zst_model.specs.sends.Headers.{IsOf, IsRedactionOf, Sent, choice_of, clone_flag, clone_part, features_of, flags_of, free_records, header_of, is_elsewhere, redacted_part, redaction_list, spill_block}
-use Rattle.zst_model.specs.sends.SendPlan.{comes_before, has_guids, if_before, if_no_relay, if_redaction, is_redacted, kind_of, redacts_snapshot, sent_of}
+use Rattle.zst_model.specs.sends.Headers.{IsOf, IsRedactionOf, Sent, choice_of, clone_flag, clone_part, features_of, flags_of, free_records, header_of, is_elsewhere, redacted_part, redaction_guids, redaction_list, spill_block}
+use Rattle.zst_model.specs.sends.SendPlan.{comes_before, has_guids, if_before, if_no_relay, if_redaction, kind_of, redacts_snapshot, sent_of}
 use Rattle.zst_model.specs.states.AppliedItems.{◌>>=◌}
 use Rattle.zst_model.specs.states.State.{IsState}
 use Rattle.zst_model.proofs.FoundElements.{found_passes, none_passes}
@@ -36,7 +36,7 @@ use Rattle.zst_send.specs.Sends.{begun}
 use Rattle.zst_replication.specs.MatchingBases.{IsTokenPoint, IsWithin, RestCanBeSent, SentCanBeSent}
 use Rattle.zst_replication.specs.Replicas.{IsSendable}
 use Rattle.zst_replication.proofs.ReceivePlans.{or_parts}
-use Rattle.zst_replication.proofs.MatchingBases.{not_full}
+use Rattle.zst_replication.proofs.MatchingBases.{isnt_empty, not_full}
 
 -- ---- what a token finds is of its pool
 
@@ -66,17 +66,22 @@ source_there token pool to source e = go (token.from == 0) e
         source_from pool.snapshots pool.bookmarks (λ snapshot. is_from token pool to (OfSnapshot snapshot)) (λ bookmark. is_from token pool to (OfBookmark bookmark)) (no_guid token.from) source pool refl refl e
 
 -- the redaction bookmark that a token finds is there
-marked_there : (token : Token) (pool : Pool) (redaction : Option Bookmark) → find_marked token pool ≡ Ok redaction → IfSome redaction (Contains pool.bookmarks)
-marked_there token pool redaction e = go (has_guids token.redact) e
+marked_there : (token : Token) (pool : Pool) (to : Snapshot) (redaction : Option Bookmark) → find_marked token pool to ≡ Ok redaction → IfSome redaction (Contains pool.bookmarks)
+marked_there token pool to redaction e = same (bytes_eq to.redact token.redact) e
   where
     found : (o : Option Bookmark) → find (is_marked token) pool.bookmarks ≡ o → ok_or (option_map Some o) (no_guid token.to) ≡ Ok redaction → IfSome redaction (Contains pool.bookmarks)
     found None is e = absurd cc
     found (Some bookmark) is e =
         subst (λ (o : Option Bookmark). IfSome o (Contains pool.bookmarks)) (ok_parts (Some bookmark) redaction e) (found_passes (is_marked token) pool.bookmarks bookmark is).0
 
-    go : (t : Bool) → cond t (ok_or (option_map Some (find (is_marked token) pool.bookmarks)) (no_guid token.to)) (Ok None) ≡ Ok redaction → IfSome redaction (Contains pool.bookmarks)
-    go true e = found (find (is_marked token) pool.bookmarks) refl e
-    go false e = subst (λ (o : Option Bookmark). IfSome o (Contains pool.bookmarks)) (ok_parts None redaction e) tt
+    listed : (t : Bool) → cond t (ok_or (option_map Some (find (is_marked token) pool.bookmarks)) (no_guid token.to)) (Err (no_guid token.to)) ≡ Ok redaction → IfSome redaction (Contains pool.bookmarks)
+    listed true e = found (find (is_marked token) pool.bookmarks) refl e
+    listed false e = absurd cc
+
+    same : (t : Bool) → cond t (Ok None) (cond (has_guids token.redact) (ok_or (option_map Some (find (is_marked token) pool.bookmarks)) (no_guid token.to)) (Err (no_guid token.to))) ≡ Ok redaction
+        → IfSome redaction (Contains pool.bookmarks)
+    same true e = subst (λ (o : Option Bookmark). IfSome o (Contains pool.bookmarks)) (ok_parts None redaction e) tt
+    same false e = listed (has_guids token.redact) e
 
 -- what passes the checks of a send is what was found
 past_before : (pool : Pool) (snapshot : Snapshot) (source : Option Source) (rest : Result Sent PlanFault) (sent : Sent) → if_before pool snapshot source rest ≡ Ok sent → rest ≡ Ok sent
@@ -101,9 +106,9 @@ found_is : (pool : Pool) (snapshot : Snapshot) (source : Option Source) (redacti
     → sent_of pool snapshot source redaction ≡ Ok sent → IsFound pool snapshot source redaction sent
 found_is pool snapshot source redaction sent there e =
     let made : Result Sent PlanFault = Ok (record { snapshot = snapshot; kind = kind_of pool snapshot; source = source; redaction = redaction }) in
-    let relay = if_no_relay snapshot source made in
+    let relay = if_no_relay snapshot redaction made in
     let last = past_redaction pool snapshot redaction relay sent there (past_before pool snapshot source (if_redaction snapshot redaction relay) sent e) in
-    record { same = ok_parts _ sent (unless_ok (has_guids snapshot.redact || is_redacted source) _ made sent last.1).1; redacts = last.0 }
+    record { same = ok_parts _ sent (unless_ok (has_guids snapshot.redact && is_some redaction) _ made sent last.1).1; redacts = last.0 }
 
 -- the dataset of a snapshot is there
 record Owner (pool : Pool) (snapshot : Snapshot) : Type 0 where
@@ -138,12 +143,12 @@ of_found pool snapshot source redaction sent lawful there from is =
 of_token : (token : Token) (pool : Pool) (sent : Sent) → IsPool pool → resumed_send token pool ≡ Ok sent → IsOf pool sent
 unfolding resumed_send
 of_token token pool sent lawful e =
-    let marked : Snapshot → Option Source → Result Sent PlanFault = λ snapshot source. find_marked token pool >>= (λ redaction. sent_of pool snapshot source redaction) in
+    let marked : Snapshot → Option Source → Result Sent PlanFault = λ snapshot source. find_marked token pool snapshot >>= (λ redaction. sent_of pool snapshot source redaction) in
     let to = bind_ok (find_to token pool) (λ snapshot. find_from token pool snapshot >>= marked snapshot) sent e in
     let from = bind_ok (find_from token pool to.0) (marked to.0) sent to.2 in
-    let mark = bind_ok (find_marked token pool) (λ redaction. sent_of pool to.0 from.0 redaction) sent from.2 in
+    let mark = bind_ok (find_marked token pool to.0) (λ redaction. sent_of pool to.0 from.0 redaction) sent from.2 in
     of_found pool to.0 from.0 mark.0 sent lawful (first_there (λ snapshot. snapshot.guid == token.to) pool.snapshots (no_guid token.to) to.0 to.1) (source_there token pool to.0 from.0 from.1)
-    (found_is pool to.0 from.0 mark.0 sent (marked_there token pool mark.0 mark.1) mark.2)
+    (found_is pool to.0 from.0 mark.0 sent (marked_there token pool to.0 mark.0 mark.1) mark.2)
 
 -- ---- its header
 
@@ -170,41 +175,45 @@ record AreFit (features : ℕ) : Type 0 where
   accepted : others_of features ≡ 0
   small_blocks : bit_and features large_blocks ≡ 0
 
-first_fit : (redaction : Option Bookmark) → AreFit (redacted_part redaction + sa_spill)
+first_fit : (guids : List ℕ) → AreFit (redacted_part guids + sa_spill)
 unfolding sa_spill resuming redacts
-first_fit None = record { small = omega arith; accepted = refl; small_blocks = refl }
-first_fit (Some bookmark) = record { small = omega arith; accepted = refl; small_blocks = refl }
+first_fit [] = record { small = omega arith; accepted = refl; small_blocks = refl }
+first_fit (guid ∷ guids) = record { small = omega arith; accepted = refl; small_blocks = refl }
 
-resumed_fit : (redaction : Option Bookmark) → AreFit (bit_or (redacted_part redaction + sa_spill) resuming)
+resumed_fit : (guids : List ℕ) → AreFit (bit_or (redacted_part guids + sa_spill) resuming)
 unfolding sa_spill resuming redacts
-resumed_fit None = record { small = omega arith; accepted = refl; small_blocks = refl }
-resumed_fit (Some bookmark) = record { small = omega arith; accepted = refl; small_blocks = refl }
+resumed_fit [] = record { small = omega arith; accepted = refl; small_blocks = refl }
+resumed_fit (guid ∷ guids) = record { small = omega arith; accepted = refl; small_blocks = refl }
 
-says_resuming : (redaction : Option Bookmark) → (bit_and (bit_or (redacted_part redaction + sa_spill) resuming) resuming == 0) ≡ false
+says_resuming : (guids : List ℕ) → (bit_and (bit_or (redacted_part guids + sa_spill) resuming) resuming == 0) ≡ false
 unfolding sa_spill resuming redacts
-says_resuming None = refl
-says_resuming (Some bookmark) = refl
+says_resuming [] = refl
+says_resuming (guid ∷ guids) = refl
 
 -- RESUMING leaves REDACTED as it is
-same_redacted : (redaction : Option Bookmark) → (bit_and (bit_or (redacted_part redaction + sa_spill) resuming) redacts == 0) ≡ (bit_and (redacted_part redaction + sa_spill) redacts == 0)
+same_redacted : (guids : List ℕ) → (bit_and (bit_or (redacted_part guids + sa_spill) resuming) redacts == 0) ≡ (bit_and (redacted_part guids + sa_spill) redacts == 0)
 unfolding sa_spill resuming redacts
-same_redacted None = refl
-same_redacted (Some bookmark) = refl
+same_redacted [] = refl
+same_redacted (guid ∷ guids) = refl
+
+-- the redaction guids that its BEGIN states
+abbrev guids_stated : Sent → List ℕ
+guids_stated sent = redaction_guids sent.snapshot sent.redaction
 
 features_fit : (sent : Sent) (start : Option Point) → AreFit (begun sent start).features
 unfolding features_of
-features_fit sent None = first_fit sent.redaction
-features_fit sent (Some point) = resumed_fit sent.redaction
+features_fit sent None = first_fit (guids_stated sent)
+features_fit sent (Some point) = resumed_fit (guids_stated sent)
 
 states_resume : (sent : Sent) (start : Option Point) → IsStated (header_of sent) → IfSome start IsTokenPoint → StatesResume (begun sent start).features (begun sent start).resume
 unfolding features_of
 states_resume sent None stated fits = ap (λ (n : ℕ). n == 0) stated.unresumed
-states_resume sent (Some point) stated fits = record { resumed = says_resuming sent.redaction; object = fits.object; offset = fits.offset }
+states_resume sent (Some point) stated fits = record { resumed = says_resuming (guids_stated sent); object = fits.object; offset = fits.offset }
 
 states_redacted : (sent : Sent) (start : Option Point) → IsStated (header_of sent) → (bit_and (begun sent start).features redacts == 0) ≡ (length (header_of sent).redact == 0)
 unfolding features_of
 states_redacted sent None stated = stated.redacted
-states_redacted sent (Some point) stated = same_redacted sent.redaction ∙ stated.redacted
+states_redacted sent (Some point) stated = same_redacted (guids_stated sent) ∙ stated.redacted
 
 neither : (a b : Bool) → not (a || b) ≡ true → a ≡ false
 neither true b e = absurd cc
@@ -283,28 +292,34 @@ same_flags : (sent : Sent) (start : Option Point) → keeps_spill (begun sent st
 same_flags sent None = spills_stated sent
 same_flags sent (Some point) = spills_stated sent
 
--- a stream of a redaction bookmark may have REDACT, and one of none needs none
-has_redacted : (redaction : Option Bookmark) (bookmark : Bookmark) → redaction ≡ Some bookmark → not (bit_and (redacted_part redaction + sa_spill) redacts == 0) ≡ true
+-- a stream that states redaction guids may have REDACT
+has_redacted : (stated : List ℕ) (guid : ℕ) (guids : List ℕ) → stated ≡ guid ∷ guids → not (bit_and (redacted_part stated + sa_spill) redacts == 0) ≡ true
 unfolding sa_spill redacts
-has_redacted None bookmark e = absurd cc
-has_redacted (Some other) bookmark e = refl
+has_redacted [] guid guids e = absurd cc
+has_redacted (other ∷ others) guid guids e = refl
 
-still_redacted : (redaction : Option Bookmark) (bookmark : Bookmark) → redaction ≡ Some bookmark → not (bit_and (bit_or (redacted_part redaction + sa_spill) resuming) redacts == 0) ≡ true
+still_redacted : (stated : List ℕ) (guid : ℕ) (guids : List ℕ) → stated ≡ guid ∷ guids → not (bit_and (bit_or (redacted_part stated + sa_spill) resuming) redacts == 0) ≡ true
 unfolding sa_spill resuming redacts
-still_redacted None bookmark e = absurd cc
-still_redacted (Some other) bookmark e = refl
+still_redacted [] guid guids e = absurd cc
+still_redacted (other ∷ others) guid guids e = refl
 
-begun_redacted : (sent : Sent) (start : Option Point) (bookmark : Bookmark) → sent.redaction ≡ Some bookmark → not (bit_and (begun sent start).features redacts == 0) ≡ true
+begun_redacted : (sent : Sent) (start : Option Point) (guid : ℕ) (guids : List ℕ) → guids_stated sent ≡ guid ∷ guids → not (bit_and (begun sent start).features redacts == 0) ≡ true
 unfolding features_of
-begun_redacted sent None bookmark e = has_redacted sent.redaction bookmark e
-begun_redacted sent (Some point) bookmark e = still_redacted sent.redaction bookmark e
+begun_redacted sent None guid guids e = has_redacted (guids_stated sent) guid guids e
+begun_redacted sent (Some point) guid guids e = still_redacted (guids_stated sent) guid guids e
 
-may_show : (sent : Sent) (start : Option Point) → IsWithin sent → MayShowAll (begun sent start).features sent.snapshot.objects (choice_of sent)
-may_show sent start within = go sent.redaction refl
+-- one that states none is of no redaction bookmark
+pub unmarked : (pool : Pool) (snapshot : Snapshot) (redaction : Option Bookmark) → IfSome redaction (IsRedactionOf pool snapshot) → redaction_guids snapshot redaction ≡ [] → redaction ≡ None
+unmarked pool snapshot None is e = refl
+unmarked pool snapshot (Some bookmark) is e = absurd (isnt_empty bookmark.redact is.guids e)
+
+-- so it needs no REDACT
+may_show : (pool : Pool) (sent : Sent) (start : Option Point) → IsOf pool sent → IsWithin sent → MayShowAll (begun sent start).features sent.snapshot.objects (choice_of sent)
+may_show pool sent start of within = go (guids_stated sent) refl
   where
-    go : (o : Option Bookmark) → sent.redaction ≡ o → MayShowAll (begun sent start).features sent.snapshot.objects (choice_of sent)
-    go None e = inr (within.plain e, λ k i. ap (λ (o : Option Bookmark). redaction_list o k i) e)
-    go (Some bookmark) e = inl (begun_redacted sent start bookmark e)
+    go : (guids : List ℕ) → guids_stated sent ≡ guids → MayShowAll (begun sent start).features sent.snapshot.objects (choice_of sent)
+    go [] e = inr (within.plain e, λ k i. ap (λ (o : Option Bookmark). redaction_list o k i) (unmarked pool sent.snapshot sent.redaction of.redaction e))
+    go (guid ∷ guids) e = inl (begun_redacted sent start guid guids e)
 
 module _ (stated : SentIsStated) (allowed : SentIsAllowed) (lengths : PayloadHasLength) (pool : Pool) (sent : Sent) (lawful : IsPool pool) (of : IsOf pool sent) (within : IsWithin sent)
     (start : Option Point) (fits : IfSome start IsTokenPoint)
@@ -315,7 +330,7 @@ module _ (stated : SentIsStated) (allowed : SentIsAllowed) (lengths : PayloadHas
         lawful = (All-contains (λ (s : Snapshot). IsGuid s.guid × IsGuidSet s.redact × IsState s.objects.state × (s.time < 2 ^ 64)) pool.snapshots sent.snapshot lawful.snapshots of.snapshot).2;
         begins = begins lengths sent start (stated pool sent lawful of).0 fits;
         flags = same_flags sent start;
-        allowed = allowed (begun sent start).features (begun sent start) sent.snapshot.objects (choice_of sent) (stated_point start) (may_show sent start within);
+        allowed = allowed (begun sent start).features (begun sent start) sent.snapshot.objects (choice_of sent) (stated_point start) (may_show pool sent start of within);
       };
       redacted = within.may;
     }

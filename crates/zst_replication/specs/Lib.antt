@@ -2,6 +2,7 @@ pub mod RecordCounts
 pub mod Grounds
 pub mod Histories
 pub mod MatchingBases
+pub mod Relays
 pub mod Outcomes
 pub mod Replicas
 pub mod Resumption

@@ -1,5 +1,5 @@
 -- What can be sent, and which bases match it.
-use Rattle.std.specs.Prelude.{ℕ, ◌≡◌, ◌<◌, ◌≤◌, ◌^◌, true, List, length, Option, Some, None, Ok, Contains}
+use Rattle.std.specs.Prelude.{ℕ, ◌≡◌, ◌<◌, ◌≤◌, ◌^◌, true, List, [], length, Option, Some, None, Ok, Contains}
 use Rattle.zst_model.specs.declared.sends.ask.SendAsk.{SendAsk}
 use Rattle.zst_model.specs.declared.sends.header.Header.{Header}
 use Rattle.zst_model.specs.declared.sends.header.Point.{Point}
@@ -14,6 +14,7 @@ use Rattle.zst_model.specs.states.State.{State, IsState, number_bound}
 use Rattle.zst_laws.specs.Meanings.{RedactsUserData}
 use Rattle.zst_laws.specs.RedactionLists.{AreListed, AreRedactions, HaveOwnGuids, IsOverRedacted, each_guid, lost}
 use Rattle.zst_laws.specs.RememberedStates.{IsOwn, SourceRemembers}
+use Rattle.zst_plan.specs.ContainedBases.{SendsWhole}
 use Rattle.zst_plan.specs.RecvPlan.{is_contained}
 use Rattle.zst_plan.specs.ResumePlan.{resumed_send}
 use Rattle.zst_plan.specs.declared.receive.RecvAsk.{RecvAsk}
@@ -23,10 +24,10 @@ use Rattle.zst_replication.specs.Outcomes.{HasOneMore}
 use Rattle.zst_replication.specs.Replicas.{IsSendable, MatchesBase}
 
 -- what is sent is within what a stream can say: each pair that is to be redacted is data of a file or a volume, each block that is redacted already
--- is of one, and a send without a redaction bookmark, whose stream has no REDACT, has none of these
+-- is of one, and a send that states no redaction guids, whose stream has no REDACT, has none of these
 pub record IsWithin (sent : Sent) : Type 0 where
   pub may : CanRedact sent.snapshot.objects.state (choice_of sent).redact
-  pub plain : sent.redaction ≡ None → IsUnredacted sent.snapshot.objects.state
+  pub plain : (header_of sent).redact ≡ [] → IsUnredacted sent.snapshot.objects.state
 
 -- a redaction bookmark is given of which part 4 of soundness speaks: its own snapshot is what is sent, its redaction snapshots stand, and what is
 -- redacted in the snapshot already is user data
@@ -45,6 +46,10 @@ ListedIsWithin =
 -- And so is one without a redaction bookmark, of a snapshot without redacted blocks.
 abbrev pub PlainIsWithin : Type 0
 PlainIsWithin = (sent : Sent) → sent.redaction ≡ None → IsUnredacted sent.snapshot.objects.state → IsWithin sent
+
+-- And so is a redacted snapshot that is sent on as it is, where what is redacted in it is user data.
+abbrev pub RelayIsWithin : Type 0
+RelayIsWithin = (sent : Sent) → sent.redaction ≡ None → 0 < length sent.snapshot.redact → RedactsUserData sent.snapshot.objects.state → IsWithin sent
 
 -- What is planned of a lawful pool can be stated and read, where it is within that.
 abbrev pub SentCanBeSent : Type 0
@@ -96,12 +101,12 @@ OneMoreIsKept =
     → HasOneMore old new target component base header state → HasOneMore (kept_of old) (kept_of new) target component base header state
 
 -- Where the plan of a receive finds an increment contained in a base that was redacted for some snapshots of the increment's pool, that base is fit
--- for it.
+-- for it, as long as neither the increment's snapshot nor its source was received redacted: what such a one lacks is listed nowhere in the pool.
 abbrev pub ContainedIsBase : Type 0
 ContainedIsBase =
     (pool : Pool) (sent : Sent) (source : Source) (own : Snapshot) (state : State) (redactions : List Snapshot)
-    → IsPool pool → Sound pool → AreListed pool → HaveOwnGuids pool → IsOverRedacted pool sent source own state redactions → 0 < length redactions
-    → is_contained (each_guid redactions) (header_of sent) ≡ true
+    → IsPool pool → Sound pool → AreListed pool → HaveOwnGuids pool → IsOverRedacted pool sent source own state redactions → SendsWhole sent
+    → 0 < length redactions → is_contained (each_guid redactions) (header_of sent) ≡ true
     → BaseOk (redacted state (lost state (number_of_source source) redactions)) sent.snapshot.objects (choice_of sent)
 
 -- the receiver's snapshots with the source's guid are redacted for these snapshots, and have this state but for what those have lost
@@ -114,8 +119,8 @@ HasRedactedSource source state redactions into =
 abbrev pub RedactedBasesMatch : Type 0
 RedactedBasesMatch =
     (from : Pool) (sent : Sent) (source : Source) (own : Snapshot) (state : State) (redactions : List Snapshot) (receive : RecvAsk) (into : Pool)
-    → IsPool from → Sound from → AreListed from → HaveOwnGuids from → IsOverRedacted from sent source own state redactions → 0 < length redactions
-    → partial_of receive.target into ≡ None → HasRedactedSource source state redactions into → MatchesBase sent receive into
+    → IsPool from → Sound from → AreListed from → HaveOwnGuids from → IsOverRedacted from sent source own state redactions → SendsWhole sent
+    → 0 < length redactions → partial_of receive.target into ≡ None → HasRedactedSource source state redactions into → MatchesBase sent receive into
 
 -- The snapshot of a redaction bookmark is the one that is sent, where it is still there and no two snapshots have one guid.
 abbrev pub MarkedIsSent : Type 0

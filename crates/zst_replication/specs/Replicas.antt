@@ -18,7 +18,7 @@ use Rattle.zst_recv.specs.Feeds.{receives}
 use Rattle.zst_recv.specs.ReceiveSteps.{Stage, Ends, Fed, Goes, Stops, left_by, pool_of}
 use Rattle.zst_replication.specs.Outcomes.{HasNothing, HasOneMore, Progress, base_name, base_objects, course_from}
 
--- what a receiver gets of what is sent: the snapshot's state, of which the redaction bookmark's pairs are redacted
+-- what a receiver gets of what is sent: the snapshot's state, of which the redaction bookmark's pairs are redacted, and what was redacted before stays so
 abbrev pub sent_state : Sent → State
 sent_state sent = redacted sent.snapshot.objects.state (choice_of sent).redact
 

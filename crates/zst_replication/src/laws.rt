@@ -153,8 +153,8 @@ pub fn one_more_is_kept()
     ensures { OneMoreIsKept }
 {}
 
-/// What is planned of a lawful pool can be stated and read: what is redacted of it, or is to be, is user data, and a send without a
-/// redaction bookmark has nothing redacted.
+/// What is planned of a lawful pool can be stated and read: what is redacted of it, or is to be, is user data, and a send that states
+/// no redaction guids has nothing redacted.
 pub fn sent_can_be_sent()
     ensures { SentCanBeSent }
 {

@@ -17,4 +17,6 @@ pub use laws::{
     sent_is_accepted, sent_is_planned, sent_is_received, sent_is_taken, source_is_known,
     stops_are_progress, tokens_go_on,
 };
-pub use redaction_laws::{listed_can_be_sent, receives_keep_lists, redacted_bases_match};
+pub use redaction_laws::{
+    listed_can_be_sent, receives_keep_lists, redacted_bases_match, relayed_is_received,
+};

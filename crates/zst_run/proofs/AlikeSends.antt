@@ -10,6 +10,7 @@ use Rattle.zst_model.specs.declared.sends.ask.SendAsk.{SendAsk}
 use Rattle.zst_model.specs.declared.sends.header.Point.{Point}
 use Rattle.zst_model.specs.pools.Pool.{Pool}
 use Rattle.zst_model.specs.sends.Headers.{Sent}
+use Rattle.zst_model.specs.sends.SendPlan.{send_plan}
 use Rattle.zst_image.specs.Reads.{free_by, kept_rows}
 use Rattle.zst_block.specs.Blocks.{Has}
 use Rattle.zst_pool.proofs.NamedPools.{rows_named}
@@ -18,6 +19,7 @@ use Rattle.zst_send.specs.Sends.{SameViewsSameRest, begun_text}
 use Rattle.zst_laws.specs.AlikePools.{AlikePoolsAreSentAlike}
 use Rattle.zst_run.specs.declared.send.SendRequest.TheVariants.{Named}
 use Rattle.zst_run.specs.Sends.{ReadsForSends, SendEnds, SendsOf, SentAlike, SentOf, TwoWorldsAreSentAlike, start_of, text_for}
+use Rattle.zst_run.proofs.PlannedSends.{planned_of}
 
 -- of two fronts of one text one is a front of the other
 fronts : (one left other behind : List ℕ) → one ++ left ≡ other ++ behind
@@ -78,10 +80,12 @@ named_run ask pool sent here here' out out' result s =
 pub worlds_alike : AlikePoolsAreSentAlike → SameViewsSameRest → (here here' there there' : DiskState) → TwoWorldsAreSentAlike here here' there there'
 worlds_alike alike same here here' there there' = record {
   front = λ ask pool other sent also out out' into into' one another like s t.
-      (sent_alike same here here' there there').front sent also None out out' into into' one another (alike ask pool other sent also s.is t.is like)
+      (sent_alike same here here' there there').front sent also None out out' into into' one another
+      (alike ask pool other sent also (planned_of (send_plan ask pool) sent s.is) (planned_of (send_plan ask other) also t.is) like)
       (named_run ask pool sent here here' out out' one s) (named_run ask other also there there' into into' another t);
   equal = λ ask pool other sent also out out' into into' like s t.
-      (sent_alike same here here' there there').equal sent also None out out' into into' (alike ask pool other sent also s.is t.is like)
+      (sent_alike same here here' there there').equal sent also None out out' into into'
+      (alike ask pool other sent also (planned_of (send_plan ask pool) sent s.is) (planned_of (send_plan ask other) also t.is) like)
       (named_run ask pool sent here here' out out' (Ok tt) s) (named_run ask other also there there' into into' (Ok tt) t);
 }
 

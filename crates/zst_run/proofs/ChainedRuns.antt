@@ -15,20 +15,22 @@ use Rattle.zst_model.specs.states.AppliedItems.{unless}
 use Rattle.zst_model.specs.states.State.{number_bound}
 use Rattle.zst_plan.specs.ResumePlan.{resumed_send}
 use Rattle.zst_plan.specs.declared.receive.RecvAsk.{RecvAsk}
+use Rattle.zst_send.specs.Openings.{rest_of}
 use Rattle.zst_send.specs.Sends.{begun_text}
 use Rattle.zst_recv.specs.Feeds.{receives}
 use Rattle.zst_recv.specs.ReceiveSteps.{pool_of}
 use Rattle.zst_recv.specs.Tokens.{token_of_partial}
 use Rattle.zst_token.specs.PartialToken.{token_for}
 use Rattle.zst_token.specs.declared.token.Token.{Token}
-use Rattle.zst_replication.specs.MatchingBases.{OneMoreIsKept, RestCanBeSent}
+use Rattle.zst_replication.specs.MatchingBases.{OneMoreIsKept, RestCanBeSent, SentCanBeSent}
 use Rattle.zst_replication.specs.Outcomes.{HasOneMore, Progress, base_name, course_on}
 use Rattle.zst_replication.specs.Replicas.{AreOfStream, sent_state}
 use Rattle.zst_replication.specs.Resumption.{Begun, Chain, GivesRest, GoneOn, RestIsReceived, ResumedStopsAreProgress}
 use Rattle.zst_replication.specs.Resumption as resumption
 use Rattle.zst_run.specs.Replication.{ChainsComplete, IsReadOf, IsRestReceiver, IsRestSender, RestsAreProgress, RunsAreChained, SentRestStands}
 use Rattle.zst_run.specs.declared.send.SendRequest.TheVariants.{Rest}
-use Rattle.zst_run.proofs.PipedRuns.{Fits, KeepsWhole, each_image, first_of_stream, into_is, matches, pieces_read, received_so, sendable, text_sent, whole}
+use Rattle.zst_run.proofs.PlannedSends.{planned_of}
+use Rattle.zst_run.proofs.PipedRuns.{KeepsWhole, each_image, first_of_stream, into_is, pieces_read, received_so, sendable, text_sent, whole}
 
 -- ---- what a token asks for
 
@@ -66,7 +68,7 @@ module _ (can : RestCanBeSent) (tight : Bool) (token : Token) (receive : RecvAsk
   gives_at point same = record {
     same_view = sender.same_view;
     sendable = can token from also point sender.reads.2.lawful
-        (looked_up token.large (resumed_send token from) also sender.is) sender.within
+        (looked_up token.large (resumed_send token from) also (planned_of (rest_of token from) also sender.is)) sender.within
         (record {
           object = subst (λ (p : Point). p.object ≤ number_bound) (sym same) sender.is_token.object;
           offset = subst (λ (p : Point). p.offset < 2 ^ 64) (sym same) sender.is_token.offset;
@@ -128,14 +130,14 @@ rests_so keeps can law here there there' tight token receive from into partial s
 
 -- ---- chains
 
-pub chained_so : Fits → RestCanBeSent → (here there there' : DiskState) → RunsAreChained here there there'
+pub chained_so : SentCanBeSent → RestCanBeSent → (here there there' : DiskState) → RunsAreChained here there there'
 chained_so fits can here there there' = record {
   first = λ tight ask receive from into sent component base result out out' input input' sender receiver begins received read.
       let run = received.does in
       let of : AreOfStream run.pieces sent None = pieces_read (begun_text sent None) input input' run.pieces read run.consumed in
       each_image (Chain sent receive.target component base) there there' tight receive receiver.uber receiver.rows into result out out' input input' receiver.honest receiver.reads receiver.may received
       (λ n. Begun receive into (take n run.pieces) refl (into_is fits tight ask receive from into sent here there there' sender receiver) receiver.alone
-      (matches fits tight ask receive from into sent here there there' sender receiver) begins (sendable fits tight ask receive from into sent here there there' sender receiver)
+      receiver.matches begins (sendable fits tight ask receive from into sent here there there' sender receiver)
       (first_of_stream n run.pieces sent None of));
   next = λ tight token receive from into sent also component base result out out' input input' chain sender receiver received read.
       let run = received.does in

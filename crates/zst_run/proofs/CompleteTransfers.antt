@@ -18,7 +18,7 @@ use Rattle.zst_send.specs.Sends.{begun, begun_text}
 use Rattle.zst_stream.specs.Items.{ViewIsRead}
 use Rattle.zst_stream.specs.Reading.{complete, reading}
 use Rattle.zst_token.specs.declared.token.Token.{Token}
-use Rattle.zst_replication.specs.MatchingBases.{RestCanBeSent}
+use Rattle.zst_replication.specs.MatchingBases.{RestCanBeSent, SentCanBeSent}
 use Rattle.zst_replication.specs.Replicas.{AreOfStream, IsSendable}
 use Rattle.zst_replication.specs.Resumption.{IsUnderway}
 use Rattle.zst_replication.specs.TakenSends.{CanCount, RestIsAccepted, SentIsAccepted}
@@ -27,10 +27,10 @@ use Rattle.zst_run.specs.Receives.{ArePieces}
 use Rattle.zst_run.specs.Replication.{IsReceiver, IsRestReceiver, IsRestSender, IsSender}
 use Rattle.zst_run.specs.declared.send.SendRequest.{SendRequest}
 use Rattle.zst_run.specs.declared.send.SendRequest.TheVariants.{Named, Rest}
-use Rattle.zst_run.specs.Sends.{ReadsFor, Sends, start_of, to_send}
+use Rattle.zst_run.specs.Sends.{ReadsFor, Sends, start_of, to_give}
 use Rattle.zst_run.proofs.ChainedRuns.{at_token, gives_at, lawful}
 use Rattle.zst_run.proofs.CompleteRuns.{receives_complete, sends_complete}
-use Rattle.zst_run.proofs.PipedRuns.{Fits, into_is, matches, sendable, text_sent}
+use Rattle.zst_run.proofs.PipedRuns.{into_is, sendable, text_sent}
 
 -- ---- pieces of a front of what was sent
 
@@ -63,7 +63,7 @@ read_whole read sent start fit = (read (begun sent start) sent.snapshot.objects 
 
 -- it is done, or no memory was left, and an input that has what it wrote has the text of its plan
 module _ (request : SendRequest) (from : Pool) (sent : Sent) (here here' : DiskState) (out out' : SinkState) (result : Result (Unit {0}) Refusal)
-    (reads : ReadsFor request from here.seen) (plan : to_send request from ≡ Ok sent) (gave : SendsWell request here here' out out' result) where
+    (reads : ReadsFor request from here.seen) (plan : to_give request from ≡ Ok sent) (gave : SendsWell request here here' out out' result) where
   sent_well : length (begun_text sent (start_of request)) ≤ stream_limit → DoneOrNoMemory result
   sent_well short = sends_complete here here' request from sent out out' result gave.honest reads plan short gave.disk gave.sink gave.sends
 
@@ -76,19 +76,19 @@ module _ (request : SendRequest) (from : Pool) (sent : Sent) (here here' : DiskS
 -- ---- the two laws
 
 -- the definition takes what was sent
-sent_takes : Fits → SentIsAccepted → ViewIsRead → (tight : Bool) (ask : SendAsk) (receive : RecvAsk) (from into : Pool) (sent : Sent) (here there there' : DiskState)
-    → IsSender (Named ask) from sent here → IsReceiver tight receive into from sent there there' → CanTake receive into sent there → Takes receive into (begun_text sent None)
+sent_takes : SentCanBeSent → SentIsAccepted → ViewIsRead → (tight : Bool) (ask : SendAsk) (receive : RecvAsk) (from into : Pool) (sent : Sent) (here there there' : DiskState)
+    → IsSender (Named ask) from sent here → IsReceiver tight receive into sent there there' → CanTake receive into sent there → Takes receive into (begun_text sent None)
 sent_takes fits accepted read tight ask receive from into sent here there there' sender receiver can =
     let fit = sendable fits tight ask receive from into sent here there there' sender receiver in
     record {
       whole = read_whole read sent None fit;
       accepts = λ pieces front after refusal stops. accepted sent receive into after can.component can.base pieces refusal fit
           (into_is fits tight ask receive from into sent here there there' sender receiver) receiver.alone
-          (matches fits tight ask receive from into sent here there there' sender receiver) can.planned
+          receiver.matches can.planned
           (of_stream sent None pieces front) (can_count into (begun_text sent None) pieces front can.counts) stops;
     }
 
-pub transfers_complete : Fits → SentIsAccepted → ViewIsRead → (here here' there there' : DiskState) → TransfersComplete here here' there there'
+pub transfers_complete : SentCanBeSent → SentIsAccepted → ViewIsRead → (here here' there there' : DiskState) → TransfersComplete here here' there there'
 transfers_complete fits accepted read here here' there there' tight ask receive from into sent text out out' other other' input input' result answer sender receiver can gave got = (
   sent_well (Named ask) from sent here here' out out' result sender.reads sender.is gave can.short,
   λ done wrote has.

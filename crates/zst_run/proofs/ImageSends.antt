@@ -34,7 +34,7 @@ use Rattle.zst_send.specs.Sends.{begun_text}
 use Rattle.zst_run.specs.Commands.{Opens, SaysOfOpening}
 use Rattle.zst_run.specs.SendPieces.{IfUnplanned}
 use Rattle.zst_run.specs.declared.send.SendRequest.{SendRequest}
-use Rattle.zst_run.specs.Sends.{HasSet, IsDamagedRequest, IsSendRefusal, OfGiving, OfSending, ReadsForAs, RefusalEnds, SendRan, Sends, SendsBy, TellsOf, start_of, to_send}
+use Rattle.zst_run.specs.Sends.{HasSet, IsDamagedRequest, IsSendRefusal, OfGiving, OfSending, ReadsForAs, RefusalEnds, SendRan, Sends, SendsBy, TellsLong, TellsOf, start_of, to_give, to_send}
 use Rattle.zst_run.proofs.CommandLemmas.{open_alive, open_disk, told_before}
 use Rattle.zst_run.proofs.NamedImages.{OneDirectory, OneText, gives_pool}
 use Rattle.zst_run.proofs.SendLemmas.{sent_earlier}
@@ -81,7 +81,7 @@ pub unopened : OneText → OneDirectory → (request : SendRequest) (here here' 
 unopened text directory request here here' out fault long answer reads cause = record {
   reads = reads;
   sends = λ pool told is.
-      unopened_ends (start_of request) (to_send request pool) here.faults here'.faults out fault (gives_pool text directory here long request is.0 is.1 pool is.2 (Err fault) (answer told))
+      unopened_ends (start_of request) (to_give request pool) here.faults here'.faults out fault (gives_pool text directory here long request is.0 is.1 pool is.2 (Err fault) (answer told))
       (λ e. cause.fault (ap (λ (f : OpenFault). Err f) e));
   opened = λ told. idle_says (Unit {0}) (out ≡ out) here (SendRan request here out out (Err (open_refusal fault))) fault refl (answer told);
   refused = record {
@@ -118,6 +118,7 @@ is_open refusal is =
 pub record SaysOfRows (request : SendRequest) (end : ℕ) (dir : Rows) (disk disk' : DiskState) (out out' : SinkState) (result : Result (Unit {0}) Refusal) : Type 0 where
   pub planned : (pool : Pool) → AreNamed dir pool → IfUnplanned (to_send request pool) out out' result
   pub because : (pool : Pool) (fault : PlanFault) → AreNamed dir pool → result ≡ Err (refusals.Plan fault) → to_send request pool ≡ Err fault
+  pub long : (pool : Pool) → AreNamed dir pool → TellsLong (to_send request pool) out out' result
   pub damaged : disk'.honest → TellsOf (IsDamagedRequest request end dir disk) result
 
 -- so it is of the body and the rows that a pool was opened by
@@ -127,6 +128,7 @@ ran request here mid here' out out' kept rows result same opens reads honest say
   opens = opens;
   planned = λ pool fault named refused. rw refused at (says.planned pool (rw same named.are_named));
   because = λ pool fault named is. says.because pool fault (rw same named.are_named) is;
+  long = λ pool named. says.long pool (rw same named.are_named);
   damaged = λ sector stated found is.
       told_before here mid (λ seen size. ((set : ObjSet) × HasSet request (kept_rows rows) set × IsDamagedSend (IsSeen seen) size set sector stated found)
       ⊎ IsDamagedOpening kept.body.end seen size (kept_rows rows) (to_send request) sector stated found) reads
@@ -184,14 +186,14 @@ module _ (request : SendRequest) (here mid : DiskState) (kept : PoolState) (uber
 pub opened : OneText → OneDirectory → (request : SendRequest) (here mid here' : DiskState) (out out' : SinkState) (kept : PoolState) (result : Result (Unit {0}) Refusal) → length here.seen ≡ here.size
     → (mid.honest → OpenAnswers here (Ok kept)) → OnlyReads here mid → here.faults ≤ mid.faults → OnlyReads mid here' → mid.faults ≤ here'.faults
     → ((pool : Pool) → here'.honest → AreNamed kept.dir pool → StandsPlanned (Has mid.seen (free_by kept.body)) kept.dir pool (to_send request pool)
-    → SendsBy (start_of request) (to_send request pool) mid.faults here'.faults out out' result)
+    → SendsBy (start_of request) (to_give request pool) mid.faults here'.faults out out' result)
     → IfErr result (IsSendRefusal OfGiving mid here' out out') → SaysOfRows request kept.body.end kept.dir mid here' out out' result
     → Sends request here here' out out' result
 opened text directory request here mid here' out out' kept result long answer reads later gave still gives refused says = record {
   reads = OnlyReads-then here mid here' reads gave;
   sends = λ pool told is.
       let same = gives_pool text directory here long request is.0 is.1 pool is.2 (Ok kept) (answer (gave.honest told)) in
-      sends_earlier (start_of request) (to_send request pool) here.faults mid.faults here'.faults out out' result later
+      sends_earlier (start_of request) (to_give request pool) here.faults mid.faults here'.faults out out' result later
       (gives pool told (named request here mid kept is.0 is.1 pool reads same is.2) (stands request here mid kept is.0 is.1 pool reads same is.2));
   opened = λ told. let was = answer (gave.honest told) in
       ran_says (out' ≡ out) here (SendRan request here out out' result) result (kept.body, was.1, ran request here mid here' out out' kept was.1 result was.4 (was.0, was.2, was.3) reads told says)

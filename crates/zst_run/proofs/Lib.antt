@@ -6,6 +6,7 @@ pub mod LineRanges
 pub mod NewPools
 pub mod ReplyLines
 pub mod LaterDisks
+pub mod PlannedSends
 pub mod SendLemmas
 pub mod NamedImages
 pub mod ImageSends
@@ -25,6 +26,7 @@ pub mod PipedRuns
 pub mod ChainedRuns
 pub mod AlikeTokens
 pub mod Unreadable
+pub mod RelayedRuns
 pub mod ImageTokens
 pub mod CompleteRuns
 pub mod CompleteTransfers

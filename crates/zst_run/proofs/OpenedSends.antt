@@ -10,7 +10,7 @@ use Rattle.zst_model.specs.declared.sends.ask.SendAsk.{SendAsk}
 use Rattle.zst_model.specs.declared.sends.header.Point.{Point}
 use Rattle.zst_model.specs.pools.Pool.{Pool as Plain}
 use Rattle.zst_model.specs.sends.Headers.{Sent}
-use Rattle.zst_model.specs.sends.SendPlan.{send_plan}
+use Rattle.zst_model.specs.sends.SendPlan.{send_plan, with_list}
 use Rattle.zst_plan.specs.Places.{AnswerAlike}
 use Rattle.zst_plan.specs.Plans.{AnswersPlan}
 use Rattle.zst_plan.specs.declared.plan.SendPlan.{SendPlan}
@@ -27,7 +27,7 @@ use Rattle.zst_run.specs.declared.send.SendRequest.{SendRequest}
 use Rattle.zst_run.specs.SendPieces.{IsOpenedFor, OpensBy}
 use Rattle.zst_run.specs.Sends.{HasSet}
 
--- what was planned is of what is to be given, and what was refused is refused
+-- what was planned is of what is to be sent, and what was refused is refused
 pub plan_is : {A : Type 0} (Is : A → Sent → Type 0) (plan : A) (planned : Result Sent PlanFault) → AnswerAlike Is (Ok plan) planned → (sent : Sent) × (planned ≡ Ok sent) × Is plan sent
 plan_is Is plan (Ok sent) alike = (sent, refl, alike)
 plan_is Is plan (Err fault) alike = absurd alike
@@ -36,8 +36,8 @@ pub refusal_is : {A : Type 0} (Is : A → Sent → Type 0) (fault : PlanFault) (
 refusal_is Is fault (Ok sent) alike = absurd alike
 refusal_is Is fault (Err other) alike = ap (λ (f : PlanFault). Err f) (sym alike)
 
--- a send of a snapshot is opened by the plan of its names
-pub opens_named : (has : Blocks) (ask : SendAsk) (pool : Plain) (result : Result Send PoolFault) → Opens has ask pool result → OpensBy has None (send_plan ask pool) result
+-- a send of a snapshot is opened by what the plan of its names gives
+pub opens_named : (has : Blocks) (ask : SendAsk) (pool : Plain) (result : Result Send PoolFault) → Opens has ask pool result → OpensBy has None (with_list (send_plan ask pool)) result
 opens_named has ask pool (Ok send) is = is
 opens_named has ask pool (Err (faults.Plan fault)) is = is
 opens_named has ask pool (Err (faults.CannotApply fault)) is = is
@@ -48,11 +48,11 @@ opens_named has ask pool (Err faults.DiskFault) is = is
 opens_named has ask pool (Err faults.Failed) is = is
 opens_named has ask pool (Err faults.OutOfMemory) is = is
 
--- and the rest of one by the plan of its token
+-- and the rest of one by what the plan of its token gives
 pub opens_rest : (has : Blocks) (sent : Sent) (point : Point) (planned : Result Sent PlanFault) (result : Result Send PoolFault) → planned ≡ Ok sent → Resumes has sent point result
-    → OpensBy has (Some point) planned result
-opens_rest has sent point planned (Ok send) passed is = (sent, passed, is)
-opens_rest has sent point planned (Err (faults.Plan fault)) passed is = absurd is
+    → OpensBy has (Some point) (with_list planned) result
+opens_rest has sent point planned (Ok send) passed is = (sent, ap with_list passed ∙ is.0, is.1)
+opens_rest has sent point planned (Err (faults.Plan fault)) passed is = ap with_list passed ∙ is
 opens_rest has sent point planned (Err (faults.CannotApply fault)) passed is = is
 opens_rest has sent point planned (Err (faults.Redacted object block)) passed is = is
 opens_rest has sent point planned (Err (faults.Full need largest)) passed is = is

@@ -17,6 +17,7 @@ use Rattle.zst_model.specs.pools.KeptPool.{KeepsAll, kept_of}
 use Rattle.zst_model.specs.pools.Pool.{Pool, IsPool, partial_of}
 use Rattle.zst_model.specs.pools.Soundness.{Sound}
 use Rattle.zst_model.specs.sends.Headers.{Sent, header_of, sent_view}
+use Rattle.zst_model.specs.sends.SendPlan.{send_plan}
 use Rattle.zst_laws.specs.KeptPools.{KeepingIsDone}
 use Rattle.zst_dir.specs.Rows.{Rows}
 use Rattle.zst_image.specs.Reads.{Reads, ReadsAs}
@@ -25,7 +26,7 @@ use Rattle.zst_send.specs.Sends.{begun_text}
 use Rattle.zst_recv.specs.Feeds.{receives}
 use Rattle.zst_recv.specs.ReceiveSteps.{left_by, pool_of}
 use Rattle.zst_replication.specs.Histories.{ReceivesRemember, StillRemembers}
-use Rattle.zst_replication.specs.MatchingBases.{BasesMatch, OneMoreIsKept, SentCanBeSent}
+use Rattle.zst_replication.specs.MatchingBases.{OneMoreIsKept, SentCanBeSent}
 use Rattle.zst_replication.specs.Outcomes.{HasNothing, HasOneMore, Progress, base_name, course_from}
 use Rattle.zst_replication.specs.Replicas.{AreOfStream, CutLeavesNothing, IsSendable, LeftIsKept, MatchesBase, SentIsReceived, WaitedForEach, sent_state}
 use Rattle.zst_replication.specs.Replicas as replicas
@@ -35,8 +36,9 @@ use Rattle.zst_run.specs.Replication.{IsReadOf, IsReceiver, IsSender, RefusedLea
 use Rattle.zst_run.specs.Replies.{Replied, Replies}
 use Rattle.zst_run.specs.declared.send.SendRequest.{SendRequest}
 use Rattle.zst_run.specs.declared.send.SendRequest.TheVariants.{Named}
-use Rattle.zst_run.specs.Sends.{ReadsFor, SendEnds, Sends, start_of, to_send}
+use Rattle.zst_run.specs.Sends.{ReadsFor, SendEnds, Sends, start_of, to_give}
 use Rattle.zst_run.proofs.FedPieces.{open_live}
+use Rattle.zst_run.proofs.PlannedSends.{planned_of}
 
 -- ---- what an image keeps of its pool
 
@@ -54,7 +56,7 @@ whole laws tight uber rows pool image reads = laws.0.0 pool (laws.1 tight uber r
 
 -- a run that sends with status 0 writes the whole text
 pub text_sent : (request : SendRequest) (from : Pool) (sent : Sent) (here here' : DiskState) (out out' : SinkState) (text : List ℕ)
-    → ReadsFor request from here.seen → to_send request from ≡ Ok sent → here'.honest → Sends request here here' out out' (Ok tt) → out'.written ≡ out.written ++ text
+    → ReadsFor request from here.seen → to_give request from ≡ Ok sent → here'.honest → Sends request here here' out out' (Ok tt) → out'.written ≡ out.written ++ text
     → text ≡ begun_text sent (start_of request)
 text_sent request from sent here here' out out' text reads plan honest sends is =
     let ends = subst (λ (planned : Result Sent PlanFault). SendEnds (start_of request) planned here.faults here'.faults out out' (Ok tt)) plan (sends.sends from honest reads).ends in
@@ -84,23 +86,19 @@ first_of_stream n pieces sent start of =
 
 -- ---- a send that is received
 
--- the laws of what can be sent, and of which bases match it
-abbrev pub Fits : Type 0
-Fits = SentCanBeSent × BasesMatch
-
-module _ (fits : Fits) (tight : Bool) (ask : SendAsk) (receive : RecvAsk) (from into : Pool) (sent : Sent) (here there there' : DiskState)
-    (sender : IsSender (Named ask) from sent here) (receiver : IsReceiver tight receive into from sent there there') where
+module _ (fits : SentCanBeSent) (tight : Bool) (ask : SendAsk) (receive : RecvAsk) (from into : Pool) (sent : Sent) (here there there' : DiskState)
+    (sender : IsSender (Named ask) from sent here) (receiver : IsReceiver tight receive into sent there there') where
   from_is : IsPool from
   from_is = sender.reads.2.lawful
+
+  pub plan_is : send_plan ask from ≡ Ok sent
+  plan_is = planned_of (send_plan ask from) sent sender.is
 
   pub into_is : IsPool into
   into_is = receiver.reads.described.lawful
 
   pub sendable : IsSendable sent None
-  sendable = fits.0 ask from sent from_is sender.is sender.within
-
-  pub matches : MatchesBase sent receive into
-  matches = fits.1 ask from sent receive into from_is into_is receiver.alone sender.is receiver.knows
+  sendable = fits ask from sent from_is plan_is sender.within
 
 -- a run that receives with status 0 received
 pub received_so : (tight : Bool) (ask : RecvAsk) (pool : Pool) (pieces : List (List ℕ)) (there' : DiskState) (input input' : SourceState) (out out' : SinkState) (answer : Result (List (List ℕ)) Refusal)
@@ -108,7 +106,7 @@ pub received_so : (tight : Bool) (ask : RecvAsk) (pool : Pool) (pieces : List (L
 received_so tight ask pool pieces there' input input' out out' (Ok lines) ends replied = (lines, ends)
 received_so tight ask pool pieces there' input input' out out' (Err refusal) ends replied = absurd (let told = replied.0 in cc)
 
-pub snapshot_stands : KeepsWhole → Fits → SentIsReceived → OneMoreIsKept → (here here' there there' : DiskState) → SentSnapshotStands here here' there there'
+pub snapshot_stands : KeepsWhole → SentCanBeSent → SentIsReceived → OneMoreIsKept → (here here' there there' : DiskState) → SentSnapshotStands here here' there there'
 snapshot_stands keeps fits law kept here here' there there' tight ask receive from into sent out out' other other' input input' sender honest receiver sends received piped =
     let run = received.does in
     let text = text_sent (Named ask) from sent here here' out out' piped.0 sender.reads sender.is honest sends piped.1 in
@@ -118,7 +116,7 @@ snapshot_stands keeps fits law kept here here' there there' tight ask receive fr
     let done = end.1 in
     let one = law sent receive into done.after done.partial run.pieces (sendable fits tight ask receive from into sent here there there' sender receiver)
     (into_is fits tight ask receive from into sent here there there' sender receiver) receiver.alone
-    (matches fits tight ask receive from into sent here there there' sender receiver) of done.is in
+    receiver.matches of done.is in
     record {
       after = done.after;
       keeps = done.keeps;
@@ -202,7 +200,7 @@ each_image Holds there there' tight ask uber rows into result out out' input inp
 
 -- ---- a receive that is stopped
 
-pub stops_so : KeepsWhole → Fits → replicas.StopsAreProgress → (here there there' : DiskState) → StopsAreProgress here there there'
+pub stops_so : KeepsWhole → SentCanBeSent → replicas.StopsAreProgress → (here there there' : DiskState) → StopsAreProgress here there there'
 stops_so keeps fits law here there there' tight ask receive from into sent component base result out out' input input' sender receiver begins received read =
     let run = received.does in
     let of : AreOfStream run.pieces sent None = pieces_read (begun_text sent None) input input' run.pieces read run.consumed in
@@ -212,7 +210,7 @@ stops_so keeps fits law here there there' tight ask receive from into sent compo
     (whole keeps tight receiver.uber receiver.rows into there.seen receiver.reads)
     (law sent receive into component base (take n run.pieces) (sendable fits tight ask receive from into sent here there there' sender receiver)
     (into_is fits tight ask receive from into sent here there there' sender receiver) receiver.alone
-    (matches fits tight ask receive from into sent here there there' sender receiver) begins (first_of_stream n run.pieces sent None of)))
+    receiver.matches begins (first_of_stream n run.pieces sent None of)))
 
 -- ---- a sound pool
 

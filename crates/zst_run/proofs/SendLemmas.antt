@@ -7,13 +7,17 @@ use Rattle.zst_outside.specs.Images.{DiskState}
 use Rattle.zst_outside.specs.States.{HandedOn, SinkState}
 use Rattle.zst_outside.specs.declared.disk.Disk.{Ghosts}
 use Rattle.zst_outside.specs.Printing.{Wrote, Printed, Wrote-kept, Wrote-then, Wrote-longer, Wrote-start, Printed-start, Printed-then}
-use Rattle.zst_model.specs.declared.refusals.faults.Quantity.TheVariants.{Stream}
+use Rattle.zst_model.specs.declared.refusals.faults.Quantity.TheVariants.{Runs, Stream}
 use Rattle.zst_model.specs.declared.refusals.plan_fault.PlanFault.{PlanFault}
+use Rattle.zst_model.specs.declared.refusals.plan_fault.PlanFault.TheVariants as plans
 use Rattle.zst_model.specs.declared.refusals.refusal.Refusal.{Refusal}
 use Rattle.zst_model.specs.declared.refusals.refusal.Refusal.TheVariants as refusals
 use Rattle.zst_model.specs.declared.sends.header.Point.{Point}
+use Rattle.zst_model.specs.pools.Limits.{most_runs}
+use Rattle.zst_model.specs.pools.Pool.{Pool as Plain}
 use Rattle.zst_model.specs.refusals.Refusal.{refusal_of}
 use Rattle.zst_model.specs.sends.Headers.{Sent}
+use Rattle.zst_model.specs.sends.SendPlan.{is_redacted}
 use Rattle.zst_model.proofs.PlanFaults.{plan_cases}
 use Rattle.zst_dir.specs.Rows.{Rows}
 use Rattle.zst_tree.specs.Damage.{IsSeen}
@@ -39,9 +43,10 @@ use Rattle.zst_send.specs.declared.send.Send.{Send}
 use Rattle.zst_tree.specs.Indices.{Blocks}
 use Rattle.zst_run.specs.Replies.{HandsOn}
 use Rattle.zst_run.specs.declared.send.SendRequest.{SendRequest}
-use Rattle.zst_run.specs.Sends.{HasSet, IsDamagedRequest, IsSendRefusal, OfGiving, RefusalEnds, SendsBy, TellsOf, TextEnds}
+use Rattle.zst_run.specs.Sends.{HasSet, IsDamagedRequest, IsSendRefusal, OfGiving, RefusalEnds, SendsBy, TellsLong, TellsOf, TextEnds, to_send}
 use Rattle.zst_run.specs.SendPieces.{IfUnplanned, OpensBy, Passed, PieceWritten, Sending, TellsLists, WhySendEnds, WritesPiece}
-use Rattle.zst_run.proofs.CommandLemmas.{damaged_only, disk_fault, failed_before, full_only, plan_named}
+use Rattle.zst_run.proofs.CommandLemmas.{damaged_only, disk_fault, failed_before, full_only, plan_named, plan_only}
+use Rattle.zst_run.proofs.PlannedSends.{no_limit}
 
 -- ---- refusals
 
@@ -87,6 +92,12 @@ module _ (fault : PoolFault) (out out' : SinkState) (result : Result (Unit {0}) 
       ⊎_elim (λ done. let same : pool_refusal fault ≡ refusals.Plan plan = cc (done.0, is) in no_plan fault never plan same)
       (λ lost. absurd (cc (lost.0, is))) hands.outcome
 
+  -- so neither is it a limit of a list
+  pub hands_no_list : ((plan : PlanFault) → fault ≢ faults.Plan plan) → (number : ℕ) → result ≢ Err (refusals.Limit Runs number)
+  hands_no_list never number is =
+      ⊎_elim (λ done. let same : pool_refusal fault ≡ refusals.Limit Runs number = cc (done.0, is) in never (plans.Limit Runs number) (plan_only fault (plans.Limit Runs number) same))
+      (λ lost. absurd (cc (lost.0, is))) hands.outcome
+
   pub hands_damage : (Is : DamageFact) → IsOf Is fault → TellsOf Is result
   hands_damage Is told = λ sector stated found is.
       ⊎_elim (λ done. let same : pool_refusal fault ≡ refusals.Damaged sector stated found = cc (done.0, is) in told sector stated found (damaged_only fault sector stated found same))
@@ -128,16 +139,22 @@ module _ {D : Type 0} {g : Ghosts D} (old new : Pool D g) (send : Send) where
   hands_end fault out out' result hands looks alive never damaged = record {
     refused = hands_refused fault out out' result hands (io_of old.io) (io_of new.io) looks alive;
     unplanned = hands_no_plan fault out out' result hands never;
+    listed = hands_no_list fault out out' result hands never;
     told = λ done is. absurd (⊎_elim (λ as_told. let other = as_told.0 in cc (other, is)) (λ lost. let other = lost.0 in cc (other, is)) hands.outcome);
     damaged = λ images among honest knows. hands_damage fault out out' result hands (IsDamagedSend (IsAmong images) (disk_of old.io).size (sent_set send)) (damaged images among honest knows);
   }
 
 -- ---- pieces
 
--- a piece is refused by no plan, and tells no damage
+-- a piece is refused by no plan and for no list, and tells no damage
 module _ (piece : List ℕ) (is_last : Bool) (old new : ℕ) (out out' : SinkState) where
   piece_no_plan : (result : Result (Unit {0}) Refusal) → WritesPiece piece is_last old new out out' (Some result) → (plan : PlanFault) → result ≢ Err (refusals.Plan plan)
   piece_no_plan result writes plan is = subst (λ (r : Result (Unit {0}) Refusal). WritesPiece piece is_last old new out out' (Some r)) is writes
+
+  piece_no_list : (result : Result (Unit {0}) Refusal) → WritesPiece piece is_last old new out out' (Some result) → (number : ℕ) → result ≢ Err (refusals.Limit Runs number)
+  piece_no_list result writes number is =
+      let limit = subst (λ (r : Result (Unit {0}) Refusal). WritesPiece piece is_last old new out out' (Some r)) is writes in
+      let which : Runs ≡ Stream = limit.0 in absurd (cc which)
 
   piece_no_damage : (Is : DamageFact) (result : Result (Unit {0}) Refusal) → WritesPiece piece is_last old new out out' (Some result) → TellsOf Is result
   piece_no_damage Is result writes = λ sector stated found is.
@@ -164,6 +181,7 @@ module _ (piece : List ℕ) (is_last : Bool) (old new : ℕ) (out out' : SinkSta
     piece_ends counts (Some result) writes = record {
       refused = piece_refused (disk_of before.io) (disk_of after.io) result writes;
       unplanned = piece_no_plan result writes;
+      listed = piece_no_list result writes;
       told = λ done is. counts;
       damaged = λ images among honest knows. piece_no_damage (IsDamagedSend (IsAmong images) (disk_of before.io).size (sent_set send)) result writes;
     }
@@ -318,10 +336,12 @@ open_refused old new out out' fault looks alive = record {
 
 -- ---- what its plan says of a send, whatever the image
 
--- what wasn't opened ends as its plan says
+-- what wasn't opened ends as its plan says, where that refuses
 pub unopened_planned : (planned : Result Sent PlanFault) (out : SinkState) (fault : PoolFault) → IsPlanned planned (Err fault) → IfUnplanned planned out out (Err (pool_refusal fault))
 unopened_planned (Ok sent) out fault is = tt
-unopened_planned (Err plan) out (faults.Plan fault) is = let same : fault ≡ plan = cc is in (ap (λ (f : PlanFault). Err (refusal_of f)) same, refl)
+unopened_planned (Err plan) out (faults.Plan fault) is =
+    ⊎_elim (λ refused. let same : fault ≡ plan = cc refused in (ap (λ (f : PlanFault). Err (refusal_of f)) same, refl))
+    (λ long. let passed = long.1 in absurd (cc passed)) is
 unopened_planned (Err plan) out (faults.CannotApply fault) is = absurd is
 unopened_planned (Err plan) out (faults.Redacted object block) is = absurd is
 unopened_planned (Err plan) out (faults.Full need largest) is = absurd is
@@ -340,7 +360,9 @@ opened_planned (Err fault) send out out' result is = let passed = is.1 in absurd
 
 -- what wasn't opened for a plan's refusal has that plan
 pub unopened_because : (planned : Result Sent PlanFault) (fault : PoolFault) → IsPlanned planned (Err fault) → (plan : PlanFault) → pool_refusal fault ≡ refusals.Plan plan → planned ≡ Err plan
-unopened_because planned (faults.Plan fault) is plan same = is ∙ ap (λ (f : PlanFault). Err f) (plan_named fault plan same)
+unopened_because planned (faults.Plan fault) is plan same =
+    ⊎_elim (λ refused. refused ∙ ap (λ (f : PlanFault). Err f) (plan_named fault plan same))
+    (λ long. let limit : refusals.Limit Runs most_runs ≡ refusals.Plan plan = sym (ap refusal_of long.3) ∙ same in absurd (cc limit)) is
 unopened_because planned (faults.CannotApply fault) is plan same = absurd (cc same)
 unopened_because planned (faults.Redacted object block) is plan same = absurd (cc same)
 unopened_because planned (faults.Full need largest) is plan same = absurd (cc same)
@@ -349,7 +371,19 @@ unopened_because planned faults.DiskFault is plan same = absurd (cc same)
 unopened_because planned faults.Failed is plan same = absurd (cc same)
 unopened_because planned faults.OutOfMemory is plan same = absurd (cc same)
 
--- and tells a damage of a list alone
+-- and what wasn't opened for a limit of runs has a plan that passes, of a redacted source
+pub unopened_long : (request : SendRequest) (pool : Plain) (out : SinkState) (fault : PoolFault) → IsPlanned (to_send request pool) (Err fault)
+    → TellsLong (to_send request pool) out out (Err (pool_refusal fault))
+unopened_long request pool out fault is = λ number told.
+    let limit : pool_refusal fault ≡ refusals.Limit Runs number = cc told in
+    of_limit number (subst (λ (f : PoolFault). IsPlanned (to_send request pool) (Err f)) (plan_only fault (plans.Limit Runs number) limit) is)
+  where
+    of_limit : (number : ℕ) → IsPlanned (to_send request pool) (Err (faults.Plan (plans.Limit Runs number)))
+        → (number ≡ most_runs) × (out ≡ out) × (sent : Sent) × (to_send request pool ≡ Ok sent) × (is_redacted sent.source ≡ true)
+    of_limit number (inl refused) = absurd (no_limit request pool Runs number refused)
+    of_limit number (inr long) = let same : plans.Limit Runs number ≡ plans.Limit Runs most_runs = long.3 in (cc same, refl, long.0, long.1, long.2)
+
+-- it tells a damage of what is listed alone
 pub unopened_damage : (request : SendRequest) (rows : Rows) (old : IoState) (fault : PoolFault) → TellsLists request old rows (Err fault)
     → TellsOf (IsDamagedRequest request old.space.end rows old.disk) (Err (pool_refusal fault))
 unopened_damage request rows old fault is = λ sector stated found same.

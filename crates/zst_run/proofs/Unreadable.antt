@@ -101,7 +101,7 @@ only_redacted pool state k i is = by (state k) refl is
 -- ---- of what was received
 
 -- the snapshot is there, by its name
-there_by_name : (old new : Pool) (target component : List ℕ) (origin : Option (List ℕ)) (header : Header) (state : State) → (more : HasOneMore old new target component origin header state)
+pub there_by_name : (old new : Pool) (target component : List ℕ) (origin : Option (List ℕ)) (header : Header) (state : State) → (more : HasOneMore old new target component origin header state)
     → snapshot_named (snapshot_name target component) new ≡ Some more.snapshot
 there_by_name old new target component origin header state more =
     let name = snapshot_name target component in

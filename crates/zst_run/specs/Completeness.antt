@@ -37,7 +37,7 @@ use Rattle.zst_run.specs.Runs.{Told}
 use Rattle.zst_run.specs.declared.send.SendRequest.{SendRequest}
 use Rattle.zst_run.specs.declared.send.SendRequest.TheVariants.{Named, Rest}
 use Rattle.zst_run.specs.Replication.{IsReceiver, IsRestReceiver, IsRestSender, IsSender}
-use Rattle.zst_run.specs.Sends.{ReadsFor, Sends, start_of, to_send}
+use Rattle.zst_run.specs.Sends.{ReadsFor, Sends, start_of, to_give}
 use Rattle.zst_run.specs.Tokens.{Tokens}
 
 -- no fault was counted in between
@@ -54,12 +54,12 @@ DoneIsTold = (note note' : SinkState) (status : ℕ) (result : Result (Unit {0})
 
 -- ---- sends
 
--- A run of `send` from an image that reads as a pool for it: where its plan passes, what is to be sent is no longer than a stream may be, and neither
--- the disk nor the output counted a fault, it is done, or no memory was left.
+-- A run of `send` from an image that reads as a pool for it: where it gives something, so that its plan passes and a redacted source has no more runs than a
+-- list may have, what is to be sent is no longer than a stream may be, and neither the disk nor the output counted a fault, it is done, or no memory was left.
 abbrev pub SendsComplete : (here here' : DiskState) → Type 0
 SendsComplete here here' =
     (request : SendRequest) (pool : Pool) (sent : Sent) (out out' : SinkState) (result : Result (Unit {0}) Refusal)
-    → here'.honest → ReadsFor request pool here.seen → to_send request pool ≡ Ok sent → length (begun_text sent (start_of request)) ≤ stream_limit
+    → here'.honest → ReadsFor request pool here.seen → to_give request pool ≡ Ok sent → length (begun_text sent (start_of request)) ≤ stream_limit
     → NoneCounted here.faults here'.faults → NoneCounted out.faults out'.faults
     → Sends request here here' out out' result → DoneOrNoMemory result
 
@@ -123,14 +123,14 @@ pub record CanTake (ask : RecvAsk) (pool : Pool) (sent : Sent) (here : DiskState
   pub counts : pool.number + length (begun_text sent None) ≤ last_number
   pub room : HasRoom here (begun_text sent None)
 
--- A snapshot that one run sends another receives: where the plans of both pass, there is room, and no fault was counted, the run of `send` is done, or no memory
+-- A snapshot that one run sends another receives: where the one gives it and the plan of the other passes, there is room, and no fault was counted, the run of `send` is done, or no memory
 -- was left; and where it is done, so is each run of `receive` whose input has what it wrote. That its records apply, and that no commit of it makes too many
 -- partial states, datasets or snapshots, needs no premise: the plan asks for room.
 abbrev pub TransfersComplete : (here here' there there' : DiskState) → Type 0
 TransfersComplete here here' there there' =
     (tight : Bool) (ask : SendAsk) (receive : RecvAsk) (from into : Pool) (sent : Sent) (text : List ℕ) (out out' other other' : SinkState) (input input' : SourceState)
     (result answer : Result (Unit {0}) Refusal)
-    → IsSender (Named ask) from sent here → IsReceiver tight receive into from sent there there' → CanTake receive into sent there
+    → IsSender (Named ask) from sent here → IsReceiver tight receive into sent there there' → CanTake receive into sent there
     → SendsWell (Named ask) here here' out out' result → ReceivesWell receive there there' input input' other other' answer
     → DoneOrNoMemory result × (result ≡ Ok tt → out'.written ≡ out.written ++ text → HasText text input input' → DoneOrNoMemory answer)
 

@@ -1,6 +1,7 @@
 pub mod Dumps
 pub mod Receives
 pub mod Replication
+pub mod Relays
 pub mod Unreadable
 pub mod Completeness
 pub mod Replies

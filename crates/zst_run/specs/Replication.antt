@@ -21,9 +21,9 @@ use Rattle.zst_plan.specs.declared.receive.RecvAsk.{RecvAsk}
 use Rattle.zst_send.specs.Sends.{begun_text}
 use Rattle.zst_recv.specs.Tokens.{token_told}
 use Rattle.zst_replication.specs.Histories.{StillRemembers}
-use Rattle.zst_replication.specs.MatchingBases.{IsWithin, KnowsSource}
+use Rattle.zst_replication.specs.MatchingBases.{IsWithin}
 use Rattle.zst_replication.specs.Outcomes.{Course, HasNothing, HasOneMore, Progress, base_name, course_from, course_on}
-use Rattle.zst_replication.specs.Replicas.{sent_state}
+use Rattle.zst_replication.specs.Replicas.{MatchesBase, sent_state}
 use Rattle.zst_replication.specs.Resumption.{Chain, IsUnderway}
 use Rattle.zst_token.specs.Spelling.{IsToken}
 use Rattle.zst_token.specs.declared.token.Token.{Token}
@@ -31,31 +31,31 @@ use Rattle.zst_run.specs.Receives.{IsTightOrNew, Keeps, Receiving}
 use Rattle.zst_run.specs.Replies.{Replies}
 use Rattle.zst_run.specs.declared.send.SendRequest.{SendRequest}
 use Rattle.zst_run.specs.declared.send.SendRequest.TheVariants.{Named, Rest}
-use Rattle.zst_run.specs.Sends.{ReadsFor, Sends, to_send}
+use Rattle.zst_run.specs.Sends.{ReadsFor, Sends, to_give}
 
--- an image is read as this pool for what is asked, and this is what a send of it is to give, from its beginning or from a token's point, which is
--- within what a stream can say
+-- an image is read as this pool for what is asked, and this is what a send of it gives, from its beginning or from a token's point, which is within what a
+-- stream can say
 pub record IsSender (request : SendRequest) (from : Pool) (sent : Sent) (here : DiskState) : Type 0 where
   pub reads : ReadsFor request from here.seen
-  pub is : to_send request from ≡ Ok sent
+  pub is : to_give request from ≡ Ok sent
   pub within : IsWithin sent
 
--- an image is read as this pool, whose sets are tight, or which lacks the target; the target has no partial state, and the receiver's
--- snapshots with the source's guid have what the source remembers
-pub record IsReceiver (tight : Bool) (ask : RecvAsk) (into from : Pool) (sent : Sent) (there there' : DiskState) : Type 0 where
+-- an image is read as this pool, whose sets are tight, or which lacks the target; the target has no partial state, and the base that the plan of the receive
+-- begins with is fit for what is sent, as a full stream's is, one that the source remembers, and one that is redacted of that for some snapshots
+pub record IsReceiver (tight : Bool) (ask : RecvAsk) (into : Pool) (sent : Sent) (there there' : DiskState) : Type 0 where
   pub uber : Uber
   pub rows : Rows
   pub honest : there'.honest
   pub reads : ReadsAs tight uber rows into there.seen
   pub may : IsTightOrNew tight ask into
   pub alone : partial_of ask.target into ≡ None
-  pub knows : KnowsSource from sent.source into
+  pub matches : MatchesBase sent ask into
 
 -- an image is read as this pool for what a token asks, and that gives there the same view as what was sent, and is within what a stream can say
 pub record IsRestSender (token : Token) (from : Pool) (sent also : Sent) (here : DiskState) : Type 0 where
   pub is_token : IsToken token
   pub reads : ReadsFor (Rest token) from here.seen
-  pub is : to_send (Rest token) from ≡ Ok also
+  pub is : to_give (Rest token) from ≡ Ok also
   pub same_view : sent_view also ≡ sent_view sent
   pub within : IsWithin also
 
@@ -94,7 +94,7 @@ pub record IsReplicated (tight : Bool) (ask : RecvAsk) (into : Pool) (sent : Sen
 abbrev pub SentSnapshotStands : (here here' there there' : DiskState) → Type 0
 SentSnapshotStands here here' there there' =
     (tight : Bool) (ask : SendAsk) (receive : RecvAsk) (from into : Pool) (sent : Sent) (out out' other other' : SinkState) (input input' : SourceState)
-    → IsSender (Named ask) from sent here → here'.honest → IsReceiver tight receive into from sent there there'
+    → IsSender (Named ask) from sent here → here'.honest → IsReceiver tight receive into sent there there'
     → Sends (Named ask) here here' out out' (Ok tt) → Replies (Receiving receive there there' input input') other other' (Ok tt) → IsPiped out out' input input'
     → IsReplicated tight receive into sent there'
 
@@ -138,7 +138,7 @@ abbrev pub StopsAreProgress : (here there there' : DiskState) → Type 0
 StopsAreProgress here there there' =
     (tight : Bool) (ask : SendAsk) (receive : RecvAsk) (from into : Pool) (sent : Sent) (component : List ℕ) (base : Base) (result : Result (Unit {0}) Refusal)
     (out out' : SinkState) (input input' : SourceState)
-    → IsSender (Named ask) from sent here → IsReceiver tight receive into from sent there there'
+    → IsSender (Named ask) from sent here → IsReceiver tight receive into sent there there'
     → recv_plan receive (header_of sent) into ≡ Ok (Begins component base)
     → Replies (Receiving receive there there' input input') out out' result → IsReadOf (begun_text sent None) input input'
     → AreOnTheirWay tight receive into sent (course_from component base) there there'
@@ -166,7 +166,7 @@ AreChained tight sent target component base there there' =
 pub record RunsAreChained (here there there' : DiskState) : Type 0 where
   pub first : (tight : Bool) (ask : SendAsk) (receive : RecvAsk) (from into : Pool) (sent : Sent) (component : List ℕ) (base : Base) (result : Result (Unit {0}) Refusal)
       (out out' : SinkState) (input input' : SourceState)
-      → IsSender (Named ask) from sent here → IsReceiver tight receive into from sent there there'
+      → IsSender (Named ask) from sent here → IsReceiver tight receive into sent there there'
       → recv_plan receive (header_of sent) into ≡ Ok (Begins component base)
       → Replies (Receiving receive there there' input input') out out' result → IsReadOf (begun_text sent None) input input'
       → AreChained tight sent receive.target component base there there'

@@ -7,7 +7,7 @@ use Rattle.zst_outside.specs.declared.disk.Disk.{Ghosts}
 use Rattle.zst_block.specs.IoStates.{IoState, IsHonest, blocks_of, disk_of, io_of}
 use Rattle.zst_dir.specs.RowNames.{AreNamed}
 use Rattle.zst_dir.specs.Rows.{Rows}
-use Rattle.zst_model.specs.declared.refusals.faults.Quantity.TheVariants.{Stream}
+use Rattle.zst_model.specs.declared.refusals.faults.Quantity.TheVariants.{Runs, Stream}
 use Rattle.zst_model.specs.declared.refusals.plan_fault.PlanFault.{PlanFault}
 use Rattle.zst_model.specs.declared.refusals.refusal.Refusal.{Refusal}
 use Rattle.zst_model.specs.declared.refusals.refusal.Refusal.TheVariants as refusals
@@ -28,7 +28,7 @@ use Rattle.zst_send.specs.Sends.{SendFits, begun_text, sent_set}
 use Rattle.zst_send.specs.declared.send.Send.{Send}
 use Rattle.zst_tree.specs.Indices.{Blocks}
 use Rattle.zst_run.specs.declared.send.SendRequest.{SendRequest}
-use Rattle.zst_run.specs.Sends.{HasSet, IsOut, IsSendRefusal, OfGiving, SendsBy, TellsOf, start_of, to_send}
+use Rattle.zst_run.specs.Sends.{HasSet, IsOut, IsSendRefusal, OfGiving, SendsBy, TellsOf, start_of, to_give, to_send}
 
 -- ---- opening
 
@@ -51,17 +51,17 @@ pub record IsOpenedFor (request : SendRequest) (rows : Rows) (send : Send) : Typ
   pub knows : (images : List (List ℕ)) → Knows (IsAmong images) send
   pub fits : SendFits send
 
--- E25 of an opening comes only of the list of a bookmark by which the request is planned, as the disk had it
+-- E25 of an opening comes only of what is listed for the request's plan, as the disk had it
 abbrev pub TellsLists : SendRequest → IoState → Rows → Result Send PoolFault → Type 0
 TellsLists request io rows result = IfErr result (IsOf (IsDamagedOpening io.space.end io.disk.seen io.disk.size rows (to_send request)))
 
 module _ {D : Type 0} {g : Ghosts D} where
   -- how a request is opened of a pool that works, which is only read
   pub record OpensFor (request : SendRequest) (old new : Pool D g) (result : Result Send PoolFault) : Type 0 where
-    -- where what it needs stands it is opened by its plan, whatever else is damaged
+    -- where what it needs stands it is opened by what it gives, whatever else is damaged
     pub opens : (running : Plain) → IsHonest new.io → AreNamed old.kept.dir running → StandsPlanned (blocks_of old.io) old.kept.dir running (to_send request running)
-        → OpensBy (blocks_of new.io) (start_of request) (to_send request running) result
-    -- whatever the object sets and the lists hold, its refusals are the plan's, and where that passes it is opened, unless a list can't be read
+        → OpensBy (blocks_of new.io) (start_of request) (to_give request running) result
+    -- whatever the object sets and the lists hold, its refusals are the plan's, and where that passes it is opened, unless a list can't be read or is too long
     pub planned : (running : Plain) → AreNamed old.kept.dir running → IsPlanned (to_send request running) result
     pub damaged : IsHonest new.io → TellsLists request (io_of old.io) old.kept.dir result
     pub opened : IfOk result (IsOpenedFor request old.kept.dir)
@@ -104,11 +104,12 @@ module _ {D : Type 0} {g : Ghosts D} where
     -- a send that goes on has met no damaged block
     pub told : result ≡ None → new.io.checksum_errors ≡ old.io.checksum_errors
 
-  -- Why a send ends by this answer, whatever the image: each refusal has its cause, and none is of a plan; E25 tells a damage of its object set, in
-  -- images that its pointers stand in, of which one is what the disk reads.
+  -- Why a send ends by this answer, whatever the image: each refusal has its cause, and none is of a plan or a list; E25 tells a damage of its object set,
+  -- in images that its pointers stand in, of which one is what the disk reads.
   pub record WhySendEnds (old new : Pool D g) (send : Send) (out out' : SinkState) (answer : Result (Unit {0}) Refusal) : Type 0 where
     pub refused : IfErr answer (IsSendRefusal OfGiving (disk_of old.io) (disk_of new.io) out out')
     pub unplanned : (fault : PlanFault) → answer ≢ Err (refusals.Plan fault)
+    pub listed : (number : ℕ) → answer ≢ Err (refusals.Limit Runs number)
     -- one that ends well has met no damaged block
     pub told : (done : Unit {0}) → answer ≡ Ok done → new.io.checksum_errors ≡ old.io.checksum_errors
     pub damaged : (images : List (List ℕ)) → Contains images (disk_of old.io).seen → IsHonest new.io → Knows (IsAmong images) send

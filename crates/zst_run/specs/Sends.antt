@@ -1,5 +1,5 @@
 -- What a send writes, from its beginning or from a token's point, and why it ends.
-use Rattle.std.specs.Prelude.{ℕ, ◌≡◌, ◌≢◌, ◌⊎◌, ◌<◌, ◌≤◌, IfErr, List, [], ◌++◌, length, Option, None, Some, Result, Ok, Err, false}
+use Rattle.std.specs.Prelude.{ℕ, ◌≡◌, ◌≢◌, ◌⊎◌, ◌<◌, ◌≤◌, IfErr, List, [], ◌++◌, length, Option, None, Some, Result, Ok, Err, true, false}
 use Rattle.zst_outside.specs.Causes.{Rose}
 use Rattle.zst_outside.specs.Images.{DiskState, OnlyReads}
 use Rattle.zst_outside.specs.Printing.{Printed, Wrote}
@@ -8,7 +8,7 @@ use Rattle.zst_block.specs.Blocks.{Has}
 use Rattle.zst_uber.specs.Body.{InRange, UberFits}
 use Rattle.zst_uber.specs.Slots.{Stands}
 use Rattle.zst_uber.specs.declared.uber.Uber.{Uber}
-use Rattle.zst_model.specs.declared.refusals.faults.Quantity.TheVariants.{Stream}
+use Rattle.zst_model.specs.declared.refusals.faults.Quantity.TheVariants.{Runs, Stream}
 use Rattle.zst_model.specs.declared.refusals.subjects.Name.{Name}
 use Rattle.zst_model.specs.declared.refusals.subjects.Name.TheVariants as names
 use Rattle.zst_model.specs.declared.refusals.plan_fault.PlanFault.{PlanFault}
@@ -16,10 +16,11 @@ use Rattle.zst_model.specs.declared.refusals.refusal.Refusal.{Refusal}
 use Rattle.zst_model.specs.declared.refusals.refusal.Refusal.TheVariants as refusals
 use Rattle.zst_model.specs.declared.sends.ask.SendAsk.{SendAsk}
 use Rattle.zst_model.specs.declared.sends.header.Point.{Point}
+use Rattle.zst_model.specs.pools.Limits.{most_runs}
 use Rattle.zst_model.specs.pools.Pool.{Pool, IsPool}
 use Rattle.zst_model.specs.refusals.Refusal.{refusal_of}
 use Rattle.zst_model.specs.sends.Headers.{Sent, choice_of, sent_view}
-use Rattle.zst_model.specs.sends.SendPlan.{send_plan}
+use Rattle.zst_model.specs.sends.SendPlan.{is_redacted, send_plan, with_list}
 use Rattle.zst_laws.specs.AlikePools.{AlikeFor}
 use Rattle.zst_tree.specs.Damage.{IsSeen}
 use Rattle.zst_tree.specs.declared.tree.ObjSet.{ObjSet}
@@ -46,10 +47,14 @@ abbrev pub IsSource : Name → Type 0
 IsSource (names.Dataset name) = ⊥
 IsSource name = Unit {0}
 
--- what is to be sent, or why it can't: the refusals of its plan
+-- what is to be sent, or why it can't: the refusals of its plan, which the directory tells alone
 abbrev pub to_send : SendRequest → Pool → Result Sent PlanFault
 to_send (Named ask) pool = send_plan ask pool
 to_send (Rest token) pool = rest_of token pool
+
+-- what a send of it gives: behind its plan comes E23 of a redacted source snapshot of which more runs are redacted than a list may have
+abbrev pub to_give : SendRequest → Pool → Result Sent PlanFault
+to_give request pool = with_list (to_send request pool)
 
 -- the point that a send begins at: a token's, and none of a send from the beginning
 abbrev pub start_of : SendRequest → Option Point
@@ -65,7 +70,8 @@ HasSet (Rest token) rows set = set_with token.to rows ≡ Some set
 abbrev pub IsDamagedSet : SendRequest → Rows → DiskState → DamageFact
 IsDamagedSet request rows disk sector stated found = (set : ObjSet) × HasSet request rows set × IsDamagedSend (IsSeen disk.seen) disk.size set sector stated found
 
--- what a send may tell: a damage of that object set, or one of the list of a bookmark by which it is planned, with the free sectors from this end on
+-- what a send may tell: a damage of that object set, or one of what is listed for its plan, with the free sectors from this end on: of the list of one
+-- of its bookmarks, or of what tells which blocks its redacted source snapshot has redacted
 abbrev pub IsDamagedRequest : SendRequest → (end : ℕ) → Rows → DiskState → DamageFact
 IsDamagedRequest request end rows disk sector stated found =
     IsDamagedSet request rows disk sector stated found ⊎ IsDamagedOpening end disk.seen disk.size rows (to_send request) sector stated found
@@ -73,7 +79,8 @@ IsDamagedRequest request end rows disk sector stated found =
 -- ---- what a send needs of its image
 
 -- The image reads as this pool for what is asked: its latest body and its directory name a lawful pool, and where the plan passes, what that send needs stands:
--- the set of its snapshot, but for the bytes of the pairs to redact, and the lists of its bookmarks. Whatever else is damaged, the redacted blocks too, doesn't matter.
+-- the set of its snapshot, but for the bytes of the pairs to redact, the lists of its bookmarks, and the set of its source where that is a redacted snapshot. Whatever
+-- else is damaged, the redacted blocks too, doesn't matter.
 pub record ReadsForAs (request : SendRequest) (uber : Uber) (rows : Rows) (pool : Pool) (image : List ℕ) : Type 0 where
   pub stands : Stands uber image
   pub fits : UberFits uber
@@ -146,16 +153,24 @@ pub record SendsBy (start : Option Point) (planned : Result Sent PlanFault) (bef
 abbrev pub TellsOf : DamageFact → Result (Unit {0}) Refusal → Type 0
 TellsOf Is result = (sector : ℕ) (stated found : List ℕ) → result ≡ Err (refusals.Damaged sector stated found) → Is sector stated found
 
+-- E23 of runs comes only where the plan passes and what it is from is a redacted snapshot; it tells the most runs that a list may have, and nothing is written
+abbrev pub TellsLong : Result Sent PlanFault → SinkState → SinkState → Result (Unit {0}) Refusal → Type 0
+TellsLong planned out out' result =
+    (number : ℕ) → result ≡ Err (refusals.Limit Runs number)
+    → (number ≡ most_runs) × (out' ≡ out) × (sent : Sent) × (planned ≡ Ok sent) × (is_redacted sent.source ≡ true)
+
 -- A send from a pool that was opened by this body and these rows, whether or not the image reads as a pool. What the directory
 -- tells alone: E3, E6, E7 and E19 come exactly where the definition refuses the plan of a pool that the body and the rows name,
--- whatever its object sets and lists hold, and then nothing is written. E25 comes only of a block of the asked snapshot's own object
--- set, or, where a token asks, of that of the first snapshot with its to guid; or of the list of one of the two bookmarks of its plan.
+-- whatever its object sets and lists hold, and then nothing is written. E23 of runs comes behind that, and of a redacted source alone.
+-- E25 comes only of a block of the asked snapshot's own object set, or, where a token asks, of that of the first snapshot with its to
+-- guid; of the list of one of the two bookmarks of its plan; or of what tells which blocks its redacted source has redacted.
 pub record SendRan (request : SendRequest) (here : DiskState) (out out' : SinkState) (result : Result (Unit {0}) Refusal) (uber : Uber) (rows : Rows) : Type 0 where
   pub opens : Opens here uber rows
   pub planned : (pool : Pool) (fault : PlanFault) → IsNamedBy uber (kept_rows rows) pool → to_send request pool ≡ Err fault
       → (result ≡ Err (refusal_of fault)) × (out' ≡ out)
   pub because : (pool : Pool) (fault : PlanFault) → IsNamedBy uber (kept_rows rows) pool → result ≡ Err (refusals.Plan fault)
       → to_send request pool ≡ Err fault
+  pub long : (pool : Pool) → IsNamedBy uber (kept_rows rows) pool → TellsLong (to_send request pool) out out' result
   pub damaged : TellsOf (IsDamagedRequest request uber.end (kept_rows rows) here) result
 
 -- a refusal of a pool that was opened, E30, or E23 of a stream; and one of opening the pool
@@ -171,10 +186,10 @@ pub record IsSendRefusal (Is : Refusal → Type 0) (here here' : DiskState) (out
   pub never_full : (need largest : ℕ) → refusal ≢ refusals.Full need largest
   pub cause : refusal ≡ refusals.SinkFault → Rose out.faults out'.faults
 
--- A send of what is asked, from an image, which is only read. Of a pool a front of the text of its plan is written, as long as the image has what the send needs.
+-- A send of what is asked, from an image, which is only read. Of a pool a front of the text of what it gives is written, as long as the image has what the send needs.
 pub record Sends (request : SendRequest) (here here' : DiskState) (out out' : SinkState) (result : Result (Unit {0}) Refusal) : Type 0 where
   pub reads : OnlyReads here here'
-  pub sends : (pool : Pool) → here'.honest → ReadsFor request pool here.seen → SendsBy (start_of request) (to_send request pool) here.faults here'.faults out out' result
+  pub sends : (pool : Pool) → here'.honest → ReadsFor request pool here.seen → SendsBy (start_of request) (to_give request pool) here.faults here'.faults out out' result
   pub opened : here'.honest → SaysOfOpening (out' ≡ out) here (SendRan request here out out' result) result
   pub refused : IfErr result (IsSendRefusal OfSending here here' out out')
   pub later : here.faults ≤ here'.faults
@@ -188,7 +203,7 @@ pub record SendsOf (sent : Sent) (start : Option Point) (here here' : DiskState)
   pub pool : Pool
   pub honest : here'.honest
   pub reads : ReadsFor request pool here.seen
-  pub is : to_send request pool ≡ Ok sent
+  pub is : to_give request pool ≡ Ok sent
   pub sends : Sends request here here' out out' result
 
 -- two outputs got bytes of which those of one are a front of those of the other
@@ -217,11 +232,11 @@ pub record SentAlike (here here' there there' : DiskState) : Type 0 where
 
 -- ---- two worlds
 
--- a run of `send` was asked for this snapshot, of a pool that its image reads as for it, and this is what its plan is to give
+-- a run of `send` was asked for this snapshot, of a pool that its image reads as for it, and this is what it is to give
 pub record SentOf (ask : SendAsk) (pool : Pool) (sent : Sent) (here here' : DiskState) (out out' : SinkState) (result : Result (Unit {0}) Refusal) : Type 0 where
   pub honest : here'.honest
   pub reads : ReadsFor (Named ask) pool here.seen
-  pub is : send_plan ask pool ≡ Ok sent
+  pub is : to_give (Named ask) pool ≡ Ok sent
   pub sends : Sends (Named ask) here here' out out' result
 
 -- No byte that is redacted is in what is sent: two runs that are asked the same, of pools that are alike in it but for the bytes of the pairs that it redacts,

@@ -2,9 +2,7 @@
 ghost use Rattle.zst_run.specs.Completeness.{CreatesComplete, DoneIsTold, DumpsComplete, ReceivesComplete, RestTransfersComplete, SendsComplete, StepsComplete, TokensComplete, TransfersComplete};
 
 use zst_outside::Disk;
-use zst_replication::{
-    bases_match, rest_can_be_sent, rest_is_accepted, sent_can_be_sent, sent_is_accepted,
-};
+use zst_replication::{rest_can_be_sent, rest_is_accepted, sent_can_be_sent, sent_is_accepted};
 use zst_stream::{fronts_agree, view_is_read};
 
 /// What is done is told by status 0, and want of memory by 10.
@@ -32,7 +30,6 @@ pub fn transfers_complete<D: Disk, E: Disk>()
     ensures { (here now : D) (there later : E) → TransfersComplete (D.state here) (D.state now) (E.state there) (E.state later) }
 {
     sent_can_be_sent();
-    bases_match();
     sent_is_accepted();
     view_is_read();
 }

@@ -24,8 +24,8 @@ pub use image::{OpenMode, open, opening_of};
 pub use note::status_of;
 pub use replication::{
     chains_of_runs_complete, cuts_tell_alike, redacted_is_unreadable, refused_leaves_nothing,
-    rests_are_progress, sent_rest_stands, sent_snapshot_stands, sound_stays_sound,
-    sources_still_remember, stops_are_progress,
+    relayed_snapshot_stands, rests_are_progress, sent_rest_stands, sent_snapshot_stands,
+    sound_stays_sound, sources_still_remember, stops_are_progress,
 };
 pub use runs::run;
 pub use send::{equal_views_are_written_alike, pools_read_for_sends, two_worlds_are_sent_alike};

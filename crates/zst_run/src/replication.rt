@@ -1,15 +1,17 @@
 // What the runs of a send and of a receive come to together.
 ghost use Rattle.zst_run.specs.AlikeTokens.{CutsTellAlike};
+ghost use Rattle.zst_run.specs.Relays.{RelayedSnapshotStands};
 ghost use Rattle.zst_run.specs.Replication.{ChainsComplete, RefusedLeavesNothing, RestsAreProgress, RunsAreChained, SentRestStands, SentSnapshotStands, SoundStaysSound, SourcesStillRemember, StopsAreProgress};
 ghost use Rattle.zst_run.specs.Unreadable.{RedactedExactly, RedactedIsUnreadable};
 
+use crate::send::pools_read_for_sends;
 use zst_image::images_keep_partials;
-use zst_laws::keeping_is_done;
+use zst_laws::{keeping_is_done, plans_are_of_pool};
 use zst_outside::Disk;
 use zst_replication::{
-    bases_match, chains_complete, cut_leaves_nothing, equal_pieces_tell_alike, left_is_kept,
-    one_more_is_kept, receives_keep_sound, receives_remember, rest_can_be_sent, rest_is_received,
-    resumed_stops_are_progress, sent_can_be_sent, sent_is_received,
+    chains_complete, cut_leaves_nothing, equal_pieces_tell_alike, left_is_kept, one_more_is_kept,
+    receives_keep_sound, receives_remember, relayed_is_received, rest_can_be_sent,
+    rest_is_received, resumed_stops_are_progress, sent_can_be_sent, sent_is_received,
 };
 
 /// What one run sent and another received stands as one snapshot more, and all else is as it was.
@@ -19,9 +21,22 @@ pub fn sent_snapshot_stands<D: Disk, E: Disk>()
     keeping_is_done();
     images_keep_partials();
     sent_can_be_sent();
-    bases_match();
     sent_is_received();
     one_more_is_kept();
+}
+
+/// What one run sent and another received, sent on as it is by a third and received by a fourth, stands there as it was sent.
+pub fn relayed_snapshot_stands<D: Disk, E: Disk, F: Disk>()
+    ensures { (here now : D) (there later after : E) (far beyond : F) → RelayedSnapshotStands (D.state here) (D.state now) (E.state there) (E.state later) (E.state after) (F.state far) (F.state beyond) }
+{
+    keeping_is_done();
+    images_keep_partials();
+    sent_can_be_sent();
+    sent_is_received();
+    one_more_is_kept();
+    plans_are_of_pool();
+    relayed_is_received();
+    pools_read_for_sends();
 }
 
 /// Exactly what the redaction bookmark lists, and what was redacted before, is redacted in what is received, and can't be read there.
@@ -56,7 +71,6 @@ pub fn stops_are_progress<D: Disk, E: Disk>()
     keeping_is_done();
     images_keep_partials();
     sent_can_be_sent();
-    bases_match();
     zst_replication::stops_are_progress();
 }
 
@@ -90,7 +104,6 @@ pub fn chains_of_runs_complete<D: Disk, E: Disk>()
     keeping_is_done();
     images_keep_partials();
     sent_can_be_sent();
-    bases_match();
     rest_can_be_sent();
     chains_complete();
     one_more_is_kept();

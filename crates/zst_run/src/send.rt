@@ -15,7 +15,7 @@ ghost use Rattle.zst_send.specs.Openings.{StandsPlanned, rest_of};
 ghost use Rattle.zst_script.specs.Asks.{ask_of, source_of};
 ghost use Rattle.zst_run.specs.declared.send.SendRequest.TheVariants.{Named, Rest};
 ghost use Rattle.zst_run.specs.LaterDisks.{IsLater};
-ghost use Rattle.zst_run.specs.Sends.{IsDamagedRequest, IsSendRefusal, IsSource, OfGiving, ReadsForSends, Sends, SendsBy, SentAlike, TellsOf, TwoWorldsAreSentAlike, start_of, to_send};
+ghost use Rattle.zst_run.specs.Sends.{IsDamagedRequest, IsSendRefusal, IsSource, OfGiving, ReadsForSends, Sends, SendsBy, SentAlike, TellsLong, TellsOf, TwoWorldsAreSentAlike, start_of, to_give, to_send};
 ghost use Rattle.zst_run.specs.SendPieces.{Advances, GivesPieces, IfUnplanned, OpensFor, Passed, PieceLeaves, Sending, WhySendEnds, WritesPiece};
 
 use crate::reply::hand_on;
@@ -205,7 +205,7 @@ fn open_rest<D: Disk>(
     Send::resume(pool, alloc, &plan, token.point)
 }
 
-// Opens a send, which reads the lists of its bookmarks alone.
+// Opens a send, which reads the lists of its bookmarks, and of a redacted source snapshot which blocks are redacted.
 fn open<D: Disk>(
     alloc: Global,
     pool: &mut Pool<'_, D>,
@@ -229,9 +229,10 @@ fn send_from<D: Disk, K: Sink>(
 ) -> Result<(), Refusal>
     requires works { pool.old.io.failed ≡ false }
     ensures sends { (running : Plain) → IsHonest pool.new.io → AreNamed pool.old.kept.dir running → StandsPlanned (blocks_of pool.old.io) pool.old.kept.dir running (to_send request.now running)
-        → SendsBy (start_of request.now) (to_send request.now running) (disk_of pool.old.io).faults (disk_of pool.new.io).faults (K.state out.old) (K.state out.new) result }
+        → SendsBy (start_of request.now) (to_give request.now running) (disk_of pool.old.io).faults (disk_of pool.new.io).faults (K.state out.old) (K.state out.new) result }
     ensures planned { (running : Plain) → AreNamed pool.old.kept.dir running → IfUnplanned (to_send request.now running) (K.state out.old) (K.state out.new) result }
     ensures because { (running : Plain) (fault : PlanFault) → AreNamed pool.old.kept.dir running → result ≡ Err (Refusal.Plan fault) → to_send request.now running ≡ Err fault }
+    ensures long { (running : Plain) → AreNamed pool.old.kept.dir running → TellsLong (to_send request.now running) (K.state out.old) (K.state out.new) result }
     ensures damaged { IsHonest pool.new.io → TellsOf (IsDamagedRequest request.now pool.old.io.space.end pool.old.kept.dir (disk_of pool.old.io)) result }
     ensures refused { IfErr result (IsSendRefusal OfGiving (disk_of pool.old.io) (disk_of pool.new.io) (K.state out.old) (K.state out.new)) }
     ensures reads { OnlyReads (disk_of pool.old.io) (disk_of pool.new.io) }

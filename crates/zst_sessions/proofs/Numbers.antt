@@ -25,8 +25,8 @@ use Rattle.zst_script.specs.declared.event.Event.{Event}
 use Rattle.zst_script.specs.declared.event.Event.TheVariants as events
 use Rattle.zst_script.specs.declared.event.Side.{Side}
 use Rattle.zst_script.specs.declared.event.Side.TheVariants.{Here, There}
-use Rattle.zst_model.specs.sends.SendPlan.{send_plan}
-use Rattle.zst_send.specs.Openings.{to_resume}
+use Rattle.zst_model.specs.sends.SendPlan.{send_plan, with_list}
+use Rattle.zst_send.specs.Openings.{rest_of}
 use Rattle.zst_record.specs.Heads.{Covered}
 use Rattle.zst_stream.specs.Reading.{reading}
 use Rattle.zst_token.specs.declared.token.Token.{Token}
@@ -163,7 +163,7 @@ module _ (commits_count : CommitsCount) (answers_keep : AnswersKeep) (now : ℕ)
 
   resumed_rises : (side : Side) (id : ℕ) (r : Result Token PlanFault) → Rise world (resumed side id world r).world
   resumed_rises side id (Err fault) = stays world
-  resumed_rises side id (Ok token) = opened_rises side id (Some token.point) (to_resume token (at_side side world).pool)
+  resumed_rises side id (Ok token) = opened_rises side id (Some token.point) (with_list (rest_of token (at_side side world).pool))
 
   new_receive_rises : (o : Option ℕ) (rest : Moved) → Rise world rest.world → Rise world (if_new_receive o world rest).world
   new_receive_rises (Some other) rest rises = stays world
@@ -229,7 +229,7 @@ unfolding moved
 moved_rises counts keep now world (events.Step side command) =
     either counts keep now world (at_side side world).failed _ _ (stepped_rises counts keep now world side command (stepped (held_at side world) now command (at_side side world).pool) refl)
 moved_rises counts keep now world (events.Token side dataset) = either counts keep now world (at_side side world).failed _ _ (told_rises counts keep now world (token_told dataset (at_side side world).pool))
-moved_rises counts keep now world (events.Send side id ask) = either counts keep now world (at_side side world).failed _ _ (opened_rises counts keep now world side id None (send_plan ask (at_side side world).pool))
+moved_rises counts keep now world (events.Send side id ask) = either counts keep now world (at_side side world).failed _ _ (opened_rises counts keep now world side id None (with_list (send_plan ask (at_side side world).pool)))
 moved_rises counts keep now world (events.Resume side id dataset) =
     either counts keep now world (at_side side world).failed _ _ (either counts keep now world (at_side (other_side side) world).failed _ _
     (resumed_rises counts keep now world side id (token_told dataset (at_side (other_side side) world).pool)))

@@ -17,8 +17,8 @@ use Rattle.zst_script.specs.declared.event.Event.{Event}
 use Rattle.zst_script.specs.declared.event.Event.TheVariants as events
 use Rattle.zst_script.specs.declared.event.Side.{Side}
 use Rattle.zst_script.specs.declared.event.Side.TheVariants.{Here, There}
-use Rattle.zst_model.specs.sends.SendPlan.{send_plan}
-use Rattle.zst_send.specs.Openings.{to_resume}
+use Rattle.zst_model.specs.sends.SendPlan.{send_plan, with_list}
+use Rattle.zst_send.specs.Openings.{rest_of}
 use Rattle.zst_send.specs.Sends.{SameViewsSameRest, begun_text}
 use Rattle.zst_token.specs.declared.token.Token.{Token}
 use Rattle.zst_sessions.specs.World.{OpenSend, OpenReceive, World, at_side, other_side, is_side, send_with, receive_with, is_used, held_at, put_send, next_piece, gone_on}
@@ -116,7 +116,7 @@ module _ (id : ℕ) (send : OpenSend) where
   opened_stays event side other start world (Err fault) found = inl found
 
   resumed_stays : (event : Event) (side : Side) (other : ℕ) (world : World) (r : Result Token PlanFault) → found_in world.sends → Stays event (resumed side other world r).world.sends
-  resumed_stays event side other world (Ok token) found = opened_stays event side other (Some token.point) world (to_resume token (at_side side world).pool) found
+  resumed_stays event side other world (Ok token) found = opened_stays event side other (Some token.point) world (with_list (rest_of token (at_side side world).pool)) found
   resumed_stays event side other world (Err fault) found = inl found
 
   new_receive : (event : Event) (o : Option ℕ) (world : World) (rest : Moved) → found_in world.sends → Stays event rest.world.sends → Stays event (if_new_receive o world rest).world.sends
@@ -186,7 +186,7 @@ module _ (id : ℕ) (send : OpenSend) where
       (same (events.Token side dataset) world _ (told_sends world (token_told dataset (at_side side world).pool)) found)
   moved_stays now (events.Send side other ask) world found =
       either (events.Send side other ask) (at_side side world).failed world refusals.Failed _ (inl found)
-      (opened_stays (events.Send side other ask) side other None world (send_plan ask (at_side side world).pool) found)
+      (opened_stays (events.Send side other ask) side other None world (with_list (send_plan ask (at_side side world).pool)) found)
   moved_stays now (events.Resume side other dataset) world found =
       either (events.Resume side other dataset) (at_side side world).failed world refusals.Failed _ (inl found)
       (either (events.Resume side other dataset) (at_side (other_side side) world).failed world refusals.Failed _ (inl found)

@@ -25,8 +25,8 @@ use Rattle.zst_script.specs.declared.event.Event.{Event}
 use Rattle.zst_script.specs.declared.event.Event.TheVariants as events
 use Rattle.zst_script.specs.declared.event.Side.{Side}
 use Rattle.zst_script.specs.declared.event.Side.TheVariants.{Here, There}
-use Rattle.zst_model.specs.sends.SendPlan.{send_plan}
-use Rattle.zst_send.specs.Openings.{to_resume}
+use Rattle.zst_model.specs.sends.SendPlan.{send_plan, with_list}
+use Rattle.zst_send.specs.Openings.{rest_of}
 use Rattle.zst_token.specs.declared.token.Token.{Token}
 use Rattle.zst_sessions.specs.World.{OpenPool, OpenSend, OpenReceive, World, at_side, other_side, is_side, put_side, claim_of, hold_of, sends_on, receives_on, held_at, is_used, send_with, receive_with, put_send, moved_to, next_piece, gone_on}
 use Rattle.zst_sessions.specs.Moves.{Moved, cut_off, ended, fed_to, feeding, if_new_receive, if_works, in_the_way, most_receives, most_sends, moved, no_session, on_receive, on_send, opened_send, pumped, refuses, resumed, stepped_to, told_by}
@@ -341,7 +341,7 @@ module _ (claims : ClaimedStays) (leave : FeedsLeaveOthers) (stand : FeedsStand)
     opened_keeps side id start (Err fault) = is
 
     resumed_keeps : (side : Side) (id : ℕ) (r : Result Token PlanFault) → IsWorld (resumed side id world r).world
-    resumed_keeps side id (Ok token) = opened_keeps side id (Some token.point) (to_resume token (at_side side world).pool)
+    resumed_keeps side id (Ok token) = opened_keeps side id (Some token.point) (with_list (rest_of token (at_side side world).pool))
     resumed_keeps side id (Err fault) = is
 
     -- one more receive
@@ -388,7 +388,7 @@ module _ (claims : ClaimedStays) (leave : FeedsLeaveOthers) (stand : FeedsStand)
     unfolding moved
     moved_keeps (events.Step side command) = either (at_side side world).failed _ _ (stepped_keeps side command (stepped (held_at side world) now command (at_side side world).pool) refl)
     moved_keeps (events.Token side dataset) = either (at_side side world).failed _ _ (told_keeps (token_told dataset (at_side side world).pool))
-    moved_keeps (events.Send side id ask) = either (at_side side world).failed _ _ (opened_keeps side id None (send_plan ask (at_side side world).pool))
+    moved_keeps (events.Send side id ask) = either (at_side side world).failed _ _ (opened_keeps side id None (with_list (send_plan ask (at_side side world).pool)))
     moved_keeps (events.Resume side id dataset) =
         either (at_side side world).failed _ _ (either (at_side (other_side side) world).failed _ _ (resumed_keeps side id (token_told dataset (at_side (other_side side) world).pool)))
     moved_keeps (events.Receive side id ask) =

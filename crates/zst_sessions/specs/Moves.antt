@@ -26,8 +26,8 @@ use Rattle.zst_recv.specs.Tokens.{token_told}
 use Rattle.zst_script.specs.declared.event.Event.{Event}
 use Rattle.zst_script.specs.declared.event.Event.TheVariants as events
 use Rattle.zst_script.specs.declared.event.Side.{Side}
-use Rattle.zst_model.specs.sends.SendPlan.{send_plan}
-use Rattle.zst_send.specs.Openings.{to_resume}
+use Rattle.zst_model.specs.sends.SendPlan.{send_plan, with_list}
+use Rattle.zst_send.specs.Openings.{rest_of}
 use Rattle.zst_token.specs.Spelling.{token_text}
 use Rattle.zst_token.specs.declared.token.Token.{Token}
 use Rattle.zst_sessions.specs.World.{OpenSend, OpenReceive, World, at_side, other_side, is_side, put_side, with_running, send_with, receive_with, is_used, held_at, with_send, put_send, without_send, with_receive, put_receive, without_receive, next_piece, gone_on}
@@ -91,7 +91,7 @@ if_new_send id world rest =
     if is_used id world then refuses (busy_session id) world else
     (if nat_lt (length world.sends) most_sends then rest else refuses (refusals.Limit quantities.Sends most_sends) world)
 
--- a send of what its plan gives: the refusals of the plan come first
+-- a send of what it gives: the refusals of its plan and of its source's list come first
 abbrev pub opened_send : Side → ℕ → Option Point → World → Result Sent PlanFault → Moved
 opened_send side id start world (Err fault) = refuses (refusal_of fault) world
 opened_send side id start world (Ok sent) =
@@ -101,7 +101,7 @@ opened_send side id start world (Ok sent) =
 -- a send by the token that the other pool tells: E14 comes before
 abbrev pub resumed : Side → ℕ → World → Result Token PlanFault → Moved
 resumed side id world (Err fault) = refuses (refusal_of fault) world
-resumed side id world (Ok token) = opened_send side id (Some token.point) world (to_resume token (at_side side world).pool)
+resumed side id world (Ok token) = opened_send side id (Some token.point) world (with_list (rest_of token (at_side side world).pool))
 
 -- the session in whose way a receive is: one that receives into its target, or one that has its id; the one with the least id of them
 abbrev pub in_the_way : Side → ℕ → List ℕ → World → Option ℕ
@@ -182,7 +182,7 @@ unfoldable pub moved : (now : ℕ) → Event → World → Moved
 moved now (events.Step side command) world =
     if_works side world (stepped_to side world (stepped (held_at side world) now command (at_side side world).pool))
 moved now (events.Token side dataset) world = if_works side world (told_by world (token_told dataset (at_side side world).pool))
-moved now (events.Send side id ask) world = if_works side world (opened_send side id None world (send_plan ask (at_side side world).pool))
+moved now (events.Send side id ask) world = if_works side world (opened_send side id None world (with_list (send_plan ask (at_side side world).pool)))
 moved now (events.Resume side id dataset) world =
     if_works side world (if_works (other_side side) world (resumed side id world (token_told dataset (at_side (other_side side) world).pool)))
 moved now (events.Receive side id ask) world = if_works side world (opened_receive side id ask world)

@@ -2,7 +2,7 @@ use Rattle.zst_run.proofs.ChainedRuns.{chained_so, chains_so}
 use Rattle.zst_run.proofs.replication.chains_of_runs_complete.Goals as goal
 
 pub returns-clause-chained : goal.returns-clause-chained
-returns-clause-chained g c = λ here there later. chained_so (c.sent_can_be_sent.ensures, c.bases_match.ensures) c.rest_can_be_sent.ensures _ _ _
+returns-clause-chained g c = λ here there later. chained_so c.sent_can_be_sent.ensures c.rest_can_be_sent.ensures _ _ _
 
 pub returns-clause-complete : goal.returns-clause-complete
 returns-clause-complete g c = λ here there later.

@@ -1,7 +1,8 @@
-use Rattle.std.proofs.Common.{Result, sym, subst}
+use Rattle.std.proofs.Common.{Result, ap, inl, sym, subst}
 use Rattle.std.proofs.lemmas.Result.{err_from_is_err_and}
 use Rattle.zst_model.specs.declared.refusals.plan_fault.PlanFault.{PlanFault}
 use Rattle.zst_model.specs.sends.Headers.{Sent}
+use Rattle.zst_model.specs.sends.SendPlan.{with_list}
 use Rattle.zst_plan.specs.Plans.{IsPlanOf}
 use Rattle.zst_send.specs.Openings.{IsPlanned, rest_of}
 use Rattle.zst_run.specs.declared.send.SendRequest.TheVariants.{Rest}
@@ -14,8 +15,8 @@ returns-in_err-plan g c =
     let fault = c.in_err-plan.field-0.0 in
     let p = err_from_is_err_and c.from_residual.result c.from_residual.ensures.1 in
     rw (p.1, p.2) (record {
-      opens = λ running told named stands. refusal_is (IsPlanOf rows running) fault (rest_of c.args.token.now running) (c.in_err-plan.ensures.plans.found running named);
-      planned = λ running named. refusal_is (IsPlanOf rows running) fault (rest_of c.args.token.now running) (c.in_err-plan.ensures.plans.found running named);
+      opens = λ running told named stands. ap with_list (refusal_is (IsPlanOf rows running) fault (rest_of c.args.token.now running) (c.in_err-plan.ensures.plans.found running named));
+      planned = λ running named. inl (refusal_is (IsPlanOf rows running) fault (rest_of c.args.token.now running) (c.in_err-plan.ensures.plans.found running named));
       damaged = λ told sector stated found same. absurd (cc same);
       opened = tt;
       reads = reads_nothing c.args.pool.now fault c.requires;

@@ -43,6 +43,7 @@ returns-in-Some g c =
       why = record {
         refused = refused_earlier _ _ _ _ _ _ _ i.later.faults i.out_later e.why.refused;
         unplanned = e.why.unplanned;
+        listed = e.why.listed;
         told = λ done is. e.why.told done is ∙ i.counts;
         damaged = λ images among told knows.
             rw (i.reads.size, i.set) at (e.why.damaged images (among_on images _ _ i.reads.seen among) told (i.knows images (e.reads.honest told) among knows));

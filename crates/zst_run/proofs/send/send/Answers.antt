@@ -34,6 +34,7 @@ returns g c =
     (record {
       planned = λ pool named. s.planned pool (rw (n.kept) named);
       because = λ pool fault named is. s.because pool fault (rw (n.kept) named) is;
+      long = λ pool named. s.long pool (rw (n.kept) named);
       damaged = λ told.
           let told_of = λ (space : FreeSectors) (kept : PoolState). TellsOf (IsDamagedRequest c.args.request.now space.end kept.dir mid) c.send_from-result.result in
           subst (told_of (free_by c.in_ok-kept.kept.body)) n.kept (subst (λ (space : FreeSectors). told_of space c.new-pool.result.kept) n.space (s.damaged told));

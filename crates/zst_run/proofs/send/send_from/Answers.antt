@@ -8,13 +8,13 @@ use Rattle.zst_model.specs.declared.refusals.refusal.Refusal.TheVariants as refu
 use Rattle.zst_pool.specs.Faults.{pool_refusal}
 use Rattle.zst_pool.specs.Queries.{stop_of}
 use Rattle.zst_pool.specs.declared.fault.PoolFault.{PoolFault}
-use Rattle.zst_run.specs.Sends.{TellsOf, start_of, to_send}
+use Rattle.zst_run.specs.Sends.{TellsOf, start_of, to_give, to_send}
 use Rattle.zst_send.specs.Damage.{IsDamagedSend}
 use Rattle.zst_send.specs.KnownPointers.{IsAmong}
 use Rattle.zst_send.specs.Sends.{sent_set}
 use Rattle.zst_send.specs.declared.send.Send.{Send}
 use Rattle.zst_run.proofs.LaterDisks.{later_looked, later_then}
-use Rattle.zst_run.proofs.SendLemmas.{among_one, memory_refused, no_memory, open_refused, opened_planned, refused_earlier, sends_from, set_damage, unopened_because, unopened_by, unopened_damage, unopened_planned}
+use Rattle.zst_run.proofs.SendLemmas.{among_one, memory_refused, no_memory, open_refused, opened_planned, refused_earlier, sends_from, set_damage, unopened_because, unopened_by, unopened_damage, unopened_long, unopened_planned}
 use Rattle.zst_run.proofs.send.send_from.Goals as goal
 
 pub returns-in_err-send-clause-sends : goal.returns-in_err-send-clause-sends
@@ -22,7 +22,7 @@ returns-in_err-send-clause-sends g c = λ running told named stands.
     let p = err_from_is_err_and c.from_residual.result c.from_residual.ensures.1 in
     let o = c.in_err-send.ensures in
     let opens = o.opens running told named stands in
-    rw (p.1, p.2) (unopened_by (blocks_of c.open.new.pool.io) (start_of c.args.request.now) (to_send c.args.request.now running) _ _ _ c.in_err-send.field-0.0 opens
+    rw (p.1, p.2) (unopened_by (blocks_of c.open.new.pool.io) (start_of c.args.request.now) (to_give c.args.request.now running) _ _ _ c.in_err-send.field-0.0 opens
     (λ is. o.reads.looks.cause.fault (ap (λ (f : PoolFault). stop_of {T = Send} (Err f)) is)))
 
 pub returns-in_err-send-clause-refused : goal.returns-in_err-send-clause-refused
@@ -32,7 +32,7 @@ returns-in_err-send-clause-refused g c =
     rw (p.1, p.2) (open_refused _ _ _ _ c.in_err-send.field-0.0 o.reads.looks (λ is. o.reads.open_still c.requires.works (ap (λ f. Err f) is)))
 
 pub returns-in_default-clause-sends : goal.returns-in_default-clause-sends
-returns-in_default-clause-sends g c = λ running told named stands. no_memory (start_of c.args.request.now) (to_send c.args.request.now running) _ _ _
+returns-in_default-clause-sends g c = λ running told named stands. no_memory (start_of c.args.request.now) (to_give c.args.request.now running) _ _ _
 
 pub returns-in_default-clause-refused : goal.returns-in_default-clause-refused
 returns-in_default-clause-refused g c = memory_refused _ _ _ _
@@ -41,7 +41,7 @@ pub returns-clause-sends : goal.returns-clause-sends
 returns-clause-sends g c = λ running told named stands.
     let o = c.in_ok-send.ensures in
     let e = c.pass_all.ensures in
-    sends_from _ (start_of c.args.request.now) (to_send c.args.request.now running) c.in_ok-send.send _ _ _ _ _ _ o.reads.looks.cause.later
+    sends_from _ (start_of c.args.request.now) (to_give c.args.request.now running) c.in_ok-send.send _ _ _ _ _ _ o.reads.looks.cause.later
     (o.opens running (e.reads.honest told) named stands) (λ sent begun. e.sends (start_of c.args.request.now) sent told begun)
 
 pub returns-in_err-send-clause-planned : goal.returns-in_err-send-clause-planned
@@ -68,6 +68,17 @@ returns-in_default-clause-because g c = λ running fault named is. absurd (cc is
 
 pub returns-clause-because : goal.returns-clause-because
 returns-clause-because g c = λ running fault named is. absurd (c.pass_all.ensures.why.unplanned fault is)
+
+pub returns-in_err-send-clause-long : goal.returns-in_err-send-clause-long
+returns-in_err-send-clause-long g c = λ running named.
+    let p = err_from_is_err_and c.from_residual.result c.from_residual.ensures.1 in
+    rw (p.1, p.2) (unopened_long c.args.request.now running _ c.in_err-send.field-0.0 (c.in_err-send.ensures.planned running named))
+
+pub returns-in_default-clause-long : goal.returns-in_default-clause-long
+returns-in_default-clause-long g c = λ running named number is. absurd (cc is)
+
+pub returns-clause-long : goal.returns-clause-long
+returns-clause-long g c = λ running named number is. absurd (c.pass_all.ensures.why.listed number is)
 
 pub returns-in_err-send-clause-damaged : goal.returns-in_err-send-clause-damaged
 returns-in_err-send-clause-damaged g c = λ honest.
