@@ -1,5 +1,5 @@
 #!/usr/bin/env python3
-"""Prints the length of each stream that the examples of zst_send await, and what its END states.
+"""Prints the length of each stream that the examples of sends await, and what its END states.
 
 For each stream: its name, its count of bytes, the sums that END states of all before it, and the sums in
 its last 32 bytes. It shares nothing with the crates: the transcript of the examples has these numbers.
@@ -14,6 +14,9 @@ NUMBERS_END = 1 << 48
 NOW = 1700000000
 FIRST = 0x1_0000_0001
 SECOND = 0x1_0000_0002
+# the first snapshot of a second pool, and what a redacted one is redacted for
+OTHER = 0x2_0000_0001
+GUIDS = (0x1_0000_0002, 0x1_0000_0003)
 
 
 def added(before, data):
@@ -29,12 +32,17 @@ def added(before, data):
 class Stream:
     """A full stream, or one from a source, as far as it was put."""
 
-    def __init__(self, name, to, source=0, flags=12):
+    def __init__(self, name, to, source=0, flags=12, redact=(), from_redact=(), point=None):
         self.bytes = bytearray()
         self.sums = (0, 0, 0, 0)
         self.to = to
-        begin = [(8, 8, 0x2F5BACBAC), (16, 8, 17), (24, 8, NOW), (32, 4, 2), (36, 4, flags), (40, 8, to)]
-        self.put(0, begin + [(48, 8, source), (56, len(name), name)])
+        info = 17 | (1 << 23 if redact else 0) | (1 << 22 if point else 0)
+        payload = b""
+        if point or redact or from_redact:
+            payload = b"ZSTBEG01" + struct.pack("<4Q", *(point or (0, 0)), len(redact), len(from_redact))
+            payload += b"".join(guid.to_bytes(8, "little") for guid in (*redact, *from_redact))
+        begin = [(4, 4, len(payload)), (8, 8, 0x2F5BACBAC), (16, 8, info), (24, 8, NOW), (32, 4, 2), (36, 4, flags), (40, 8, to)]
+        self.put(0, begin + [(48, 8, source), (56, len(name), name)], payload)
 
     def put(self, kind, fields, payload=b""):
         """A record of these fields (place, width, value), sealed unless it is BEGIN, and its payload."""
@@ -63,6 +71,9 @@ class Stream:
     def spill(self, number, first, size=512):
         data = bytes([first]) + bytes(size - 1)
         self.put(7, [(8, 8, number), (16, 8, size), (24, 8, self.to)], data)
+
+    def redact(self, number, offset, length):
+        self.put(10, [(8, 8, number), (16, 8, offset), (24, 8, length), (32, 8, self.to)])
 
     def absent(self, first, count):
         self.put(2, [(8, 8, first), (16, 8, count), (24, 8, self.to)])
@@ -156,6 +167,48 @@ def scattered_blocks():
     return stream
 
 
+def redacted(name=b"tank/a@s"):
+    stream = Stream(name, FIRST, redact=GUIDS)
+    stream.object(1, 3)
+    stream.tail(1, 1536)
+    stream.write(1, 0, 0xA0)
+    stream.redact(1, 512, 512)
+    stream.write(1, 1024, 0xA2)
+    stream.absent(2, NUMBERS_END - 2)
+    return stream
+
+
+def relayed():
+    return redacted(b"tank/b@s")
+
+
+def relayed_rest():
+    stream = Stream(b"tank/b@s", FIRST, redact=GUIDS, point=(1, 512))
+    stream.object(1, 3)
+    stream.tail(1, 1536)
+    stream.redact(1, 512, 512)
+    stream.write(1, 1024, 0xA2)
+    stream.absent(2, NUMBERS_END - 2)
+    return stream
+
+
+def from_redacted():
+    stream = Stream(b"tank/b@t", OTHER, FIRST, redact=GUIDS, from_redact=GUIDS)
+    stream.object(1, 3)
+    stream.tail(1, 1536)
+    stream.write(1, 512, 0xD1)
+    return stream
+
+
+def from_redacted_still():
+    stream = Stream(b"tank/b@t", OTHER, FIRST, redact=GUIDS, from_redact=GUIDS)
+    stream.object(1, 3)
+    stream.tail(1, 1536)
+    stream.write(1, 0, 0xD0)
+    stream.redact(1, 512, 512)
+    return stream
+
+
 STREAMS = [
     empty_file_system,
     small,
@@ -167,6 +220,11 @@ STREAMS = [
     freed_objects,
     one_block_of_many,
     scattered_blocks,
+    redacted,
+    relayed,
+    relayed_rest,
+    from_redacted,
+    from_redacted_still,
 ]
 
 for make in STREAMS:
