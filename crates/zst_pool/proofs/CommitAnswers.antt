@@ -110,10 +110,19 @@ module _ (made : Result PoolState CommitFault) (answer : Result PoolState PoolFa
     cause = answers_cause old.disk.faults new.disk.faults cause;
   }
 
-  -- and what is kept then follows by the directory that was committed
+  -- what is kept then has the rows that were committed
+  pub answers_rows : (body : Uber) (dir : Rows) (old new : IoState) → IfOk made (CommittedDir body dir old new) → IfOk answer (λ next. next.dir ≡ dir)
+  answers_rows body dir old new done = answers_ok (λ next. next.dir ≡ dir) (IfOk-weaker made (CommittedDir body dir old new) (λ next. next.dir ≡ dir) (λ next is. is.dir) done)
+
+  -- and follows by the directory that was committed
   pub answers_follows : (kept : PoolState) (dir : Rows) (old new : IoState) → kept.body.number < 2 ^ 63 → IfOk made (CommittedDir kept.body dir old new) → IfOk answer (FollowsBy old.space kept dir)
   answers_follows kept dir old new below done = answers_ok (FollowsBy old.space kept dir)
       (IfOk-weaker made (CommittedDir kept.body dir old new) (FollowsBy old.space kept dir) (λ next is. record { rows = is.dir; number = is.number; below = below; sectors = is.ends.1; ends = is.bounded }) done)
+
+-- rows that were committed have the partial states of the rows that they are
+pub rows_left : {dir rows : Rows} → dir ≡ rows → (answer : Result PoolState PoolFault) → IfOk answer (λ next. next.dir ≡ dir) → IfOk answer (λ next. next.dir.partials ≡ rows.partials)
+rows_left is (Ok next) same = ap (λ (r : Rows). r.partials) (same ∙ is)
+rows_left is (Err fault) same = tt
 
 pub disk_told : false ≡ true → ⊥
 disk_told same = cc

@@ -1,4 +1,4 @@
--- What a receive makes of rows.
+-- What a receive and a command make of rows.
 use Rattle.std.proofs.Common.{◌≡◌, ◌≢◌, ℕ, ◌&&◌, Bool, true, false, cond, not, List, [], ◌∷◌, filter, Option, Some, None, IfSome, if◌then◌else◌, get_or, sym, ap, ◌∙◌, subst, refl}
 use Rattle.std.specs.List.{All, Contains}
 use Rattle.std.specs.Str.{bytes_eq}
@@ -6,15 +6,18 @@ use Rattle.std.proofs.lemmas.Bool.{true≢false}
 use Rattle.std.proofs.lemmas.List.Elements.{filter_passes}
 use Rattle.std.proofs.lemmas.Slice.Eq.{bytes_eq-Decides}
 use Rattle.zst_names.specs.Names.{dataset_of}
+use Rattle.zst_model.specs.declared.pools.command.Command.{Command}
+use Rattle.zst_model.specs.declared.pools.command.Command.TheVariants as commands
 use Rattle.zst_model.specs.pools.Pool.{Pool, is_before, inserted}
 use Rattle.zst_model.specs.pools.Pool as plain
 use Rattle.zst_model.specs.pools.KeptPool.{kept_of}
+use Rattle.zst_model.specs.pools.Step.{commits}
 use Rattle.zst_tree.specs.Indices.{Blocks}
 use Rattle.zst_dir.specs.Rows.{Rows, HasSnapshot, is_for, is_unkept_for, with_objects_at, with_partial}
 use Rattle.zst_dir.specs.declared.rows.Dataset.{Dataset}
 use Rattle.zst_dir.specs.declared.rows.Snapshot.{Snapshot}
 use Rattle.zst_dir.specs.declared.rows.Partial.{Partial}
-use Rattle.zst_pool.specs.PartialRows.{latest_row, rolled_rows, rows_with_partial}
+use Rattle.zst_pool.specs.PartialRows.{latest_row, rolled_rows, rows_after, rows_with_partial}
 use Rattle.zst_pool.specs.Partials.{changed_at, latest_snapshot, partials_of_others, rolled, rolled_back, rolled_to}
 use Rattle.zst_pool.specs.Partials as plains
 use Rattle.zst_dir.specs.RowNames.{Match}
@@ -113,3 +116,8 @@ kept_left target (partial ∷ partials) =
 
 pub kept_stays : (target : List ℕ) (running : Pool) → kept_of (plains.without_unkept target running) ≡ kept_of running
 kept_stays target running = ap (λ (l : List plain.Partial). record running { partials = l }) (kept_left target running.partials)
+
+-- a command that only answers touches no partial state
+pub rows_stay : (command : Command) (rows : List Partial) → commits command ≡ false → rows_after command rows ≡ rows
+rows_stay (commands.Abort target) rows idle = absurd (cc)
+rows_stay command rows idle = refl

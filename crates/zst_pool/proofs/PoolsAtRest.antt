@@ -1,6 +1,7 @@
 -- A pool stays at rest while blocks alone are written, and comes to rest as the next one after a commit.
 use Rattle.std.specs.Prelude.{Result, Ok, Err, IfOk, OnErr}
 use Rattle.std.proofs.Common.{◌≡◌, ℕ, ◌+◌, ◌≤◌, ◌<◌, ◌^◌, Bool, false, Option, sym, ap, ◌∙◌, subst, arith}
+use Rattle.std.proofs.lemmas.List.Elements.{filter_passes}
 use Rattle.zst_outside.specs.Images.{DiskState, Leaves, Leaves-weaker, OnlyReads-none}
 use Rattle.zst_space.specs.FreeSectors.{FreeSectors}
 use Rattle.zst_block.specs.Blocks.{FillsFree, FitsDisk, Has, IsTaken, Spared}
@@ -122,6 +123,10 @@ kept_are {bound = bound} has rows running runs = record {
   bookmarks = runs.bookmarks;
   partials = filter-Match (PartialIs bound has) (λ row. row.keep) (λ partial. partial.keep) (λ x y is. sym is.named.keep) rows.partials running.partials runs.partials;
 }
+
+-- and what is kept of that is all of it
+pub kept_again : (running : Pool) → kept_of (kept_of running) ≡ kept_of running
+kept_again running = all_stay (kept_of running) (filter_passes (λ (partial : Partial). partial.keep) running.partials)
 
 -- the next pool, of which these lawful rows are to be committed
 module _ {tight : Bool} (has : Blocks) (kept : PoolState) (running next : Pool) (guids : ℕ) (dir : Rows) (lawful : IsLawful dir) (runs : RunsAs tight has kept running) (id : next.id ≡ running.id) (number : next.number ≡ running.number)

@@ -1,5 +1,5 @@
 -- A command that only answers leaves a pool as it was.
-use Rattle.std.specs.Prelude.{Some, Result, Ok, Err, IfErr, OnErr}
+use Rattle.std.specs.Prelude.{Some, Result, Ok, Err, IfErr, OnErr, OnOk}
 use Rattle.std.proofs.Common.{◌≡◌, inl, ℕ, List, refl, ap, arith, Bool}
 use Rattle.zst_outside.specs.Images.{DiskState, Leaves, Leaves-weaker, OnlyReads}
 use Rattle.zst_space.specs.FreeSectors.{FreeSectors}
@@ -55,6 +55,11 @@ told_rests {tight = tight} now kept running definition (Err fault) rested told =
 pub on_err : {T : Type 0} {P : Type 0} (result : Result T PoolFault) → P → OnErr result P
 on_err (Ok value) is = tt
 on_err (Err fault) is = is
+
+-- and after each answer
+pub on_ok : {T : Type 0} {P : Type 0} (result : Result T PoolFault) → P → OnOk result P
+on_ok (Ok value) is = is
+on_ok (Err fault) is = tt
 
 -- it takes no sectors
 pub spends_none : (cells block list : ℕ) (kept : PoolState) (left : FreeSectors) (result : Result (List (List ℕ)) PoolFault) → ((need largest : ℕ) → ¬ (stop_of result ≡ Some (blocks.Full need largest)))

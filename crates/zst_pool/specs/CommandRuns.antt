@@ -1,5 +1,5 @@
 -- What running a command does.
-use Rattle.std.specs.Prelude.{◌≡◌, ◌≤◌, ℕ, Bool, false, Result, Ok, Err, OnErr, IfErr, IfOk}
+use Rattle.std.specs.Prelude.{◌≡◌, ◌≤◌, ℕ, Bool, false, List, Result, Ok, Err, OnErr, IfErr, IfOk}
 use Rattle.zst_outside.specs.Images.{DiskState, Leaves}
 use Rattle.zst_block.specs.Blocks.{KeepsBlocks, SparesTaken}
 use Rattle.zst_block.specs.IoStates.{IoState}
@@ -7,6 +7,7 @@ use Rattle.zst_model.specs.declared.refusals.refusal.Refusal.{Refusal}
 use Rattle.zst_model.specs.pools.Pool.{Pool}
 use Rattle.zst_model.specs.pools.Step.{Stepped}
 use Rattle.zst_objset.specs.Damage.{DamageFact}
+use Rattle.zst_dir.specs.declared.rows.Partial.{Partial}
 use Rattle.zst_pool.specs.Cost.{Cost, FindsLess, Spends}
 use Rattle.zst_pool.specs.Damage.{IsOf}
 use Rattle.zst_pool.specs.Faults.{StepFault}
@@ -59,7 +60,8 @@ pub record CanBegin (now : IoState) (kept : PoolState) : Type 0 where
   pub space : now.space ≡ free_by kept.body
   pub ready : Ready now.disk kept.body
 
--- what a command that commits did and told, and what its plan refuses
-pub record RunsByPlan (definition : Pool → Result Stepped Refusal) (cost : Cost) (damage : DamageFact) (numbers indices : ℕ) (lists : Bool) (kept : PoolState) (old new : IoState) (result : Result PoolState PoolFault) : Type 0 where
+-- what a command that commits did and told, what its plan refuses, and what it leaves of the rows of partial states
+pub record RunsByPlan (definition : Pool → Result Stepped Refusal) (cost : Cost) (damage : DamageFact) (numbers indices : ℕ) (lists : Bool) (left : List Partial → List Partial) (kept : PoolState) (old new : IoState) (result : Result PoolState PoolFault) : Type 0 where
   pub runs : Runs definition cost damage kept old new result
   pub plans : Plans definition numbers indices lists kept result
+  pub partials : IfOk result (λ next. next.dir.partials ≡ left kept.dir.partials)

@@ -1,6 +1,8 @@
--- What a receive makes of the rows of a directory.
+-- What a receive and a command make of the rows of a directory.
 use Rattle.std.specs.Prelude.{◌≡◌, ◌+◌, ◌∷◌, ◌++◌, ℕ, Bool, List, filter, not, Option, Some, None, Result, Ok, Err, IfSome, bytes_eq, if◌then◌else◌}
 use Rattle.zst_names.specs.Names.{dataset_of}
+use Rattle.zst_model.specs.declared.pools.command.Command.{Command}
+use Rattle.zst_model.specs.declared.pools.command.Command.TheVariants as commands
 use Rattle.zst_model.specs.declared.refusals.plan_fault.PlanFault.{PlanFault}
 use Rattle.zst_model.specs.pools.Pool.{Pool}
 use Rattle.zst_model.specs.refusals.Refusal.{refusal_of}
@@ -31,6 +33,15 @@ rows_with_partial roll partial rows = record rows {
   datasets = if roll then rolled_rows partial.target (latest_row partial.target rows) rows.datasets else rows.datasets;
   partials = with_partial partial (filter (λ other. not (is_for partial.target other)) rows.partials);
 }
+
+-- no partial state is touched
+abbrev pub each_stays : List Partial → List Partial
+each_stays rows = rows
+
+-- the rows of partial states after a command that went well: an abort drops its target's, and no other command touches one
+abbrev pub rows_after : Command → List Partial → List Partial
+rows_after (commands.Abort target) rows = filter (λ other. not (is_for target other)) rows
+rows_after command rows = rows
 
 -- the pool passes no limit with its next commit, or is refused for the first that it passes
 abbrev pub JudgesLimits : Pool → Result (Unit {0}) PlanFault → Type 0

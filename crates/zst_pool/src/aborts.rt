@@ -1,8 +1,9 @@
 // The command that gives up a partial state.
-ghost use Rattle.std.specs.Prelude.{◌≡◌, ◌<◌, [], true, Result, Ok, OnOk, bytes_eq, false};
+ghost use Rattle.std.specs.Prelude.{◌≡◌, ◌<◌, [], true, Result, Ok, OnOk, bytes_eq, false, filter, not};
 ghost use Rattle.zst_block.specs.IoStates.{io_of};
 ghost use Rattle.std.specs.List.{list_any};
 ghost use Rattle.zst_model.specs.pools.Step.{with_aborted, without_partial};
+ghost use Rattle.zst_dir.specs.Rows.{is_for};
 ghost use Rattle.zst_pool.specs.Checks.{Judges, next_of, ChecksRows, PlansCommit, JudgesNext};
 ghost use Rattle.zst_pool.specs.Cost.{cells_only};
 ghost use Rattle.zst_pool.specs.Damage.{NoDamage};
@@ -59,7 +60,7 @@ pub fn abort<D: Disk>(
     dataset: &DatasetName,
 ) -> Result<PoolState, PoolFault>
     requires begins { CanBegin (io_of io.old) kept.now }
-    ensures does { RunsByPlan (with_aborted [] dataset.now) (cells_only 0) NoDamage 0 0 false kept.now (io_of io.old) (io_of io.new) result }
+    ensures does { RunsByPlan (with_aborted [] dataset.now) (cells_only 0) NoDamage 0 0 false (filter (λ other. not (is_for dataset.now other))) kept.now (io_of io.old) (io_of io.new) result }
 {
     plan_abort(kept, dataset)?;
     let dir = dir_aborted(alloc, &kept.dir, dataset)?;

@@ -1,5 +1,5 @@
 // The commands that commit, each over the Io of a pool that hasn't failed.
-ghost use Rattle.std.specs.Prelude.{◌≡◌, ◌⊎◌, ◌+◌, ◌*◌, ◌<◌, ◌≤◌, ◌^◌, [], None, Result, Err, length, false};
+ghost use Rattle.std.specs.Prelude.{◌≡◌, ◌⊎◌, ◌+◌, ◌*◌, ◌<◌, ◌≤◌, ◌^◌, [], None, Result, Err, IfOk, length, false};
 ghost use Rattle.zst_block.specs.IoStates.{io_of};
 ghost use Rattle.zst_names.specs.Names.{dataset_of};
 ghost use Rattle.zst_model.specs.pools.Pool.{inserted};
@@ -14,6 +14,7 @@ ghost use Rattle.zst_pool.specs.RowChanges.{MakesOfEach, MakesDir, MakesRow};
 ghost use Rattle.zst_pool.specs.Cost.{cells_only};
 ghost use Rattle.zst_pool.specs.Damage.{NoDamage};
 ghost use Rattle.zst_pool.specs.CommandRuns.{Runs, CanBegin, RunsByPlan};
+ghost use Rattle.zst_pool.specs.PartialRows.{each_stays};
 ghost use Rattle.zst_pool.specs.Checks.{CanTake};
 
 use crate::checks::{check_new_dataset, check_number, plan_snapshot};
@@ -57,6 +58,7 @@ pub fn commit_rows<D: Disk>(
     ensures runs { (definition : Plain → Result Stepped Refusal) → MakesOfEach definition kept.now guids dir
         → Runs definition (cells_only 0) NoDamage kept.now (io_of io.old) (io_of io.new) result }
     ensures unplanned { (fault : PlanFault) → ¬ (result ≡ Err (PoolFault.Plan fault)) }
+    ensures rows { IfOk result (λ next. next.dir ≡ dir) }
 {
     let _lawful = dir.datasets();
     of_committed(commit_dir(io, alloc, &kept.body, guids, dir))
@@ -72,7 +74,7 @@ pub fn make_dataset<D: Disk>(
 ) -> Result<PoolState, PoolFault>
     requires kind { (kind ≡ 2) ⊎ (kind ≡ 3) }
     requires begins { CanBegin (io_of io.old) kept.now }
-    ensures does { RunsByPlan (with_dataset (new_dataset kind name.now)) (cells_only 0) NoDamage 0 0 false kept.now (io_of io.old) (io_of io.new) result }
+    ensures does { RunsByPlan (with_dataset (new_dataset kind name.now)) (cells_only 0) NoDamage 0 0 false each_stays kept.now (io_of io.old) (io_of io.new) result }
 {
     check_new_dataset(&kept.dir, name)?;
     check_number(kept.body.number)?;
@@ -121,7 +123,7 @@ pub fn take_snapshot<D: Disk>(
     name: &SnapName,
 ) -> Result<PoolState, PoolFault>
     requires begins { CanBegin (io_of io.old) kept.now }
-    ensures does { RunsByPlan (with_snapshot now name.now) (cells_only 0) NoDamage 0 0 false kept.now (io_of io.old) (io_of io.new) result }
+    ensures does { RunsByPlan (with_snapshot now name.now) (cells_only 0) NoDamage 0 0 false each_stays kept.now (io_of io.old) (io_of io.new) result }
 {
     let dataset = plan_snapshot(kept, name)?;
     let snapshot = new_snapshot(&kept.body, dataset, now, name);

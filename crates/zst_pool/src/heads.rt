@@ -17,6 +17,7 @@ ghost use Rattle.zst_objset.specs.OrMemory.{stop_of};
 ghost use Rattle.zst_image.specs.Reads.{free_by};
 ghost use Rattle.zst_pool.specs.Cost.{Cost, cells_only, object_cost, write_cost};
 ghost use Rattle.zst_pool.specs.CommandRuns.{Ran, CanBegin, RunsByPlan};
+ghost use Rattle.zst_pool.specs.PartialRows.{each_stays};
 ghost use Rattle.zst_pool.specs.Damage.{HasHead, OfHead, block_damage, range_damage, slots_damage};
 ghost use Rattle.zst_image.specs.Commits.{Ready};
 
@@ -108,6 +109,7 @@ fn commit_head<D: Disk>(
         → ChangedHead kept.now name.now make cost (rested (D.state start) failed checksum_errors reference kept.now) (io_of io.old) set changed
         → Ran (λ pool. on_head name.now pool (make pool)) cost kept.now (rested (D.state start) failed checksum_errors reference kept.now) (io_of io.new) result }
     ensures refuses { RefusesHead kept.now.body.number changed result }
+    ensures partials { IfOk result (λ next. next.dir.partials ≡ kept.now.dir.partials) }
     ensures honest { IsHonest io.new → IsHonest io.old }
     ensures same { io.new.disk.ghost_name ≡ io.old.disk.ghost_name }
 {
@@ -131,7 +133,7 @@ pub fn put_object<D: Disk>(
 ) -> Result<PoolState, PoolFault>
     requires can { CanPutObject object head bonus spill }
     requires begins { CanBegin (io_of io.old) kept.now }
-    ensures does { RunsByPlan (λ pool. on_head name.now pool (put_in pool object head bonus spill)) (object_cost spill) (OfHead kept.now.dir name.now (slots_damage (disk_of io.old) (free_by kept.now.body))) (object + 1) 0 false kept.now (io_of io.old) (io_of io.new) result }
+    ensures does { RunsByPlan (λ pool. on_head name.now pool (put_in pool object head bonus spill)) (object_cost spill) (OfHead kept.now.dir name.now (slots_damage (disk_of io.old) (free_by kept.now.body))) (object + 1) 0 false each_stays kept.now (io_of io.old) (io_of io.new) result }
 {
     let mut set = open_head(&kept.dir, name)?;
     let number = next_number(&kept.body);
@@ -153,7 +155,7 @@ pub fn write_block<D: Disk>(
     requires some { 0 < length bytes.now }
     requires small { length bytes.now ≤ 2 ^ 20 }
     requires begins { CanBegin (io_of io.old) kept.now }
-    ensures does { RunsByPlan (λ pool. on_head name.now pool (written pool object index bytes.now)) (write_cost name.now object) (OfHead kept.now.dir name.now (block_damage (disk_of io.old) (free_by kept.now.body))) 0 (index + 1) false kept.now (io_of io.old) (io_of io.new) result }
+    ensures does { RunsByPlan (λ pool. on_head name.now pool (written pool object index bytes.now)) (write_cost name.now object) (OfHead kept.now.dir name.now (block_damage (disk_of io.old) (free_by kept.now.body))) 0 (index + 1) false each_stays kept.now (io_of io.old) (io_of io.new) result }
 {
     let mut set = open_head(&kept.dir, name)?;
     let number = next_number(&kept.body);
@@ -174,7 +176,7 @@ pub fn punch<D: Disk>(
     requires object { 0 < object }
     requires some { 0 < count }
     requires begins { CanBegin (io_of io.old) kept.now }
-    ensures does { RunsByPlan (λ pool. on_head name.now pool (punched pool object first count)) (cells_only 2) (OfHead kept.now.dir name.now (range_damage (disk_of io.old) (free_by kept.now.body))) 0 (first + count) false kept.now (io_of io.old) (io_of io.new) result }
+    ensures does { RunsByPlan (λ pool. on_head name.now pool (punched pool object first count)) (cells_only 2) (OfHead kept.now.dir name.now (range_damage (disk_of io.old) (free_by kept.now.body))) 0 (first + count) false each_stays kept.now (io_of io.old) (io_of io.new) result }
 {
     let mut set = open_head(&kept.dir, name)?;
     let number = next_number(&kept.body);
@@ -194,7 +196,7 @@ pub fn free_objects<D: Disk>(
     requires first { 0 < first }
     requires some { 0 < count }
     requires begins { CanBegin (io_of io.old) kept.now }
-    ensures does { RunsByPlan (λ pool. on_head name.now pool (freed pool first count)) (cells_only 2) (OfHead kept.now.dir name.now (slots_damage (disk_of io.old) (free_by kept.now.body))) (first + count) 0 false kept.now (io_of io.old) (io_of io.new) result }
+    ensures does { RunsByPlan (λ pool. on_head name.now pool (freed pool first count)) (cells_only 2) (OfHead kept.now.dir name.now (slots_damage (disk_of io.old) (free_by kept.now.body))) (first + count) 0 false each_stays kept.now (io_of io.old) (io_of io.new) result }
 {
     let mut set = open_head(&kept.dir, name)?;
     let number = next_number(&kept.body);

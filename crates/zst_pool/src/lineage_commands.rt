@@ -6,6 +6,7 @@ ghost use Rattle.zst_dir.specs.Removal.{AreUnused, without};
 ghost use Rattle.zst_pool.specs.Cost.{cells_only};
 ghost use Rattle.zst_pool.specs.Damage.{NoDamage};
 ghost use Rattle.zst_pool.specs.CommandRuns.{CanBegin, RunsByPlan};
+ghost use Rattle.zst_pool.specs.PartialRows.{each_stays};
 ghost use Rattle.zst_pool.specs.RowChanges.{MakesDir};
 
 use crate::commands::commit_rows;
@@ -29,7 +30,7 @@ pub fn make_clone<D: Disk>(
     name: &DatasetName,
 ) -> Result<PoolState, PoolFault>
     requires begins { CanBegin (io_of io.old) kept.now }
-    ensures does { RunsByPlan (with_clone origin.now name.now) (cells_only 0) NoDamage 0 0 false kept.now (io_of io.old) (io_of io.new) result }
+    ensures does { RunsByPlan (with_clone origin.now name.now) (cells_only 0) NoDamage 0 0 false each_stays kept.now (io_of io.old) (io_of io.new) result }
 {
     let row = plan_clone(kept, origin, name)?;
     let mut dir = kept.dir.copy(alloc)?;
@@ -46,7 +47,7 @@ pub fn make_bookmark<D: Disk>(
     name: &BookName,
 ) -> Result<PoolState, PoolFault>
     requires begins { CanBegin (io_of io.old) kept.now }
-    ensures does { RunsByPlan (with_bookmark snapshot.now name.now) (cells_only 0) NoDamage 0 0 false kept.now (io_of io.old) (io_of io.new) result }
+    ensures does { RunsByPlan (with_bookmark snapshot.now name.now) (cells_only 0) NoDamage 0 0 false each_stays kept.now (io_of io.old) (io_of io.new) result }
 {
     let row = plan_bookmark(kept, snapshot, name)?;
     let mut dir = kept.dir.copy(alloc)?;
@@ -72,7 +73,7 @@ pub fn destroy<D: Disk>(
     name: Name,
 ) -> Result<PoolState, PoolFault>
     requires begins { CanBegin (io_of io.old) kept.now }
-    ensures does { RunsByPlan (with_destroyed [] name) (cells_only 0) NoDamage 0 0 false kept.now (io_of io.old) (io_of io.new) result }
+    ensures does { RunsByPlan (with_destroyed [] name) (cells_only 0) NoDamage 0 0 false each_stays kept.now (io_of io.old) (io_of io.new) result }
 {
     let going = plan_destroy(kept, name)?;
     let dir = dir_without(alloc, &kept.dir, &going)?;
@@ -88,7 +89,7 @@ pub fn roll_back<D: Disk>(
     name: &SnapName,
 ) -> Result<PoolState, PoolFault>
     requires begins { CanBegin (io_of io.old) kept.now }
-    ensures does { RunsByPlan (with_rollback [] destroys name.now) (cells_only 0) NoDamage 0 0 false kept.now (io_of io.old) (io_of io.new) result }
+    ensures does { RunsByPlan (with_rollback [] destroys name.now) (cells_only 0) NoDamage 0 0 false each_stays kept.now (io_of io.old) (io_of io.new) result }
 {
     let snapshot = plan_rollback(kept, destroys, name)?;
     let dir = dir_rolled_back(alloc, &kept.dir, snapshot)?;

@@ -1,4 +1,4 @@
-ghost use Rattle.std.specs.Prelude.{◌≡◌, ◌∷◌, [], false, true, IfOk, Err};
+ghost use Rattle.std.specs.Prelude.{◌≡◌, ℕ, ◌∷◌, [], false, true, IfOk, OnOk, Err};
 ghost use Rattle.zst_block.specs.IoStates.{disk_of, io_of};
 ghost use Rattle.zst_model.specs.pools.AnswerLines.{ok_line};
 ghost use Rattle.zst_model.specs.pools.Pool.{Pool as Plain};
@@ -12,6 +12,7 @@ ghost use Rattle.zst_pool.specs.Cost.{cost_of};
 ghost use Rattle.zst_pool.specs.Damage.{TellsDamage};
 ghost use Rattle.zst_pool.specs.CommandRuns.{Runs, CanBegin, RunsByPlan};
 ghost use Rattle.zst_pool.specs.Events.{OnlyAnswers, Settles, StepDid, CanSettle, KeepsOver};
+ghost use Rattle.zst_pool.specs.PartialRows.{rows_after};
 ghost use Rattle.zst_image.specs.Commits.{Ready};
 
 use crate::aborts::abort;
@@ -81,6 +82,10 @@ impl<'d, D: Disk> Pool<'d, D> {
         ensures sound { (running : Plain) (done : Stepped) → IsAtRest false (disk_of self.old.io) self.old.kept running → Sound running
             → stepped [] now command running ≡ Ok done → Sound done.pool }
         ensures only_answers { commits command ≡ false → OnlyAnswers self.old self.new }
+        // One that only answers takes no sectors, so E24 comes only of one that commits.
+        ensures room { (need largest : ℕ) → result ≡ Err (PoolFault.Full need largest) → commits command ≡ true }
+        // No command touches a partial state but an abort of it.
+        ensures partials { OnOk result (self.new.kept.dir.partials ≡ rows_after command self.old.kept.dir.partials) }
         ensures settles { Settles self.old self.new result }
     {
         steps_keep_sound();
@@ -145,7 +150,7 @@ fn run<D: Disk>(
     requires command { IsCommand command }
     requires commits { commits command ≡ true }
     requires begins { CanBegin (io_of io.old) kept.now }
-    ensures does { RunsByPlan (λ pool. stepped [] now command pool) (cost_of command) (TellsDamage command kept.now.dir (disk_of io.old) (free_by kept.now.body)) (numbers_end command) (indices_end command) (makes_list command) kept.now (io_of io.old) (io_of io.new) result }
+    ensures does { RunsByPlan (λ pool. stepped [] now command pool) (cost_of command) (TellsDamage command kept.now.dir (disk_of io.old) (free_by kept.now.body)) (numbers_end command) (indices_end command) (makes_list command) (rows_after command) kept.now (io_of io.old) (io_of io.new) result }
 {
     match command {
         Command::Fs { dataset } => make_dataset(io, alloc, kept, 2, &dataset),

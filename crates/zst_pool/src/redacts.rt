@@ -20,6 +20,7 @@ ghost use Rattle.zst_pool.specs.CommandRuns.{CanBegin, Runs as RunsCommand, Runs
 ghost use Rattle.zst_pool.specs.Cost.{redact_cost};
 ghost use Rattle.zst_pool.specs.Damage.{IsOf, redact_damage};
 ghost use Rattle.zst_pool.specs.Faults.{of_built};
+ghost use Rattle.zst_pool.specs.PartialRows.{each_stays};
 ghost use Rattle.zst_pool.specs.Plans.{IsLast, IsLong};
 ghost use Rattle.zst_pool.specs.Queries.{stop_of};
 ghost use Rattle.zst_pool.specs.Redactions.{MakesList, Redacts, left_of, redaction_row, row_guids, rows_of, sets_of};
@@ -165,6 +166,7 @@ fn commit_redaction<D: Disk>(
     ensures runs { (of : Several ℕ) (names : Several (Several ℕ)) → rows.now ≡ rows_of names kept.now.dir → ((pool : Pool) → AreNamed kept.now.dir pool → Redacts kept.now.dir of name.now names pool row.now)
         → RunsCommand (with_redaction of name.now names) (redact_cost of names) (IsDamagedAmong (IsSeen (disk_of io.old).seen) (disk_of io.old).size (sets_of (row.now ∷ rows.now))) kept.now (io_of io.old) (io_of io.new) result }
     ensures limits { (fault : PlanFault) → result ≡ Err (PoolFault.Plan fault) → IsLong true fault ⊎ IsLast kept.now.body.number fault }
+    ensures partials { IfOk result (λ next. next.dir.partials ≡ kept.now.dir.partials) }
 {
     let list = build_list(io, alloc, row, rows)?;
     let tree = write_runs(io, alloc, kept, &list)?;
@@ -183,7 +185,7 @@ pub fn make_redaction<D: Disk>(
 ) -> Result<PoolState, PoolFault>
     requires words { IsRedact snapshot.now name.now redactions.now }
     requires begins { CanBegin (io_of io.old) kept.now }
-    ensures does { RunsByPlan (with_redaction snapshot.now name.now redactions.now) (redact_cost snapshot.now redactions.now) (redact_damage (disk_of io.old) (snapshot.now ∷ redactions.now) kept.now.dir) 0 0 true kept.now (io_of io.old) (io_of io.new) result }
+    ensures does { RunsByPlan (with_redaction snapshot.now name.now redactions.now) (redact_cost snapshot.now redactions.now) (redact_damage (disk_of io.old) (snapshot.now ∷ redactions.now) kept.now.dir) 0 0 true each_stays kept.now (io_of io.old) (io_of io.new) result }
 {
     let row = plan_redaction(&kept.dir, snapshot, name, redactions)?;
     let rows = rows_of(alloc, &kept.dir, redactions)?;

@@ -1,13 +1,14 @@
-// How a pool is opened again after its disk has failed.
+// How a pool is opened again after its disk has failed, and what then is left of it.
 ghost use Rattle.std.specs.Prelude.{◌≡◌, Bool, OnOk, IfOk, Err};
 ghost use Rattle.zst_block.specs.IoStates.{IsHonest, disk_of};
 ghost use Rattle.zst_outside.specs.Images.{IsSynced};
 ghost use Rattle.zst_uber.specs.declared.uber.Uber.{Uber as Body};
+ghost use Rattle.zst_model.specs.pools.KeptPool.{kept_of};
 ghost use Rattle.zst_model.specs.pools.Pool.{Pool as Plain};
 ghost use Rattle.zst_dir.specs.Rows.{Rows};
 ghost use Rattle.zst_uber.specs.DiskCalls.{ReadsOrFails};
 ghost use Rattle.zst_image.specs.Commits.{Ready};
-ghost use Rattle.zst_image.specs.Reads.{ReadsAs, Rests};
+ghost use Rattle.zst_image.specs.Reads.{ReadsAs, Rests, kept_rows};
 ghost use Rattle.zst_pool.specs.Calls.{IsAtRest};
 ghost use Rattle.zst_pool.specs.ReopenedPools.{Reopens, failed_after, reopened, OpensBy};
 
@@ -63,5 +64,16 @@ impl<'d, D: Disk> Pool<'d, D> {
             }
             Err(fault) => Err(fault),
         }
+    }
+
+    /// Leaves out each partial state that isn't kept, as the image does. Nothing is read or written.
+    pub fn drop_unkept(&mut self)
+        // What the image keeps of the pool is at rest.
+        ensures rests { (tight : Bool) (disk : D) (running : Plain) → IsAtRest tight (D.state disk) self.old.kept running → IsAtRest tight (D.state disk) self.new.kept (kept_of running) }
+        ensures rows { self.new.kept ≡ record self.old.kept { dir = kept_rows self.old.kept.dir } }
+        ensures io { self.new.io ≡ self.old.io }
+    {
+        self.kept.dir.retain_kept();
+        let _lawful = self.kept.dir.datasets();
     }
 }

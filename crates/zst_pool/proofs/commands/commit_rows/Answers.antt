@@ -5,7 +5,7 @@ use Rattle.zst_block.specs.IoStates.{io_of}
 use Rattle.zst_model.specs.pools.KeptPool.{kept_of}
 use Rattle.zst_pool.specs.Cost.{cells_only}
 use Rattle.zst_pool.specs.Damage.{NoDamage}
-use Rattle.zst_pool.proofs.CommitAnswers.{committed_sound}
+use Rattle.zst_pool.proofs.CommitAnswers.{answers_rows, committed_sound}
 use Rattle.zst_pool.proofs.CommandEnds.{did_rows, names_next}
 use Rattle.zst_pool.proofs.PlanLemmas.{no_plan-commit}
 use Rattle.zst_pool.proofs.PoolsAtRest.{begun, way_runs}
@@ -35,3 +35,7 @@ returns-clause-runs g c = λ definition makes.
 
 pub returns-clause-unplanned : goal.returns-clause-unplanned
 returns-clause-unplanned g c = λ fault is. no_plan-commit c.commit_dir.result c.of_committed.ensures fault is
+
+pub returns-clause-rows : goal.returns-clause-rows
+returns-clause-rows g c =
+    answers_rows c.commit_dir.result c.of_committed.result c.of_committed.ensures c.args.kept.now.body c.args.dir (io_of c.args.io.now) (io_of c.commit_dir.new.io) c.commit_dir.ensures.made

@@ -1,4 +1,4 @@
-use Rattle.std.proofs.Common.{refl, sym, ap, ◌∙◌, subst, length, arith, inl, inr, ◌≡◌, ◌+◌, false}
+use Rattle.std.proofs.Common.{rules, refl, sym, ap, ◌∙◌, subst, length, arith, inl, inr, ◌≡◌, ◌+◌, false}
 use Rattle.zst_block.specs.Blocks.{Has}
 use Rattle.zst_model.specs.pools.Pool.{is_before, inserted, Pool}
 use Rattle.zst_model.specs.pools.Step.{new_dataset, with_dataset}
@@ -13,6 +13,7 @@ use Rattle.zst_pool.specs.Cost.{cells_only}
 use Rattle.zst_pool.specs.Damage.{NoDamage}
 use Rattle.zst_image.specs.Reads.{IsNamedBy, RunsBy, bound_of}
 use Rattle.zst_pool.proofs.Bounds.{RunsBy-later}
+use Rattle.zst_pool.proofs.CommitAnswers.{rows_left}
 use Rattle.zst_pool.proofs.NextPools.{dataset_runs, new_row, new_row_is_new}
 use Rattle.zst_pool.proofs.PoolsAtRest.{few_guids, rest_named, runs_named}
 use Rattle.zst_pool.proofs.CommandRuns.{runs_planned, runs_starved}
@@ -61,6 +62,7 @@ returns g c = record {
         plans_apart (with_dataset dataset) 0 0 false c.args.kept.now c.commit_rows.result
         (λ pool named. made_apart (with_dataset dataset pool) (next_of (with_new dataset pool)) (made g at pool named))
         (λ fault is. absurd (c.commit_rows.ensures.unplanned fault is));
+    partials = rows_left (c.in_ok-add_dataset.ensures.added ∙ ap (λ (d : Rows). record d { datasets = inserted (λ (a b : Dataset). is_before a.name b.name) c.new_dataset.result d.datasets }) c.in_ok-dir.ensures) c.commit_rows.result c.commit_rows.ensures.rows;
   };
 }
 
@@ -78,6 +80,7 @@ returns-in_err-add_dataset g c = record {
         plans_apart (with_dataset dataset) 0 0 false c.args.kept.now fell.result
         (λ pool named. made_apart (with_dataset dataset pool) (next_of (with_new dataset pool)) (made g at pool named))
         (λ fault is. absurd (cc (answered, is)));
+    partials = search rules;
   };
 }
 
@@ -95,6 +98,7 @@ returns-in_err-dir g c = record {
         plans_apart (with_dataset dataset) 0 0 false c.args.kept.now fell.result
         (λ pool named. made_apart (with_dataset dataset pool) (next_of (with_new dataset pool)) (made g at pool named))
         (λ fault is. absurd (cc (answered, is)));
+    partials = search rules;
   };
 }
 
@@ -112,6 +116,7 @@ returns-in_err-check_new_dataset g c = record {
         let dataset = new_dataset c.args.kind c.args.name.now in
         plans_refused (with_dataset dataset) 0 0 false c.args.kept.now fault (err_is c.from_residual.result (Plan fault) c.from_residual.ensures.1) (inl c.in_err-check_new_dataset.ensures.checks.rows)
         (λ pool named. c.in_err-check_new_dataset.ensures.checks.judged pool named.are_named dataset refl);
+    partials = search rules;
   };
 }
 
@@ -133,5 +138,6 @@ returns-in_err-check_number g c = record {
         let dataset = new_dataset c.args.kind c.args.name.now in
         plans_refused (with_dataset dataset) 0 0 false c.args.kept.now fault (err_is fell.result (Plan fault) fell.ensures.1) (inr (inr (inr c.in_err-check_number.ensures.last)))
         (λ pool named. c.in_ok-check_new_dataset.ensures.checks.judged pool named.are_named dataset refl ∙ c.in_err-check_number.ensures.judged (with_new dataset pool) named.number);
+    partials = search rules;
   };
 }

@@ -1,4 +1,4 @@
-use Rattle.std.proofs.Common.{refl, sym, ap, ◌∙◌, subst, ◌<◌, ◌≤◌, ◌+◌, ◌^◌, ◌≡◌, ℕ, false, arith}
+use Rattle.std.proofs.Common.{rules, refl, sym, ap, ◌∙◌, subst, ◌<◌, ◌≤◌, ◌+◌, ◌^◌, ◌≡◌, ℕ, false, arith}
 use Rattle.std.specs.List.{list_any}
 use Rattle.std.specs.Str.{bytes_eq}
 use Rattle.zst_block.specs.Blocks.{Has}
@@ -16,6 +16,7 @@ use Rattle.zst_pool.specs.declared.fault.PoolFault.TheVariants.{OutOfMemory, Pla
 use Rattle.zst_pool.specs.Cost.{cells_only}
 use Rattle.zst_pool.specs.Damage.{NoDamage}
 use Rattle.zst_pool.proofs.Bounds.{RunsBy-later}
+use Rattle.zst_pool.proofs.CommitAnswers.{rows_left}
 use Rattle.zst_dir.proofs.Matches.{Match-alike}
 use Rattle.zst_pool.proofs.NextPools.{snapshot_runs}
 use Rattle.zst_pool.proofs.PlanLemmas.{made_apart, plans_apart, plans_refused, told_or_last}
@@ -79,6 +80,7 @@ returns g c = record {
         let judged = c.in_ok-dataset.ensures.plans.judged pool named.are_named named.number now named.guids in
         made_apart (with_snapshot now name pool) (next_of (with_taken now name judged.0 pool)) judged.2)
         (λ fault is. absurd (c.commit_rows.ensures.unplanned fault is));
+    partials = rows_left c.in_ok-dir.ensures.makes.made c.commit_rows.result c.commit_rows.ensures.rows;
   };
 }
 
@@ -98,6 +100,7 @@ returns-in_err-dataset g c = record {
         plans_refused (with_snapshot c.args.now c.args.name.now) 0 0 false kept fault (err_is c.from_residual.result (Plan fault) c.from_residual.ensures.1)
         (told_or_last 0 0 false kept.body fault c.in_err-dataset.ensures.plans.refused)
         (λ pool named. c.in_err-dataset.ensures.plans.judged pool named.are_named named.number c.args.now named.guids);
+    partials = search rules;
   };
 }
 
@@ -117,5 +120,6 @@ returns-in_err-dir g c = record {
         let judged = c.in_ok-dataset.ensures.plans.judged pool named.are_named named.number now named.guids in
         made_apart (with_snapshot now name pool) (next_of (with_taken now name judged.0 pool)) judged.2)
         (λ fault is. absurd (cc (answered, is)));
+    partials = search rules;
   };
 }

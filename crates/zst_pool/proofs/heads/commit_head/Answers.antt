@@ -25,7 +25,7 @@ use Rattle.zst_pool.proofs.CommandEnds.{did_rows, names_next}
 use Rattle.zst_pool.proofs.Bounds.{RunsBy-later}
 use Rattle.zst_pool.proofs.NextPools.{head_runs}
 use Rattle.zst_pool.proofs.PoolsAtRest.{few_guids, way_runs}
-use Rattle.zst_pool.proofs.CommitAnswers.{committed_sound}
+use Rattle.zst_pool.proofs.CommitAnswers.{answers_rows, committed_sound, rows_left}
 use Rattle.zst_pool.proofs.HeadAnswers.{memory_stops, well_is}
 use Rattle.zst_pool.proofs.CommandRuns.{Wrote, runs_committed, runs_fell, wrote_head}
 use Rattle.zst_pool.proofs.PlanLemmas.{no_plan-commit}
@@ -125,3 +125,10 @@ returns-clause-refuses g c = record {
   damaged = λ sector stated found is. absurd (committed_sound c.commit_dir.result sector stated found (sym c.of_committed.ensures ∙ is));
   last = λ fault is. absurd (no_plan-commit c.commit_dir.result c.of_committed.ensures fault is);
 }
+
+pub returns-clause-partials : goal.returns-clause-partials
+returns-clause-partials g c =
+    let kept = c.args.kept.now in
+    let dir = c.set_head.ensures.headed ∙ ap (λ (d : Rows). record d { datasets = with_head c.args.name.now c.args.set d.datasets }) c.in_ok-dir.ensures in
+    rows_left dir c.of_committed.result
+    (answers_rows c.commit_dir.result c.of_committed.result c.of_committed.ensures kept.body c.set_head.new.self (io_of c.args.io.now) (io_of c.commit_dir.new.io) c.commit_dir.ensures.made)

@@ -1,4 +1,4 @@
-use Rattle.std.proofs.Common.{arith, ◌+◌, inl, false}
+use Rattle.std.proofs.Common.{rules, arith, ◌+◌, inl, false}
 use Rattle.zst_block.specs.IoStates.{io_of}
 use Rattle.zst_model.specs.pools.Pool.{Pool}
 use Rattle.zst_pool.specs.Checks.{put_in}
@@ -35,6 +35,7 @@ returns g c = record {
         plans_apart (λ pool. on_head name pool (make pool)) (c.args.object + 1) 0 false kept c.commit_head.result
         (λ pool named. head_apart kept.dir name pool c.in_ok-set.set (make pool) (put_apart pool c.args.object c.args.head c.args.bonus c.args.spill) (c.in_ok-set.ensures.finds.judged pool named.are_named))
         (λ fault is. head_limits (c.args.object + 1) 0 false kept.body changed.result changed.ensures.limits fault (c.commit_head.ensures.refuses.last fault is));
+    partials = c.commit_head.ensures.partials;
   };
 }
 
@@ -55,5 +56,6 @@ returns-in_err-set g c = record {
         let fault = c.in_err-set.field-0.0 in
         plans_refused (λ pool. on_head c.args.name.now pool (make pool)) (c.args.object + 1) 0 false c.args.kept.now fault (err_is c.from_residual.result (Plan fault) c.from_residual.ensures.1) (inl c.in_err-set.ensures.finds.rows)
         (λ pool named. c.in_err-set.ensures.finds.judged pool named.are_named (make pool));
+    partials = search rules;
   };
 }

@@ -1,4 +1,4 @@
-use Rattle.std.proofs.Common.{ℕ, sym, subst, ◌+◌, inl, false}
+use Rattle.std.proofs.Common.{rules, ℕ, sym, subst, ◌+◌, inl, false}
 use Rattle.zst_block.specs.IoStates.{io_of}
 use Rattle.zst_model.specs.pools.Pool.{Pool}
 use Rattle.zst_model.specs.pools.Step.{written, on_head}
@@ -40,6 +40,7 @@ returns g c = record {
         plans_apart (λ pool. on_head name pool (make pool)) 0 (c.args.index + 1) false kept c.commit_head.result
         (λ pool named. head_apart kept.dir name pool c.in_ok-set.set (make pool) (written_apart pool c.args.object c.args.index c.args.bytes.now) (c.in_ok-set.ensures.finds.judged pool named.are_named))
         (λ fault is. head_limits 0 (c.args.index + 1) false kept.body changed.result changed.ensures.limits fault (c.commit_head.ensures.refuses.last fault is));
+    partials = c.commit_head.ensures.partials;
   };
 }
 
@@ -59,5 +60,6 @@ returns-in_err-set g c = record {
         let fault = c.in_err-set.field-0.0 in
         plans_refused (λ pool. on_head c.args.name.now pool (make pool)) 0 (c.args.index + 1) false c.args.kept.now fault (err_is c.from_residual.result (Plan fault) c.from_residual.ensures.1) (inl c.in_err-set.ensures.finds.rows)
         (λ pool named. c.in_err-set.ensures.finds.judged pool named.are_named (make pool));
+    partials = search rules;
   };
 }

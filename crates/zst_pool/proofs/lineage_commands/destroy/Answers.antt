@@ -1,4 +1,4 @@
-use Rattle.std.proofs.Common.{[], sym, ◌∙◌, subst, ◌+◌, arith, false}
+use Rattle.std.proofs.Common.{rules, [], sym, ◌∙◌, subst, ◌+◌, arith, false}
 use Rattle.zst_block.specs.Blocks.{Has}
 use Rattle.zst_model.specs.pools.Step.{with_destroyed}
 use Rattle.zst_model.proofs.Results.{err_is}
@@ -9,6 +9,7 @@ use Rattle.zst_pool.specs.Cost.{cells_only}
 use Rattle.zst_pool.specs.Damage.{NoDamage}
 use Rattle.zst_pool.specs.declared.fault.PoolFault.TheVariants.{OutOfMemory, Plan}
 use Rattle.zst_pool.proofs.Bounds.{RunsBy-later}
+use Rattle.zst_pool.proofs.CommitAnswers.{rows_left}
 use Rattle.zst_pool.proofs.LineageRows.{left_runs, same_guids, same_id, same_number}
 use Rattle.zst_pool.proofs.PlanLemmas.{made_apart, plans_apart, plans_refused, plans_starved, told_or_last}
 use Rattle.zst_pool.proofs.PoolsAtRest.{few_guids, rest_named, runs_named}
@@ -28,6 +29,7 @@ returns-in_err-going g c = record {
         let fault = c.in_err-going.field-0.0 in
         plans_refused (with_destroyed [] c.args.name) 0 0 false kept fault (err_is c.from_residual.result (Plan fault) c.from_residual.ensures.1) (told_or_last 0 0 false kept.body fault c.in_err-going.ensures.plans.refused)
         (λ pool named. c.in_err-going.ensures.plans.judged pool named.are_named named.number);
+    partials = search rules;
   };
 }
 
@@ -54,6 +56,7 @@ returns g c = record {
         plans_apart (with_destroyed [] c.args.name) 0 0 false c.args.kept.now c.commit_rows.result
         (λ pool named. made_apart (with_destroyed [] c.args.name pool) _ (c.in_ok-going.ensures.plans.judged pool named.are_named named.number))
         (λ fault is. absurd (c.commit_rows.ensures.unplanned fault is));
+    partials = rows_left c.in_ok-dir.ensures.makes.made c.commit_rows.result c.commit_rows.ensures.rows;
   };
 }
 
@@ -67,5 +70,6 @@ returns-in_err-dir g c = record {
         let fell = c.from_residual-in_err-dir in
         plans_starved (with_destroyed [] c.args.name) 0 0 false c.args.kept.now fell.result (err_is fell.result OutOfMemory fell.ensures.1)
         (λ pool named. made_apart (with_destroyed [] c.args.name pool) _ (c.in_ok-going.ensures.plans.judged pool named.are_named named.number));
+    partials = search rules;
   };
 }

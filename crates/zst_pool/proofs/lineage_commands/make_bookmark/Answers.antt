@@ -1,4 +1,4 @@
-use Rattle.std.proofs.Common.{◌≡◌, ℕ, List, refl, sym, ap, ◌∙◌, subst, ◌+◌, arith, false}
+use Rattle.std.proofs.Common.{rules, ◌≡◌, ℕ, List, refl, sym, ap, ◌∙◌, subst, ◌+◌, arith, false}
 use Rattle.std.specs.List.{All}
 use Rattle.zst_block.specs.Blocks.{Has}
 use Rattle.zst_model.specs.pools.Pool.{is_before, inserted}
@@ -12,6 +12,7 @@ use Rattle.zst_pool.specs.Cost.{cells_only}
 use Rattle.zst_pool.specs.Damage.{NoDamage}
 use Rattle.zst_pool.specs.declared.fault.PoolFault.TheVariants.{OutOfMemory, Plan}
 use Rattle.zst_pool.proofs.Bounds.{RunsBy-later}
+use Rattle.zst_pool.proofs.CommitAnswers.{rows_left}
 use Rattle.zst_pool.proofs.LineageRows.{bookmark_runs}
 use Rattle.zst_pool.proofs.PlanLemmas.{made_apart, plans_apart, plans_refused, plans_starved, told_or_last}
 use Rattle.zst_pool.proofs.PoolsAtRest.{few_guids, rest_named, runs_named}
@@ -40,6 +41,7 @@ returns-in_err-row g c = record {
         let fault = c.in_err-row.field-0.0 in
         plans_refused (with_bookmark c.args.snapshot.now c.args.name.now) 0 0 false kept fault (err_is c.from_residual.result (Plan fault) c.from_residual.ensures.1) (told_or_last 0 0 false kept.body fault c.in_err-row.ensures.plans.refused)
         (λ pool named. c.in_err-row.ensures.plans.judged pool named.are_named named.number);
+    partials = search rules;
   };
 }
 
@@ -53,6 +55,7 @@ returns-in_err-add_bookmark g c = record {
         let fell = c.from_residual-in_err-add_bookmark in
         plans_starved (with_bookmark c.args.snapshot.now c.args.name.now) 0 0 false c.args.kept.now fell.result (err_is fell.result OutOfMemory fell.ensures.1)
         (λ pool named. made_apart (with_bookmark c.args.snapshot.now c.args.name.now pool) _ (c.in_ok-row.ensures.plans.judged pool named.are_named named.number).4);
+    partials = search rules;
   };
 }
 
@@ -84,6 +87,7 @@ returns g c = record {
         plans_apart (with_bookmark c.args.snapshot.now c.args.name.now) 0 0 false c.args.kept.now c.commit_rows.result
         (λ pool named. made_apart (with_bookmark c.args.snapshot.now c.args.name.now pool) _ (c.in_ok-row.ensures.plans.judged pool named.are_named named.number).4)
         (λ fault is. absurd (c.commit_rows.ensures.unplanned fault is));
+    partials = rows_left (c.in_ok-add_bookmark.ensures.added ∙ ap (λ (d : Rows). record d { bookmarks = inserted (λ (a b : Bookmark). is_before a.name b.name) c.in_ok-row.row d.bookmarks }) c.in_ok-dir.ensures) c.commit_rows.result c.commit_rows.ensures.rows;
   };
 }
 
@@ -97,5 +101,6 @@ returns-in_err-dir g c = record {
         let fell = c.from_residual-in_err-dir in
         plans_starved (with_bookmark c.args.snapshot.now c.args.name.now) 0 0 false c.args.kept.now fell.result (err_is fell.result OutOfMemory fell.ensures.1)
         (λ pool named. made_apart (with_bookmark c.args.snapshot.now c.args.name.now pool) _ (c.in_ok-row.ensures.plans.judged pool named.are_named named.number).4);
+    partials = search rules;
   };
 }

@@ -1,4 +1,4 @@
-use Rattle.std.proofs.Common.{[], refl, sym, subst, ◌+◌, arith, false}
+use Rattle.std.proofs.Common.{rules, [], refl, sym, subst, ◌+◌, arith, false}
 use Rattle.zst_block.specs.Blocks.{Has}
 use Rattle.zst_model.specs.pools.Step.{rolled_back, with_rollback}
 use Rattle.zst_model.proofs.Results.{err_is}
@@ -8,6 +8,7 @@ use Rattle.zst_pool.specs.Cost.{cells_only}
 use Rattle.zst_pool.specs.Damage.{NoDamage}
 use Rattle.zst_pool.specs.declared.fault.PoolFault.TheVariants.{OutOfMemory, Plan}
 use Rattle.zst_pool.proofs.Bounds.{RunsBy-later}
+use Rattle.zst_pool.proofs.CommitAnswers.{rows_left}
 use Rattle.zst_pool.proofs.PlanLemmas.{made_apart, plans_apart, plans_refused, plans_starved, told_or_last}
 use Rattle.zst_pool.proofs.PoolsAtRest.{few_guids, rest_named, runs_named}
 use Rattle.zst_pool.proofs.RollbackRows.{rolled_runs}
@@ -27,6 +28,7 @@ returns-in_err-snapshot g c = record {
         let fault = c.in_err-snapshot.field-0.0 in
         plans_refused (with_rollback [] c.args.destroys c.args.name.now) 0 0 false kept fault (err_is c.from_residual.result (Plan fault) c.from_residual.ensures.1) (told_or_last 0 0 false kept.body fault c.in_err-snapshot.ensures.plans.refused)
         (λ pool named. c.in_err-snapshot.ensures.plans.judged pool named.are_named named.number);
+    partials = search rules;
   };
 }
 
@@ -55,6 +57,7 @@ returns g c = record {
         plans_apart (with_rollback [] c.args.destroys c.args.name.now) 0 0 false c.args.kept.now c.commit_rows.result
         (λ pool named. made_apart (with_rollback [] c.args.destroys c.args.name.now pool) _ (c.in_ok-snapshot.ensures.plans.judged pool named.are_named named.number).2)
         (λ fault is. absurd (c.commit_rows.ensures.unplanned fault is));
+    partials = rows_left c.in_ok-dir.ensures.makes.made c.commit_rows.result c.commit_rows.ensures.rows;
   };
 }
 
@@ -68,5 +71,6 @@ returns-in_err-dir g c = record {
         let fell = c.from_residual-in_err-dir in
         plans_starved (with_rollback [] c.args.destroys c.args.name.now) 0 0 false c.args.kept.now fell.result (err_is fell.result OutOfMemory fell.ensures.1)
         (λ pool named. made_apart (with_rollback [] c.args.destroys c.args.name.now pool) _ (c.in_ok-snapshot.ensures.plans.judged pool named.are_named named.number).2);
+    partials = search rules;
   };
 }

@@ -20,7 +20,7 @@ use Rattle.zst_pool.specs.declared.fault.PoolFault.{PoolFault}
 use Rattle.zst_pool.specs.declared.fault.PoolFault.TheVariants.{Damaged, OutOfMemory, Plan}
 use Rattle.zst_pool.proofs.CommandEnds.{did_rows, names_next}
 use Rattle.zst_pool.proofs.CommandRuns.{Wrote, runs_committed, runs_fell, runs_sound, told_of}
-use Rattle.zst_pool.proofs.CommitAnswers.{committed_sound}
+use Rattle.zst_pool.proofs.CommitAnswers.{answers_rows, committed_sound, rows_left}
 use Rattle.zst_pool.proofs.HeadAnswers.{memory_stops}
 use Rattle.zst_pool.proofs.PlanLemmas.{no_plan-commit}
 use Rattle.zst_pool.proofs.PoolsAtRest.{ready_after, rest_named, rest_plain, way_runs}
@@ -200,3 +200,8 @@ returns-clause-runs g c = λ of words same plans.
 
 pub returns-clause-limits : goal.returns-clause-limits
 returns-clause-limits g c = λ fault is. absurd (no_plan-commit c.commit_dir.result c.of_committed.ensures fault is)
+
+pub returns-clause-partials : goal.returns-clause-partials
+returns-clause-partials g c =
+    rows_left c.in_ok-dir.ensures.makes.made c.of_committed.result
+    (answers_rows c.commit_dir.result c.of_committed.result c.of_committed.ensures c.args.kept.now.body c.in_ok-dir.dir (io_of c.write_runs.new.io) (io_of c.commit_dir.new.io) c.commit_dir.ensures.made)

@@ -1,4 +1,4 @@
-use Rattle.std.proofs.Common.{◌≡◌, ◌∙◌, ◌∷◌, inl, inr, ◌<◌, ◌≤◌, true, List, length, Option, sym, ap, subst, arith}
+use Rattle.std.proofs.Common.{rules, ◌≡◌, ◌∙◌, ◌∷◌, inl, inr, ◌<◌, ◌≤◌, true, List, length, Option, sym, ap, subst, arith}
 use Rattle.std.specs.List.{All}
 use Rattle.zst_block.specs.IoStates.{io_of}
 use Rattle.zst_model.specs.pools.Step.{redaction_of, with_redaction}
@@ -31,6 +31,7 @@ returns-in_err-row g c = record {
         runs = runs_planned definition (redact_cost of words) (redact_damage disk (of ∷ words) kept.dir) kept plan answered c.requires.begins.space c.requires.begins.ready
             (λ running rested. let named = rest_named disk kept running rested in c.in_err-row.ensures.checks.judged running named.are_named);
         plans = plans_refused definition 0 0 true kept plan answered (inl c.in_err-row.ensures.checks.rows) (λ pool named. c.in_err-row.ensures.checks.judged pool named.are_named);
+        partials = search rules;
       };
 }
 
@@ -50,6 +51,7 @@ returns-in_err-rows g c = record {
         plans = plans_starved definition 0 0 true kept fell.result answered (λ pool named.
             let redacts = c.in_ok-row.ensures.checks.judged pool named.are_named in
             ap gives_told redacts.left ∙ short_apart (redaction_of name redacts.taken redacts.redactions) pool);
+        partials = search rules;
       };
 }
 
@@ -90,5 +92,6 @@ returns g c = record {
             let redacts = c.in_ok-row.ensures.checks.judged pool named.are_named in
             ap gives_told redacts.left ∙ short_apart (redaction_of name redacts.taken redacts.redactions) pool)
             (λ fault is. inr (commit.limits fault is));
+        partials = commit.partials;
       };
 }

@@ -1,4 +1,4 @@
-use Rattle.std.specs.Prelude.{◌||◌, Bool, true, Result, Ok, Err, IfErr}
+use Rattle.std.specs.Prelude.{◌||◌, Bool, true, Result, Ok, Err, IfErr, IfOk, OnOk}
 use Rattle.std.proofs.Common.{◌≡◌, ℕ, ◌+◌, List, [], ◌∷◌, refl, sym, ap, ◌∙◌, subst, arith}
 use Rattle.zst_model.specs.pools.AnswerLines.{ok_line}
 use Rattle.zst_model.specs.pools.Step.{stepped}
@@ -11,13 +11,16 @@ use Rattle.zst_image.specs.Reads.{RunsBy, bound_of, free_by}
 use Rattle.zst_pool.specs.Cost.{FindsLess, cost_of}
 use Rattle.zst_pool.specs.Damage.{IsOf, TellsDamage}
 use Rattle.zst_pool.specs.Faults.{is_disk_fault, is_full, tells_full}
+use Rattle.zst_pool.specs.PartialRows.{rows_after}
 use Rattle.zst_pool.specs.Plans.{Plans, indices_end, makes_list, numbers_end}
+use Rattle.zst_pool.specs.Queries.{stop_of}
 use Rattle.zst_pool.specs.StepAnswers.{StepAnswer}
 use Rattle.zst_pool.specs.declared.fault.PoolFault.{PoolFault}
 use Rattle.zst_pool.specs.declared.fault.PoolFault.TheVariants.{Failed, OutOfMemory}
 use Rattle.zst_image.proofs.PlainReads.{RunsBy-plain}
-use Rattle.zst_pool.proofs.QuerySteps.{finds_none, on_err, rests_read, since_read, spares_read, spends_none, told_rests}
+use Rattle.zst_pool.proofs.QuerySteps.{finds_none, on_err, on_ok, rests_read, since_read, spares_read, spends_none, told_rests}
 use Rattle.zst_pool.proofs.CommandParts.{or_false}
+use Rattle.zst_pool.proofs.PartialRows.{rows_stay}
 use Rattle.zst_pool.proofs.EventEnds.{settles_committed, settles_err, settles_failed, runs_settled, settles_ok, settles_told, step_failed}
 use Rattle.zst_pool.proofs.PlanLemmas.{plans_err, plans_ok}
 use Rattle.zst_pool.proofs.Replies.{step_reply}
@@ -68,6 +71,8 @@ returns g c =
       planned = λ standing left. plans_ok (stepped [] c.args.now c.args.command) (numbers_end c.args.command) (indices_end c.args.command) (makes_list c.args.command) pool.kept settled.new.self.kept c.in_ok-reply.reply (subst plans (sym keeps.kept) c.run-ran.ensures.does.plans);
       sound = λ running done rested sound made. c.steps_keep_sound.ensures [] c.args.now c.args.command running done c.requires.command rested.lawful sound made;
       only_answers = λ idle. absurd (cc (commits, idle));
+      room = λ need largest is. commits;
+      partials = subst (λ (r : Result PoolState PoolFault). IfOk r (λ next. next.dir.partials ≡ rows_after c.args.command pool.kept.dir.partials)) (sym keeps.kept) c.run-ran.ensures.does.partials;
       settles = settles_ok pool settled.new.self 0 c.in_ok-reply.reply settles;
     }
 
@@ -108,6 +113,8 @@ returns-in_err-settle_command g c =
       planned = λ standing none. plans_err (stepped [] c.args.now c.args.command) (numbers_end c.args.command) (indices_end c.args.command) (makes_list c.args.command) pool.kept fault same (subst plans (sym keeps.kept) c.run-ran.ensures.does.plans);
       sound = λ running done rested sound made. c.steps_keep_sound.ensures [] c.args.now c.args.command running done c.requires.command rested.lawful sound made;
       only_answers = λ idle. absurd (cc (commits, idle));
+      room = λ need largest is. commits;
+      partials = subst (λ (r : Result (List (List ℕ)) PoolFault). OnOk r (settled.new.self.kept.dir.partials ≡ rows_after c.args.command pool.kept.dir.partials)) (sym same) tt;
       settles = settles_err pool settled.new.self fault fell.result same settles;
     }
 
@@ -140,6 +147,8 @@ returns-in_err-reply g c =
       planned = λ standing left. absurd (left same);
       sound = λ running done rested sound made. c.steps_keep_sound.ensures [] c.args.now c.args.command running done c.requires.command rested.lawful sound made;
       only_answers = λ idle. absurd (cc (commits, idle));
+      room = λ need largest is. commits;
+      partials = subst (λ (r : Result (List (List ℕ)) PoolFault). OnOk r (pool.kept.dir.partials ≡ rows_after c.args.command pool.kept.dir.partials)) (sym same) tt;
       settles = record {
         stays = on_err fell.result refl;
         failed_pool = λ is. absurd (cc (is, c.if-self.false));
@@ -166,6 +175,8 @@ returns-then-self g c =
       planned = λ standing. absurd (cc (standing, c.if-self.true));
       sound = λ running done rested sound made. c.steps_keep_sound.ensures [] c.args.now c.args.command running done c.requires.command rested.lawful sound made;
       only_answers = λ idle. record { reads = reads; kept = refl };
+      room = λ need largest is. absurd (cc is);
+      partials = tt;
       settles = settles_failed pool c.if-self.true;
     }
 
@@ -197,5 +208,7 @@ returns-then-not-commits g c =
       planned = λ standing left. (c.tell.ensures.does c.args.now).plans;
       sound = λ running done rested sound made. c.steps_keep_sound.ensures [] c.args.now c.args.command running done c.requires.command rested.lawful sound made;
       only_answers = λ idle. record { reads = looks.reads; kept = refl };
+      room = λ need largest is. absurd (looks.never_full need largest (ap (λ (r : Result (List (List ℕ)) PoolFault). stop_of r) is));
+      partials = on_ok result (sym (rows_stay c.args.command pool.kept.dir.partials (sym c.commits.ensures ∙ c.if-not-commits.true)));
       settles = settles_told pool c.tell.new.io result c.if-self.false c.new-2.result free looks (c.requires.ready c.if-self.false);
     }
