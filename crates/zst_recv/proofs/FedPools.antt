@@ -1,6 +1,5 @@
 -- What a feed leaves of its pool and of the receive, at each of its ends.
 use Rattle.std.proofs.Common.{◌≡◌, ◌≤◌, ◌||◌, ℕ, Bool, true, false, List, Some, None, Result, Ok, Err, refl, sym, ap, ◌∙◌, subst, arith}
-use Rattle.std.specs.Prelude.{not}
 use Rattle.zst_outside.specs.Causes.{Rose-earlier}
 use Rattle.zst_outside.specs.declared.disk.Disk.{Ghosts}
 use Rattle.zst_block.specs.Blocks.{KeepsBlocks}
@@ -106,7 +105,7 @@ module _ {D : Type 0} {g : Ghosts D} where
     known = λ alive. absurd (let both : true ≡ false = sym failed ∙ alive in cc both);
     open_still = λ alive is. let both : true ≡ false = sym failed ∙ alive in cc both;
     stays = λ fault is keeps. refl;
-    blocks = λ goes. absurd (cc goes);
+    blocks = λ apart ptr bytes has. has;
     stood = λ apart ptr bytes has. has;
     size = refl;
     ready = λ alive. absurd (let both : true ≡ false = sym failed ∙ alive in cc both);
@@ -118,19 +117,20 @@ module _ {D : Type 0} {g : Ghosts D} where
   }
 
   module _ (old new : Pool D g) (alive : old.io.failed ≡ false) where
-    -- a piece was refused, and the disk is as it was then
+    -- a piece was refused, and the disk is as it was then: what was committed before that leaves the blocks that were there
     pub leaves_refused : (fault : RecvFault) (io : Io D g) → new.io ≡ io → IsFeedFault fault → (keeps_before fault ≡ false → new.kept.body ≡ old.kept.body)
         → (io.failed ≡ false → Ready (disk_of io) new.kept.body) → (is_damage (stop_at fault) ≡ false → io.checksum_errors ≡ old.io.checksum_errors) → io.failed ≡ fails (stop_at fault) → HasCause (disk_of old.io).faults (disk_of io).faults (stop_at fault)
         → (IsHonest io → IsHonest old.io) → io.disk.ghost_name ≡ old.io.disk.ghost_name
+        → (¬ (fault ≡ faults.Pool pools.DiskFault) → KeepsBlocks (disk_of old.io).seen (free_by old.kept.body) (disk_of io).seen (free_by new.kept.body))
         → (¬ (fault ≡ faults.Pool pools.DiskFault) → KeepsBlocks (disk_of old.io).seen (free_by old.kept.body) (disk_of io).seen (free_by old.kept.body)) → (disk_of io).size ≡ (disk_of old.io).size → LeavesPool old new (answer fault)
-    leaves_refused fault io is known stays ready counts failed cause honest same stood size = record {
+    leaves_refused fault io is known stays ready counts failed cause honest same blocks stood size = record {
       failed_pool = λ fell. absurd (let both : true ≡ false = sym fell ∙ alive in cc both);
       idle_disk = λ fell. absurd (let both : true ≡ false = sym fell ∙ alive in cc both);
       idle_kept = λ fell. absurd (let both : true ≡ false = sym fell ∙ alive in cc both);
       known = λ open_pool. known;
       open_still = λ open_pool told. still_open (answer fault) known told;
       stays = λ other told keeps. stays (ap keeps_before (told_fault fault other told) ∙ keeps);
-      blocks = λ goes. absurd (cc goes);
+      blocks = λ apart. subst (λ (i : Io D g). KeepsBlocks (disk_of old.io).seen (free_by old.kept.body) (disk_of i).seen (free_by new.kept.body)) (sym is) (blocks (λ told. apart (ap answer told)));
       stood = λ apart. subst (λ (i : Io D g). KeepsBlocks (disk_of old.io).seen (free_by old.kept.body) (disk_of i).seen (free_by old.kept.body)) (sym is) (stood (λ told. apart (ap answer told)));
       size = ap (λ (i : Io D g). (disk_of i).size) is ∙ size;
       ready = λ still. subst (λ (i : Io D g). Ready (disk_of i) new.kept.body) (sym is) (ready (sym (ap (λ (i : Io D g). i.failed) is) ∙ still));
@@ -144,8 +144,17 @@ module _ {D : Type 0} {g : Ghosts D} where
         told_fault : (one other : RecvFault) → answer one ≡ answer other → one ≡ other
         told_fault one other e = cc
 
+    -- or nothing was committed
+    pub leaves_body : (fault : RecvFault) (io : Io D g) → new.io ≡ io → IsFeedFault fault → new.kept.body ≡ old.kept.body
+        → (io.failed ≡ false → Ready (disk_of io) new.kept.body) → (is_damage (stop_at fault) ≡ false → io.checksum_errors ≡ old.io.checksum_errors) → io.failed ≡ fails (stop_at fault) → HasCause (disk_of old.io).faults (disk_of io).faults (stop_at fault)
+        → (IsHonest io → IsHonest old.io) → io.disk.ghost_name ≡ old.io.disk.ghost_name
+        → (¬ (fault ≡ faults.Pool pools.DiskFault) → KeepsBlocks (disk_of old.io).seen (free_by old.kept.body) (disk_of io).seen (free_by old.kept.body)) → (disk_of io).size ≡ (disk_of old.io).size → LeavesPool old new (answer fault)
+    leaves_body fault io is known body ready counts failed cause honest same stood size =
+        leaves_refused fault io is known (λ keeps. body) ready counts failed cause honest same
+        (λ apart. subst (KeepsBlocks (disk_of old.io).seen (free_by old.kept.body) (disk_of io).seen) (sym (ap free_by body)) (stood apart)) stood size
+
     -- or it was taken and committed
-    pub leaves_fed : (told : coded_recv.FeedReport) → (told.done ≡ false → KeepsBlocks (disk_of old.io).seen (free_by old.kept.body) (disk_of new.io).seen (free_by new.kept.body))
+    pub leaves_fed : (told : coded_recv.FeedReport) → KeepsBlocks (disk_of old.io).seen (free_by old.kept.body) (disk_of new.io).seen (free_by new.kept.body)
         → (new.io.failed ≡ false → Ready (disk_of new.io) new.kept.body) → new.io.checksum_errors ≡ old.io.checksum_errors → new.io.failed ≡ false → HasCause (disk_of old.io).faults (disk_of new.io).faults None
         → (IsHonest new.io → IsHonest old.io) → new.io.disk.ghost_name ≡ old.io.disk.ghost_name
         → KeepsBlocks (disk_of old.io).seen (free_by old.kept.body) (disk_of new.io).seen (free_by old.kept.body) → (disk_of new.io).size ≡ (disk_of old.io).size → LeavesPool old new (Ok told)
@@ -156,7 +165,7 @@ module _ {D : Type 0} {g : Ghosts D} where
       known = λ open_pool. tt;
       open_still = λ open_pool is. cc is;
       stays = λ fault is keeps. absurd (cc is);
-      blocks = λ goes. blocks (not_done told.done goes);
+      blocks = λ apart. blocks;
       stood = λ apart. stood;
       size = size;
       ready = ready;
@@ -166,10 +175,6 @@ module _ {D : Type 0} {g : Ghosts D} where
       honest = honest;
       same = same;
     }
-      where
-        not_done : (b : Bool) → not b ≡ true → b ≡ false
-        not_done true is = absurd (cc is)
-        not_done false is = refl
 
 -- ---- the receive
 

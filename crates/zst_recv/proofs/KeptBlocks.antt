@@ -4,7 +4,7 @@ use Rattle.zst_outside.specs.Images.{DiskState}
 use Rattle.zst_space.specs.FreeSectors.{FreeSectors}
 use Rattle.zst_block.specs.Blocks.{FillsFree, KeepsBlocks}
 use Rattle.zst_block.proofs.BlocksLaws.{Has-spared, KeepsBlocks-fills}
-use Rattle.zst_recv.specs.Stages.{has_partial, is_live, waits_at}
+use Rattle.zst_recv.specs.Stages.{has_partial, waits_at}
 use Rattle.zst_recv.specs.declared.stage.Stage as coded
 use Rattle.zst_recv.specs.declared.stage.Stage.TheVariants as stages
 
@@ -17,10 +17,10 @@ keeps_behind old mid now free less after false fills idle moved =
     let stays : KeepsBlocks old.seen free mid.seen free = λ ptr bytes has. Has-spared free old.seen mid.seen ptr bytes fills.seen has in
     subst (λ (s : FreeSectors). KeepsBlocks old.seen free now.seen s) (sym none.1) (subst (λ (d : DiskState). KeepsBlocks old.seen free d.seen free) (sym none.0) stays)
 
--- a receive that goes on behind BEGIN has its partial state under way
-pub live_partial : (stage : coded.Stage) → is_live stage ≡ true → (waits_at stage ≡ true → ⊥) → has_partial stage ≡ true
-live_partial stages.Waits live behind = absurd (behind refl)
-live_partial (stages.Lives flags row) live behind = refl
-live_partial (stages.Ends row) live behind = absurd (cc live)
-live_partial (stages.Done received) live behind = absurd (cc live)
-live_partial stages.Over live behind = absurd (cc live)
+-- a partial state that is under way is behind BEGIN
+pub partial_begun : (stage : coded.Stage) → has_partial stage ≡ true → waits_at stage ≡ false
+partial_begun stages.Waits lives = absurd (cc lives)
+partial_begun (stages.Lives flags row) lives = refl
+partial_begun (stages.Ends row) lives = refl
+partial_begun (stages.Done received) lives = refl
+partial_begun stages.Over lives = refl

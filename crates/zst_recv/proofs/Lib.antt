@@ -24,4 +24,5 @@ pub mod PlanRefusals
 mod KeptBlocks
 mod ListedRows
 mod KeptPartials
+mod LeftRows
 mod PlannedSets

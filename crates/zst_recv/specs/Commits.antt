@@ -1,10 +1,11 @@
 -- What a feed commits.
-use Rattle.std.specs.Prelude.{◌≡◌, ◌⊎◌, ℕ, Bool, false, Result, Ok, Err, IfErr, OnErr, OnOk}
+use Rattle.std.specs.Prelude.{◌≡◌, ◌≢◌, ◌⊎◌, ℕ, Bool, true, false, List, Result, Ok, Err, IfErr, OnErr, OnOk, find}
 use Rattle.zst_outside.specs.Images.{DiskState, Leaves}
 use Rattle.zst_outside.specs.declared.disk.Disk.{Ghosts}
 use Rattle.zst_block.specs.Blocks.{KeepsBlocks}
 use Rattle.zst_block.specs.IoCalls.{is_damage}
 use Rattle.zst_block.specs.IoStates.{IsHonest, disk_of}
+use Rattle.zst_dir.specs.Rows.{Rows, is_for}
 use Rattle.zst_image.specs.Commits.{Ready}
 use Rattle.zst_image.specs.Reads.{Reads}
 use Rattle.zst_image.specs.declared.pool_state.PoolState.{PoolState}
@@ -17,6 +18,8 @@ use Rattle.zst_pool.specs.Queries.{stop_of}
 use Rattle.zst_pool.specs.declared.fault.PoolFault.{PoolFault}
 use Rattle.zst_pool.specs.declared.fault.PoolFault.TheVariants.{DiskFault, Full}
 use Rattle.zst_pool.specs.declared.pool.Pool as coded
+use Rattle.zst_recv.specs.GoingOn.{IsRow}
+use Rattle.zst_recv.specs.declared.batch.Batch as batches
 
 -- What stands after a commit of what was taken, or of nothing: what the definition makes of the pool, or the pool as it was.
 abbrev pub PutAnswer : (tight : Bool) → DiskState → PoolState → Pool → Result Pool Refusal → Result (Unit {0}) PoolFault → Type 0
@@ -27,6 +30,12 @@ PutAnswer tight now kept running definition (Err fault) = CallFault (IsAtRest ti
 pub record Puts (tight : Bool) (start now : DiskState) (kept : PoolState) (running : Pool) (definition : Result Pool Refusal) (result : Result (Unit {0}) PoolFault) : Type 0 where
   pub moments : Leaves start now (λ c. Reads tight (kept_of running) c ⊎ ((next : Pool) × (definition ≡ Ok next) × Reads tight (kept_of next) c))
   pub answer : PutAnswer tight now kept running definition result
+
+-- The rows that the commit of a batch for this target leaves, whatever the image is: those of other targets' partial states are as they were, and one that is under
+-- way and took a record is there.
+pub record CommitsRows {A : Type 0} (target : List ℕ) (old new : Rows) (batch : batches.Batch) (result : Result A PoolFault) : Type 0 where
+  pub others : (other : List ℕ) → other ≢ target → find (is_for other) new.partials ≡ find (is_for other) old.partials
+  pub own : batch.taken ≡ true → OnOk result (IsRow new target batch.stage)
 
 module _ {D : Type 0} {g : Ghosts D} where
   -- how the commit of a batch ends over a pool that hasn't failed, whatever the image is; one in which no record was taken commits nothing

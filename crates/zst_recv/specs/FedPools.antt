@@ -1,18 +1,26 @@
 -- What a feed leaves of its pool, whatever the image is.
-use Rattle.std.specs.Prelude.{◌≡◌, ◌||◌, true, false, Result, Err, IfErr}
+use Rattle.std.specs.Prelude.{◌≡◌, ◌≢◌, ◌||◌, ℕ, true, false, List, Result, Err, IfErr, find}
 use Rattle.zst_outside.specs.declared.disk.Disk.{Ghosts}
 use Rattle.zst_block.specs.Blocks.{KeepsBlocks}
 use Rattle.zst_block.specs.IoCalls.{HasCause, fails, is_damage}
 use Rattle.zst_block.specs.IoStates.{IsHonest, disk_of}
+use Rattle.zst_dir.specs.Rows.{Rows, is_for}
 use Rattle.zst_image.specs.Commits.{Ready}
 use Rattle.zst_image.specs.Reads.{free_by}
+use Rattle.zst_model.specs.declared.refusals.faults.Quantity.TheVariants.{Stream}
+use Rattle.zst_model.specs.declared.refusals.plan_fault.PlanFault.TheVariants.{Limit}
 use Rattle.zst_pool.specs.declared.fault.PoolFault.TheVariants as pools
 use Rattle.zst_pool.specs.declared.pool.Pool.{Pool}
+use Rattle.zst_reader.specs.InputReads.{stream_limit}
 use Rattle.zst_recv.specs.Answers.{goes_on}
 use Rattle.zst_recv.specs.Faults.{IsFeedFault, keeps_before, stop_of}
+use Rattle.zst_recv.specs.GoingOn.{IsRow}
+use Rattle.zst_recv.specs.Stages.{stage_of}
 use Rattle.zst_recv.specs.declared.fault.RecvFault.{RecvFault}
 use Rattle.zst_recv.specs.declared.fault.RecvFault.TheVariants as faults
 use Rattle.zst_recv.specs.declared.recv.FeedReport as coded
+use Rattle.zst_recv.specs.declared.recv.Recv.{Recv}
+use Rattle.zst_recv.specs.declared.stage.Stage.{Stage}
 
 module _ {D : Type 0} {g : Ghosts D} where
   -- a pool was fed a piece of a stream
@@ -26,8 +34,8 @@ module _ {D : Type 0} {g : Ghosts D} where
     pub open_still : old.io.failed ≡ false → ¬ (result ≡ Err (faults.Pool pools.Failed))
     -- a refusal that keeps no records before it commits nothing: the body is as it was
     pub stays : (fault : RecvFault) → result ≡ Err fault → keeps_before fault ≡ false → new.kept.body ≡ old.kept.body
-    -- where the receive goes on, the blocks that were there still are, over the sectors that the latest body leaves free
-    pub blocks : goes_on result ≡ true → KeepsBlocks (disk_of old.io).seen (free_by old.kept.body) (disk_of new.io).seen (free_by new.kept.body)
+    -- unless the disk failed, the blocks that were there still are, over the sectors that the latest body then leaves free
+    pub blocks : ¬ (result ≡ Err (faults.Pool pools.DiskFault)) → KeepsBlocks (disk_of old.io).seen (free_by old.kept.body) (disk_of new.io).seen (free_by new.kept.body)
     -- and whatever it answers, unless the disk failed, each block still stands that stood in sectors which the body left not free; the disk is as long
     pub stood : ¬ (result ≡ Err (faults.Pool pools.DiskFault)) → KeepsBlocks (disk_of old.io).seen (free_by old.kept.body) (disk_of new.io).seen (free_by old.kept.body)
     pub size : (disk_of new.io).size ≡ (disk_of old.io).size
@@ -38,3 +46,14 @@ module _ {D : Type 0} {g : Ghosts D} where
     pub cause : HasCause (disk_of old.io).faults (disk_of new.io).faults (stop_of result)
     pub honest : IsHonest new.io → IsHonest old.io
     pub same : new.io.disk.ghost_name ≡ old.io.disk.ghost_name
+
+  -- a piece with which a stream would be longer than one may be was refused, and the disk wasn't called
+  pub record IsTooLong (old new : Pool D g) (result : Result coded.FeedReport RecvFault) : Type 0 where
+    pub refused : result ≡ Err (faults.Pool (pools.Plan (Limit Stream stream_limit)))
+    pub idle : new.io.disk.now ≡ old.io.disk.now
+
+-- The rows of a pool into which a piece was fed for this target, by a receive that stood here before: those of other targets' partial states are as they were, and
+-- a receive that goes on has its own there, where that stood there before.
+pub record LeavesRows (target : List ℕ) (before : Stage) (old new : Rows) (recv : Recv) (result : Result coded.FeedReport RecvFault) : Type 0 where
+  pub others : (other : List ℕ) → other ≢ target → find (is_for other) new.partials ≡ find (is_for other) old.partials
+  pub own : IsRow old target before → goes_on result ≡ true → IsRow new target (stage_of recv)

@@ -7,8 +7,8 @@ ghost use Rattle.zst_model.specs.pools.Pool.{Pool as Plain};
 ghost use Rattle.zst_pool.specs.Calls.{CanCommit, IsUnderWay};
 ghost use Rattle.zst_recv.specs.Faults.{keeps_before};
 ghost use Rattle.zst_recv.specs.ReceiveSteps.{Batch as PlainBatch, put};
-ghost use Rattle.zst_recv.specs.Commits.{CommitsBatch, Puts};
-ghost use Rattle.zst_recv.specs.Stages.{IsBatch, LivesOn, StageFits, has_partial};
+ghost use Rattle.zst_recv.specs.Commits.{CommitsBatch, CommitsRows, Puts};
+ghost use Rattle.zst_recv.specs.Stages.{IsBatch, LivesOn, StageFits, waits_at};
 
 use crate::batch::Batch;
 use crate::fault::RecvFault;
@@ -46,12 +46,13 @@ pub(crate) fn put<D: Disk>(
     // Where it goes on, its partial state still stands for the one that was taken.
     ensures goes_on { (bound : Option ℕ) (plain : PlainBatch) → IsBatch bound (blocks_of pool.old.io) batch.now plain
         → OnOk result (IsBatch bound (blocks_of pool.new.io) batch.now plain) }
-    // What the latest body leaves free is free again once a partial state was committed, and over it the blocks that were there still
-    // are; and nothing was done where no record was taken.
-    ensures free { batch.now.taken ≡ true → has_partial batch.now.stage ≡ true
+    // What the latest body leaves free is free again once a partial state or its snapshot was committed, and over it the blocks that
+    // were there still are; and nothing was done where no record was taken.
+    ensures free { batch.now.taken ≡ true → waits_at batch.now.stage ≡ false
         → OnOk result ((pool.new.io.space ≡ free_by pool.new.kept.body) × KeepsBlocks (disk_of pool.old.io).seen pool.old.io.space (disk_of pool.new.io).seen (free_by pool.new.kept.body)) }
     ensures idle { batch.now.taken ≡ false → (pool.new.io.disk.now ≡ pool.old.io.disk.now) × (pool.new.kept ≡ pool.old.kept) }
     ensures fits { (target : List ℕ) → StageFits pool.old.kept.dir target batch.now.stage → OnOk result (LivesOn pool.new.kept.dir target batch.now.stage) }
+    ensures rows { (target : List ℕ) → StageFits pool.old.kept.dir target batch.now.stage → CommitsRows target pool.old.kept.dir pool.new.kept.dir batch.now result }
     ensures commits { CommitsBatch pool.old pool.new result }
 {
     if !batch.taken {

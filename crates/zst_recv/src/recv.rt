@@ -10,6 +10,7 @@ use crate::stage::Stage;
 use std::alloc::Global;
 use std::mem;
 use zst_model::{PlanFault, Point, Quantity, StreamFault};
+use zst_names::DatasetName;
 use zst_outside::Disk;
 use zst_plan::RecvAsk;
 use zst_pool::{Pool, PoolFault};
@@ -37,7 +38,7 @@ pub struct Recv {
 }
 
 impl Recv {
-    ghost use Rattle.std.specs.Prelude.{◌≡◌, ◌-◌, ℕ, Bool, List, Option, IfErr, IfOk, Err, false, true, not, sum_by, if◌then◌else◌, ◌++◌};
+    ghost use Rattle.std.specs.Prelude.{◌≡◌, ◌<◌, ◌+◌, ◌-◌, length, ℕ, Bool, List, Option, IfErr, IfOk, Err, false, true, not, sum_by, if◌then◌else◌, ◌++◌};
     ghost use Rattle.zst_block.specs.Blocks.{Has};
     ghost use Rattle.zst_block.specs.IoStates.{IsHonest, disk_of};
     ghost use Rattle.zst_image.specs.Commits.{Ready};
@@ -51,7 +52,7 @@ impl Recv {
     ghost use Rattle.zst_recv.specs.Answers.{Feeds};
     ghost use Rattle.zst_recv.specs.Costs.{CostsPiece, records_behind};
     ghost use Rattle.zst_recv.specs.Faults.{cut_of};
-    ghost use Rattle.zst_recv.specs.FedPools.{LeavesPool};
+    ghost use Rattle.zst_recv.specs.FedPools.{IsTooLong, LeavesPool, LeavesRows};
     ghost use Rattle.zst_recv.specs.FedReceives.{IsFresh, LeavesKept, LeavesReceive, TracesSet};
     ghost use Rattle.zst_recv.specs.ReadTexts.{ReadsText};
     ghost use Rattle.zst_recv.specs.ReceiveSteps.{Stage as PlainStage, left_by};
@@ -88,6 +89,13 @@ impl Recv {
         ensures { result ≡ is_live (stage_of self.now) }
     {
         self.stage.is_live()
+    }
+
+    /// The dataset that it receives into.
+    pub fn target(&self) -> &DatasetName
+        ensures { result.now ≡ (ask_of self.now).target }
+    {
+        &self.ask.target
     }
 
     /// How many bytes it was fed.
@@ -133,6 +141,10 @@ impl Recv {
         // As long as BEGIN isn't covered nothing is committed; and what a refusal leaves of what is kept.
         ensures kept { LeavesKept (is_waiting self.new) pool.old.io.failed (has_partial (stage_of self.old)) (ask_of self.old).target pool.old.kept pool.new.kept result }
         ensures pool { LeavesPool pool.old pool.new result }
+        // E23: a stream that would be longer than one may be is refused as that before all else.
+        ensures long { pool.old.io.failed ≡ false → stream_limit < fed_of self.old + length piece.now → IsTooLong pool.old pool.new result }
+        // Others' partial states stay as they were, and where the receive goes on its own stands among the rows.
+        ensures rows { LeavesRows (ask_of self.old).target (stage_of self.old) pool.old.kept.dir pool.new.kept.dir self.new result }
         ensures receive { LeavesReceive pool.new.kept.dir piece.now self.old self.new result }
     {
         if pool.io.failed {

@@ -1,17 +1,21 @@
-use Rattle.std.proofs.Common.{◌≡◌, ◌+◌, ◌||◌, Bool, false, sym, ap, ◌∙◌, subst}
+use Rattle.std.proofs.Common.{◌≡◌, ◌+◌, ◌||◌, Bool, true, false, Ok, refl, sym, ap, ◌∙◌, subst}
 use Rattle.std.specs.Prelude.{Result}
 use Rattle.zst_space.specs.FreeSectors.{FreeSectors}
 use Rattle.zst_block.specs.Blocks.{Has, KeepsBlocks}
 use Rattle.zst_dir.specs.declared.rows.Partial.{Partial as Row}
 use Rattle.zst_image.specs.Reads.{PartialIs, bound_of, free_by}
+use Rattle.zst_image.specs.declared.pool_state.PoolState.{PoolState}
+use Rattle.zst_pool.specs.FinishedRows.{rows_with_finished}
 use Rattle.zst_pool.specs.PartialRows.{CanPut, rows_with_partial}
 use Rattle.zst_pool.specs.Partials.{partial_finished, partial_put}
 use Rattle.zst_pool.specs.declared.fault.PoolFault.{PoolFault}
 use Rattle.zst_recv.specs.ReceiveSteps.{put}
-use Rattle.zst_recv.specs.Commits.{CommitsBatch, Puts}
+use Rattle.zst_recv.specs.Commits.{CommitsBatch, CommitsRows, Puts}
 use Rattle.zst_recv.specs.Stages.{CanPutFor, IsStage, LivesOn, StageFits}
 use Rattle.zst_recv.specs.declared.stage.Stage as coded
+use Rattle.zst_recv.proofs.AnsweredFaults.{put_answer}
 use Rattle.zst_recv.proofs.CommitLemmas.{can_again, commits_made, commits_none, commits_refused, ended, goes_idle, idle_put, living, put_ended, put_living, put_none, puts_err, puts_none, puts_ok, batch_more}
+use Rattle.zst_recv.proofs.LeftRows.{commits_at_begin, no_row, rows_finished, rows_kept, rows_put}
 use Rattle.zst_recv.proofs.commits.put.Goals as goal
 use Rattle.zst_model.proofs.Results.{err_is}
 
@@ -128,12 +132,63 @@ finish_partial-requires-clause-partial g c =
     subst (CanPut rows) (sym c.duplicate-in-Ends.ensures) fits.can
 
 pub returns-in_ok-put_partial-in-Lives-clause-free : goal.returns-in_ok-put_partial-in-Lives-clause-free
-returns-in_ok-put_partial-in-Lives-clause-free g c = λ taken lives.
+returns-in_ok-put_partial-in-Lives-clause-free g c = λ taken begun.
     let e = c.in_ok-put_partial-in-Lives.ensures in
     let pool = c.args.pool.now in
     let after = c.put_partial.new.self in
     let free : after.io.space ≡ free_by after.kept.body = e.settles.space (ap (λ (b : Bool). b || false) c.requires.open) in
     (free, subst (λ (s : FreeSectors). KeepsBlocks (g.D.Disk.state pool.io.disk.now).seen pool.io.space (g.D.Disk.state after.io.disk.now).seen s) free e.puts.blocks)
+
+pub returns-in_ok-finish_partial-in-Ends-clause-free : goal.returns-in_ok-finish_partial-in-Ends-clause-free
+returns-in_ok-finish_partial-in-Ends-clause-free g c = λ taken begun.
+    let e = c.in_ok-finish_partial-in-Ends.ensures in
+    let pool = c.args.pool.now in
+    let after = c.finish_partial.new.self in
+    let free : after.io.space ≡ free_by after.kept.body = e.settles.space (ap (λ (b : Bool). b || false) c.requires.open) in
+    (free, subst (λ (s : FreeSectors). KeepsBlocks (g.D.Disk.state pool.io.disk.now).seen pool.io.space (g.D.Disk.state after.io.disk.now).seen s) free e.puts.blocks)
+
+pub returns-in-Waits-clause-free : goal.returns-in-Waits-clause-free
+returns-in-Waits-clause-free g c = λ taken begun.
+    absurd (let waits = commits_at_begin c.args.pool.now.kept.dir c.requires.stage.0 c.args.batch.now.stage c.in-Waits.is c.requires.stage.1 in let both : true ≡ false = sym waits ∙ begun in cc both)
+
+pub returns-then-not-batch-clause-rows : goal.returns-then-not-batch-clause-rows
+returns-then-not-batch-clause-rows g c = λ target fits.
+    let rows = c.args.pool.now.kept.dir in
+    rows_kept {A = Unit {0}} target rows rows c.args.batch.now (Ok tt) refl (λ taken. absurd (let both : true ≡ false = sym taken ∙ c.if-not-batch.true in cc both))
+
+pub returns-in-Waits-clause-rows : goal.returns-in-Waits-clause-rows
+returns-in-Waits-clause-rows g c = λ target fits.
+    let rows = c.args.pool.now.kept.dir in
+    rows_kept {A = Unit {0}} target rows rows c.args.batch.now (Ok tt) refl (λ taken. no_row rows target c.args.batch.now.stage c.in-Waits.is)
+
+pub returns-in_ok-put_partial-in-Lives-clause-rows : goal.returns-in_ok-put_partial-in-Lives-clause-rows
+returns-in_ok-put_partial-in-Lives-clause-rows g c = λ target fits.
+    let old = c.args.pool.now.kept.dir in
+    let batch = c.args.batch.now in
+    rows_put target old c.put_partial.new.self.kept.dir batch c.in-Lives.flags c.in-Lives.partial c.in-Lives.is fits (c.in_ok-put_partial-in-Lives.ensures.puts.rows ∙ ap (λ (r : Row). rows_with_partial batch.rolls r old) c.duplicate.ensures)
+
+pub returns-in_ok-finish_partial-in-Ends-clause-rows : goal.returns-in_ok-finish_partial-in-Ends-clause-rows
+returns-in_ok-finish_partial-in-Ends-clause-rows g c = λ target fits.
+    let old = c.args.pool.now.kept in
+    let number = old.body.number + 1 in
+    rows_finished target old.dir c.finish_partial.new.self.kept.dir c.args.batch.now number c.in-Ends.partial c.in-Ends.is fits
+    (c.in_ok-finish_partial-in-Ends.ensures.puts.rows ∙ ap (λ (r : Row). rows_with_finished number r old.dir) c.duplicate-in-Ends.ensures)
+
+pub returns-in_err-put_partial-in-Lives-clause-rows : goal.returns-in_err-put_partial-in-Lives-clause-rows
+returns-in_err-put_partial-in-Lives-clause-rows g c = λ target fits.
+    let old = c.args.pool.now.kept in
+    let new = c.put_partial.new.self.kept in
+    let fault = c.in_err-put_partial-in-Lives.field-0.0 in
+    subst (λ (r : Result (Unit {0}) PoolFault). CommitsRows target old.dir new.dir c.args.batch.now r) (sym (err_is c.from_residual.result fault c.from_residual.ensures.1))
+    (rows_kept target old.dir new.dir c.args.batch.now (put_answer fault) (ap (λ (k : PoolState). k.dir) c.in_err-put_partial-in-Lives.ensures.settles.stays) (λ taken. tt))
+
+pub returns-in_err-finish_partial-in-Ends-clause-rows : goal.returns-in_err-finish_partial-in-Ends-clause-rows
+returns-in_err-finish_partial-in-Ends-clause-rows g c = λ target fits.
+    let old = c.args.pool.now.kept in
+    let new = c.finish_partial.new.self.kept in
+    let fault = c.in_err-finish_partial-in-Ends.field-0.0 in
+    subst (λ (r : Result (Unit {0}) PoolFault). CommitsRows target old.dir new.dir c.args.batch.now r) (sym (err_is c.from_residual-in_err-finish_partial-in-Ends.result fault c.from_residual-in_err-finish_partial-in-Ends.ensures.1))
+    (rows_kept target old.dir new.dir c.args.batch.now (put_answer fault) (ap (λ (k : PoolState). k.dir) c.in_err-finish_partial-in-Ends.ensures.settles.stays) (λ taken. tt))
 
 pub returns-then-not-batch-clause-commits : goal.returns-then-not-batch-clause-commits
 returns-then-not-batch-clause-commits g c = commits_none c.args.pool.now c.requires.open c.requires.works.ready

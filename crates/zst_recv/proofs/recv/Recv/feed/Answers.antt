@@ -1,7 +1,8 @@
-use Rattle.std.proofs.Common.{◌≡◌, ◌&&◌, ◌++◌, ◌||◌, Bool, true, false, cond, Some, None, Ok, Err, refl, sym, ap, ◌∙◌, subst, arith, ◌⊎◌}
-use Rattle.std.specs.Prelude.{◌+◌, ◌-◌, ◌≤◌, ℕ, IfSome, IsSome, List, [], Result, length, not, sum_by}
+mod Pieces
+use Rattle.std.proofs.Common.{◌≡◌, ◌≢◌, ◌&&◌, ◌++◌, ◌||◌, Bool, true, false, cond, Some, None, Ok, Err, refl, sym, ap, ◌∙◌, subst, arith, ◌⊎◌}
+use Rattle.std.specs.Prelude.{◌+◌, ◌-◌, ◌≤◌, ℕ, IfSome, IsSome, List, [], Result, find, length, not, sum_by}
 use Rattle.std.proofs.lemmas.List.{length-append}
-use Rattle.std.proofs.lemmas.Bool.{not-true, not-false}
+use Rattle.std.proofs.lemmas.Bool.{false_from_ne_true, not-true, not-false}
 use Rattle.zst_space.specs.FreeSectors.{FreeSectors}
 use Rattle.zst_reader.specs.InputReads.{stream_limit}
 use Rattle.zst_reader.specs.StandsFor.{StandsFor, pushed_of, HandsOut}
@@ -10,6 +11,7 @@ use Rattle.zst_record.specs.Heads.{Covered, size_of}
 use Rattle.zst_outside.specs.Images.{DiskState}
 use Rattle.zst_block.specs.Blocks.{FillsFree, Has, KeepsBlocks, SparesTaken}
 use Rattle.zst_block.specs.IoCalls.{HasCause, fails, is_damage}
+use Rattle.zst_dir.specs.Rows.{is_for}
 use Rattle.zst_image.specs.Commits.{Ready}
 use Rattle.zst_image.specs.Reads.{bound_of, free_by}
 use Rattle.zst_image.specs.declared.pool_state.PoolState.{PoolState}
@@ -28,6 +30,7 @@ use Rattle.zst_recv.specs.FedPools.{LeavesPool}
 use Rattle.zst_recv.specs.ReceiveSteps.{Batch, Stage, at_stage, is_kept, left_by, put}
 use Rattle.zst_recv.specs.Answers.{is_done}
 use Rattle.zst_recv.specs.Feeds.{new_records}
+use Rattle.zst_recv.specs.GoingOn.{IsRow}
 use Rattle.zst_recv.specs.Commits.{Puts}
 use Rattle.zst_recv.specs.Damage.{ComesFrom, MakesStage}
 use Rattle.zst_recv.specs.Stages.{HasRead, IsBatch, IsStage, Receives, StageFits, TellsBefore, has_partial, is_live, kept_without, received_at, waits_at}
@@ -39,7 +42,7 @@ use Rattle.zst_recv.specs.declared.stage.Stage as coded
 use Rattle.zst_recv.specs.declared.stage.Stage.TheVariants as stages
 use Rattle.zst_recv.proofs.BatchStages.{untaken}
 use Rattle.zst_recv.proofs.FeedAnswers.{due_some}
-use Rattle.zst_recv.proofs.FedPools.{behind_live, cause_none, cause_put, damage_put, failed_put, kept_none, leaves_failed, leaves_fed, leaves_refused, receive_over}
+use Rattle.zst_recv.proofs.FedPools.{behind_live, cause_none, cause_put, damage_put, failed_put, kept_none, leaves_body, leaves_failed, leaves_fed, leaves_refused, receive_over}
 use Rattle.zst_recv.proofs.PieceStages.{done_is}
 use Rattle.zst_recv.proofs.CommitLemmas.{put_none, put_stands, same_ok}
 use Rattle.zst_recv.specs.declared.fault.RecvFault.{RecvFault}
@@ -51,73 +54,15 @@ use Rattle.zst_stream.specs.Reading.{reading, waiting}
 use Rattle.zst_recv.specs.Costs.{PieceIsShort, Spends, records_behind}
 use Rattle.zst_recv.proofs.CostLemmas.{full_keeps_none, piece_grows, same_pool, short_put, short_read}
 use Rattle.zst_recv.specs.Plans.{RefusesEach, RefusesOne, is_planned}
-use Rattle.zst_recv.proofs.KeptBlocks.{keeps_behind, live_partial}
+use Rattle.zst_recv.proofs.KeptBlocks.{keeps_behind, partial_begun}
+use Rattle.zst_recv.proofs.LeftRows.{ends_leave, row_behind}
 use Rattle.zst_recv.proofs.SetOrigins.{comes_renewed, keeps_spared, keeps_written, makes_behind, piece_made}
 use Rattle.zst_recv.proofs.PlanRefusals.{both_planned, call_unplanned, over_waits, waits_ahead, waits_kept}
+use Rattle.zst_recv.proofs.recv.Recv.feed.Answers.Pieces.{can_commit, read_fits, read_failed, read_told, read_cause, read_honest, read_same, read_fills, read_stood, taken_begun, put_blocks, began_at, read_comes}
 use Rattle.zst_recv.proofs.recv.Recv.feed.Given.{Over}
 use Rattle.zst_recv.proofs.AnsweredFaults.{feed_answer, put_answer, put_told, read_answer, still_idle}
 use Rattle.zst_recv.proofs.recv.Recv.feed.Goals as goal
 use Rattle.zst_recv.proofs.recv.Recv.feed.Goals.{After-has_partial-held, After-read, Then-is_kept, then-keeps_before+else-is_kept, else-keeps_before}
-
--- what was read can be committed
-can_commit : (g : Over) (c : After-read g) → CanCommit (g.D.Disk.state c.read.new.io.disk.now) c.read.new.io.space c.renew.new.self.kept.body
-can_commit g c =
-    commit_still (g.D.Disk.state c.renew.new.self.io.disk.now) (g.D.Disk.state c.read.new.io.disk.now) c.renew.new.self.io.space c.read.new.io.space c.renew.new.self.kept (c.renew.ensures.works (c.requires.ready c.if-pool.false))
-    c.read.ensures.writes.fills.fills c.read.new.io.fits c.read.ensures.writes.fills.sectors
-
--- what was read can be committed for the target
-read_fits : (g : Over) (c : After-read g) → StageFits c.renew.new.self.kept.dir c.args.self.now.ask.target c.read.new.batch.stage
-read_fits g c =
-    let recv = c.args.self.now in
-    let fits = live_fits c.args.pool.now.kept.dir recv.ask.target recv.stage c.requires.live c.requires.recv.stage in
-    c.read.ensures.gathers.fits
-    (subst (λ (k : PoolState). StageFits k.dir recv.ask.target c.new-batch.result.stage) (sym c.renew.ensures.kept)
-    (subst (StageFits c.args.pool.now.kept.dir recv.ask.target) (sym (c.new-batch.ensures.stage ∙ c.replace.ensures.value)) fits))
-
--- the disk failed only where the reading says so
-read_failed : (g : Over) (c : After-read g) → c.read.new.io.failed ≡ fails (stop_of c.read.result)
-read_failed g c = c.read.ensures.writes.fills.failed ∙ ap (λ (b : Bool). b || fails (stop_of c.read.result)) (c.renew.ensures.disk.failed ∙ c.if-pool.false)
-
--- and a block that was found damaged is counted only where it says so
-read_told : (g : Over) (c : After-read g) → is_damage (stop_of c.read.result) ≡ false → c.read.new.io.checksum_errors ≡ c.args.pool.now.io.checksum_errors
-read_told g c whole = c.read.ensures.writes.fills.told whole ∙ c.renew.ensures.disk.checksum_errors
-
--- where the disk failed its count of faults rose
-read_cause : (g : Over) (c : After-read g) → HasCause (g.D.Disk.state c.args.pool.now.io.disk.now).faults (g.D.Disk.state c.read.new.io.disk.now).faults (stop_of c.read.result)
-read_cause g c =
-    subst (λ (n : ℕ). HasCause n (g.D.Disk.state c.read.new.io.disk.now).faults (stop_of c.read.result)) (ap (λ (d : g.row.D.Denot). (g.D.Disk.state d).faults) c.renew.ensures.disk.now) c.read.ensures.writes.fills.cause
-
-read_honest : (g : Over) (c : After-read g) → (g.D.Disk.state c.read.new.io.disk.now).honest → (g.D.Disk.state c.args.pool.now.io.disk.now).honest
-read_honest g c told = subst (λ (d : g.row.D.Denot). (g.D.Disk.state d).honest) c.renew.ensures.disk.now (c.read.ensures.writes.fills.fills.honest told)
-
-read_same : (g : Over) (c : After-read g) → c.read.new.io.disk.ghost_name ≡ c.args.pool.now.io.disk.ghost_name
-read_same g c = c.read.ensures.writes.fills.same ∙ c.renew.ensures.disk.same
-
--- blocks alone were written, into sectors that the body leaves free
-read_fills : (g : Over) (c : After-read g) → FillsFree (g.D.Disk.state c.args.pool.now.io.disk.now) (free_by c.args.pool.now.kept.body) (g.D.Disk.state c.read.new.io.disk.now) c.read.new.io.space
-read_fills g c =
-    let two = g.D.Disk.state c.read.new.io.disk.now in
-    let free = free_by c.args.pool.now.kept.body in
-    subst (λ (d : DiskState). FillsFree d free two c.read.new.io.space) (ap (λ (d : g.row.D.Denot). g.D.Disk.state d) c.renew.ensures.disk.now)
-    (subst (λ (s : FreeSectors). FillsFree (g.D.Disk.state c.renew.new.self.io.disk.now) s two c.read.new.io.space) c.renew.ensures.space c.read.ensures.writes.fills.fills)
-
--- so each block that stood still does, where a commit behind them left it
-read_stood : (g : Over) (c : After-read g) (now : DiskState) → KeepsBlocks (g.D.Disk.state c.read.new.io.disk.now).seen c.read.new.io.space now.seen c.read.new.io.space
-    → KeepsBlocks (g.D.Disk.state c.args.pool.now.io.disk.now).seen (free_by c.args.pool.now.kept.body) now.seen (free_by c.args.pool.now.kept.body)
-read_stood g c now keeps = keeps_written (g.D.Disk.state c.args.pool.now.io.disk.now) (g.D.Disk.state c.read.new.io.disk.now) (free_by c.args.pool.now.kept.body) c.read.new.io.space now.seen (read_fills g c) keeps
-
--- the batch began where the receive stood
-began_at : (g : Over) (c : After-read g) → c.new-batch.result.stage ≡ c.args.self.now.stage
-began_at g c = c.new-batch.ensures.stage ∙ c.replace.ensures.value
-
--- and its set comes from the one that the receive had
-read_comes : (g : Over) (c : After-read g) (text : List ℕ) (handed : List Covered) → StandsFor c.args.self.now.reader text handed → (g.D.Disk.state c.read.new.io.disk.now).honest
-    → ComesFrom c.args.pool.now.kept.dir c.args.self.now.ask (text ++ c.args.piece.now) (SparesTaken (free_by c.args.pool.now.kept.body) (g.D.Disk.state c.args.pool.now.io.disk.now).seen) (g.D.Disk.state c.args.pool.now.io.disk.now).size c.args.self.now.stage
-    (SparesTaken c.read.new.io.space (g.D.Disk.state c.read.new.io.disk.now).seen) c.read.new.batch.stage
-read_comes g c text handed stands honest =
-    let two = g.D.Disk.state c.read.new.io.disk.now in
-    comes_renewed (g.D.Disk.state c.args.pool.now.io.disk.now) (g.D.Disk.state c.renew.new.self.io.disk.now) c.renew.new.self.io.space c.args.pool.now.kept c.renew.new.self.kept c.args.self.now.ask (text ++ c.args.piece.now) c.new-batch.result.stage c.args.self.now.stage
-    (SparesTaken c.read.new.io.space two.seen) c.read.new.batch.stage (ap (λ (d : g.row.D.Denot). g.D.Disk.state d) c.renew.ensures.disk.now) c.renew.ensures.space c.renew.ensures.kept (began_at g c) ((c.read.ensures.leaves text handed stands).comes honest)
 
 -- how a piece was read: the pool is under way since it was at rest, and of the piece was taken what the definition takes before its first fault
 record ReadsPiece (g : Over) (c : After-read g) (tight : Bool) (running : Pool) (text : List ℕ) (stage : Stage) (result : Result (Unit {0}) RecvFault) : Type 0 where
@@ -173,6 +118,12 @@ left_kept : (g : Over) (c : After-has_partial-held g) (before after : PoolState)
 left_kept g c before after left same =
     let target = c.args.self.now.ask.target in
     left ∙ ap (λ (k : PoolState). kept_without c.has_partial-held.result target k) same ∙ ap (λ (held : Bool). kept_without held target c.args.pool.now.kept) c.has_partial-held.ensures
+
+-- so the rows of others are as they were
+left_others : (g : Over) (c : After-has_partial-held g) (before after : PoolState) → after ≡ kept_without c.has_partial-held.result c.args.self.now.ask.target before → before ≡ c.args.pool.now.kept
+    → (other : List ℕ) → other ≢ c.args.self.now.ask.target → find (is_for other) after.dir.partials ≡ find (is_for other) c.args.pool.now.kept.dir.partials
+left_others g c before after left same = λ other apart.
+    ap (λ (k : PoolState). find (is_for other) k.dir.partials) (left_kept g c before after left same) ∙ ends_leave (has_partial c.args.self.now.stage) c.args.self.now.ask.target other c.args.pool.now.kept apart
 
 pub returns-then-piece-started-clause-feeds : goal.returns-then-piece-started-clause-feeds
 returns-then-piece-started-clause-feeds g c = λ tight running text stage told alive rested tells is.
@@ -275,7 +226,7 @@ returns-in-Ok-put-clause-feeds g c = λ tight running text stage told alive rest
     (λ was. let now3 = c.in-Ok-put.ensures.goes_on bound taken read.is in
     by_test (has_partial batch.stage) (IsStage (bound_of tight next.number) (Has three.seen (free_by after.body)) batch.stage taken.stage)
     (λ lives.
-    let same = subst (λ (s : FreeSectors). IsStage bound (Has three.seen s) batch.stage taken.stage) ((c.in-Ok-put.ensures.free was lives).0) now3.stage in
+    let same = subst (λ (s : FreeSectors). IsStage bound (Has three.seen s) batch.stage taken.stage) ((c.in-Ok-put.ensures.free was (partial_begun batch.stage lives)).0) now3.stage in
     put_stands tight (Has three.seen (free_by after.body)) taken running next batch.stage lives (sym read.is.taken ∙ was) made same)
     (λ none. loose bound (bound_of tight next.number) (Has three.seen c.put.new.pool.io.space) (Has three.seen (free_by after.body)) batch.stage taken.stage none going now3.stage))
     (λ none.
@@ -383,7 +334,7 @@ returns-then-piece-started-clause-pool g c =
     let fault = faults.Pool (pools.Plan (plans.Limit quantities.Stream stream_limit)) in
     let last = c.give_up.ensures.io in
     subst (λ (f : RecvFault). LeavesPool pool gave.new.pool (Err f)) (sym (gave.ensures.fault ∙ c.too_long.ensures))
-    (leaves_refused pool gave.new.pool c.if-pool.false fault pool.io last tt (λ keeps. gave.ensures.body)
+    (leaves_body pool gave.new.pool c.if-pool.false fault pool.io last tt gave.ensures.body
     (λ alive. subst (Ready (g.D.Disk.state pool.io.disk.now)) (sym gave.ensures.body) (c.requires.ready c.if-pool.false)) (λ whole. refl) c.if-pool.false (record { later = omega arith; fault = λ is. absurd (cc is) }) (λ told. told) refl (λ apart ptr bytes has. has) refl)
 
 pub returns-then-piece-started-clause-receive : goal.returns-then-piece-started-clause-receive
@@ -438,7 +389,7 @@ returns-in-Err-2-clause-pool g c =
     let stop = ap (λ (r : Result (Unit {0}) RecvFault). stop_of r) c.in-Err.is in
     let can = can_commit g at in
     subst (λ (f : RecvFault). LeavesPool pool gave.new.pool (Err f)) (sym gave.ensures.fault)
-    (leaves_refused pool gave.new.pool c.if-pool.false fault c.read.new.io gave.ensures.io c.in-Err.ensures.writes.known (λ keeps. gave.ensures.body ∙ ap (λ (k : PoolState). k.body) c.renew.ensures.kept)
+    (leaves_body pool gave.new.pool c.if-pool.false fault c.read.new.io gave.ensures.io c.in-Err.ensures.writes.known (gave.ensures.body ∙ ap (λ (k : PoolState). k.body) c.renew.ensures.kept)
     (λ alive. subst (Ready (g.D.Disk.state c.read.new.io.disk.now)) (sym gave.ensures.body) can.ready) (λ whole. read_told g at (ap is_damage stop ∙ whole)) (read_failed g at ∙ ap fails stop)
     (subst (HasCause (g.D.Disk.state pool.io.disk.now).faults (g.D.Disk.state c.read.new.io.disk.now).faults) stop (read_cause g at)) (read_honest g at) (read_same g at)
     (λ apart. let fills = read_fills g at in keeps_spared (free_by pool.kept.body) (g.D.Disk.state pool.io.disk.now).seen (g.D.Disk.state c.read.new.io.disk.now).seen fills.seen) (let fills = read_fills g at in fills.size))
@@ -486,7 +437,7 @@ returns-in-Err-put-clause-pool g c =
     let e = c.in-Err-put.ensures.commits in
     let read = read_cause g at in
     subst (λ (f : RecvFault). LeavesPool pool gave.new.pool (Err f)) (sym gave.ensures.fault)
-    (leaves_refused pool gave.new.pool c.if-pool.false (faults.Pool fault) put.io gave.ensures.io (known_call fault e.known) (λ keeps. gave.ensures.body ∙ ap (λ (k : PoolState). k.body) (e.stays ∙ c.renew.ensures.kept))
+    (leaves_body pool gave.new.pool c.if-pool.false (faults.Pool fault) put.io gave.ensures.io (known_call fault e.known) (gave.ensures.body ∙ ap (λ (k : PoolState). k.body) (e.stays ∙ c.renew.ensures.kept))
     (λ alive. subst (Ready (g.D.Disk.state put.io.disk.now)) (sym gave.ensures.body) (e.ready alive)) (λ whole. e.told (damage_put fault whole) ∙ read_told g at (ap (λ (r : Result (Unit {0}) RecvFault). is_damage (stop_of r)) c.in-Ok.is)) (e.failed ∙ failed_put fault)
     (cause_put fault (g.D.Disk.state pool.io.disk.now).faults (g.D.Disk.state c.read.new.io.disk.now).faults (g.D.Disk.state put.io.disk.now).faults read.later e.cause) (λ told. read_honest g at (e.honest told)) (e.same ∙ read_same g at)
     (λ apart. read_stood g at (g.D.Disk.state put.io.disk.now) (e.stood (λ told. apart (ap (λ (f : PoolFault). faults.Pool f) (put_told fault pools.DiskFault told))))) (let fills = read_fills g at in e.size ∙ fills.size))
@@ -535,7 +486,7 @@ returns-in-Err-put-2-clause-pool g c =
     let read = read_cause g at in
     let none = kept_none c.in-Err.fault (sym c.keeps_before.ensures ∙ c.if-keeps_before.true) in
     subst (λ (f : RecvFault). LeavesPool pool gave.new.pool (Err f)) (sym gave.ensures.fault)
-    (leaves_refused pool gave.new.pool c.if-pool.false (faults.Pool fault) put.io gave.ensures.io (known_call fault e.known) (λ keeps. gave.ensures.body ∙ ap (λ (k : PoolState). k.body) (e.stays ∙ c.renew.ensures.kept))
+    (leaves_body pool gave.new.pool c.if-pool.false (faults.Pool fault) put.io gave.ensures.io (known_call fault e.known) (gave.ensures.body ∙ ap (λ (k : PoolState). k.body) (e.stays ∙ c.renew.ensures.kept))
     (λ alive. subst (Ready (g.D.Disk.state put.io.disk.now)) (sym gave.ensures.body) (e.ready alive)) (λ whole. e.told (damage_put fault whole) ∙ read_told g at (ap (λ (r : Result (Unit {0}) RecvFault). is_damage (stop_of r)) c.in-Err.is ∙ ap is_damage none)) (e.failed ∙ failed_put fault)
     (cause_put fault (g.D.Disk.state pool.io.disk.now).faults (g.D.Disk.state c.read.new.io.disk.now).faults (g.D.Disk.state put.io.disk.now).faults read.later e.cause) (λ told. read_honest g at (e.honest told)) (e.same ∙ read_same g at)
     (λ apart. read_stood g at (g.D.Disk.state put.io.disk.now) (e.stood (λ told. apart (ap (λ (f : PoolFault). faults.Pool f) (put_told fault pools.DiskFault told))))) (let fills = read_fills g at in e.size ∙ fills.size))
@@ -587,6 +538,7 @@ returns-in-Ok-put-2-clause-pool g c =
     e.ready (λ whole. e.told refl ∙ read_told g at (ap (λ (r : Result (Unit {0}) RecvFault). is_damage (stop_of r)) c.in-Err.is ∙ whole)) (e.failed ∙ ap fails (sym none))
     (subst (HasCause (g.D.Disk.state pool.io.disk.now).faults (g.D.Disk.state put.io.disk.now).faults) (sym none)
     (cause_none (g.D.Disk.state pool.io.disk.now).faults (g.D.Disk.state c.read.new.io.disk.now).faults (g.D.Disk.state put.io.disk.now).faults _ read.later e.cause)) (λ told. read_honest g at (e.honest told)) (e.same ∙ read_same g at)
+    (λ apart. put_blocks g at put.io.disk.now put.kept c.put-in-Err.ensures.idle (λ taken. (c.in-Ok-put-2.ensures.free taken (taken_begun g at taken)).1))
     (λ apart. read_stood g at (g.D.Disk.state put.io.disk.now) (e.stood (λ told. absurd (cc told)))) (let fills = read_fills g at in e.size ∙ fills.size)
 
 pub returns-in-Ok-put-2-clause-receive : goal.returns-in-Ok-put-2-clause-receive
@@ -636,19 +588,11 @@ returns-in-Ok-put-clause-pool g c =
     let e = c.in-Ok-put.ensures.commits in
     let read = read_cause g at in
     let fills = read_fills g at in
-    let old = g.D.Disk.state pool.io.disk.now in
-    let two = g.D.Disk.state c.read.new.io.disk.now in
     let three = g.D.Disk.state put.io.disk.now in
-    let free = free_by pool.kept.body in
-    let batch = c.read.new.batch in
     leaves_fed pool put c.if-pool.false c.go_on.result
-    (λ goes.
-    let live : is_live batch.stage ≡ true = not-false (is_live batch.stage) (sym c.go_on.ensures.done ∙ goes) in
-    let none = λ (waits : waits_at batch.stage ≡ true). still_idle batch c.new-batch.result c.read.ensures.gathers.waits c.new-batch.ensures.taken waits in
-    keeps_behind old two three free c.read.new.io.space (free_by put.kept.body) batch.taken fills
-    (λ idle. let same = c.put.ensures.idle idle in (ap (λ (d : g.row.D.Denot). g.D.Disk.state d) same.0, ap (λ (k : PoolState). free_by k.body) (same.1 ∙ c.renew.ensures.kept)))
-    (λ taken. (c.in-Ok-put.ensures.free taken (live_partial batch.stage live (λ waits. let both = sym taken ∙ none waits in cc (both)))).1))
-    e.ready (e.told refl ∙ read_told g at (ap (λ (r : Result (Unit {0}) RecvFault). is_damage (stop_of r)) c.in-Ok.is)) e.failed (cause_none old.faults two.faults three.faults _ read.later e.cause) (λ told. read_honest g at (e.honest told)) (e.same ∙ read_same g at)
+    (put_blocks g at put.io.disk.now put.kept c.put.ensures.idle (λ taken. (c.in-Ok-put.ensures.free taken (taken_begun g at taken)).1))
+    e.ready (e.told refl ∙ read_told g at (ap (λ (r : Result (Unit {0}) RecvFault). is_damage (stop_of r)) c.in-Ok.is)) e.failed
+    (cause_none (g.D.Disk.state pool.io.disk.now).faults (g.D.Disk.state c.read.new.io.disk.now).faults three.faults _ read.later e.cause) (λ told. read_honest g at (e.honest told)) (e.same ∙ read_same g at)
     (read_stood g at three (e.stood (λ told. absurd (cc told)))) (e.size ∙ fills.size)
 
 pub returns-in-Ok-put-clause-traces : goal.returns-in-Ok-put-clause-traces
@@ -661,22 +605,15 @@ returns-in-Ok-put-clause-traces g c = λ text handed stands honest. record {
       let recv = c.args.self.now in
       let read = text ++ c.args.piece.now in
       let old = g.D.Disk.state pool.io.disk.now in
-      let two = g.D.Disk.state c.read.new.io.disk.now in
       let three = g.D.Disk.state put.io.disk.now in
       let free = free_by pool.kept.body in
       let left = free_by put.kept.body in
       let batch = c.read.new.batch in
-      let fills = read_fills g at in
-      let live : is_live batch.stage ≡ true = not-false (is_live batch.stage) (sym c.go_on.ensures.done ∙ not-true c.go_on.result.done goes) in
-      let none = λ (waits : waits_at batch.stage ≡ true). still_idle batch c.new-batch.result c.read.ensures.gathers.waits c.new-batch.ensures.taken waits in
-      let kept =
-      keeps_behind old two three free c.read.new.io.space left batch.taken fills
-      (λ idle. let same = c.put.ensures.idle idle in (ap (λ (d : g.row.D.Denot). g.D.Disk.state d) same.0, ap (λ (k : PoolState). free_by k.body) (same.1 ∙ c.renew.ensures.kept)))
-      (λ taken. (c.in-Ok-put.ensures.free taken (live_partial batch.stage live (λ waits. let both = sym taken ∙ none waits in cc (both)))).1) in
+      let moved = λ (taken : batch.taken ≡ true). (c.in-Ok-put.ensures.free taken (taken_begun g at taken)).1 in
       let made =
-      piece_made pool.kept.dir recv.ask read old two free c.read.new.io.space fills three.seen left recv.stage batch.stage batch.taken (read_comes g at text handed stands (c.in-Ok-put.ensures.commits.honest honest))
-      (λ untaken_so. ap (λ (b : batches.Batch). b.stage) (c.read.ensures.gathers.idle untaken_so) ∙ began_at g at) kept
-      (λ taken lives. (c.in-Ok-put.ensures.free taken lives).1) in
+      piece_made pool.kept.dir recv.ask read old (g.D.Disk.state c.read.new.io.disk.now) free c.read.new.io.space (read_fills g at) three.seen left recv.stage batch.stage batch.taken (read_comes g at text handed stands (c.in-Ok-put.ensures.commits.honest honest))
+      (λ untaken_so. ap (λ (b : batches.Batch). b.stage) (c.read.ensures.gathers.idle untaken_so) ∙ began_at g at) (put_blocks g at put.io.disk.now put.kept c.put.ensures.idle moved)
+      (λ taken lives. moved taken) in
       subst (λ (s : coded.Stage). MakesStage pool.kept.dir recv.ask read old.seen free old.size recv.stage three.seen left s) (sym c.go_on.ensures.stage)
       (makes_behind pool.kept.dir recv.ask read old.seen free old.size recv.stage three.seen left batch.stage made);
 }
@@ -797,3 +734,52 @@ returns-in-Ok-put-clause-kept g c = record {
       (c.put.ensures.idle none).1 ∙ c.renew.ensures.kept;
   refused = λ alive. tt;
 }
+
+-- ---- the rows that it leaves
+
+pub returns-then-pool-clause-rows : goal.returns-then-pool-clause-rows
+returns-then-pool-clause-rows g c = record { others = λ other apart. refl; own = λ stood goes. absurd (cc goes) }
+
+pub returns-then-piece-started-clause-rows : goal.returns-then-piece-started-clause-rows
+returns-then-piece-started-clause-rows g c =
+    record { others = left_others g (goal.at.returns-then-piece-started-clause-rows g c).After-has_partial-held c.args.pool.now.kept c.give_up.new.pool.kept c.give_up.ensures.kept refl; own = λ stood goes. absurd (cc goes) }
+
+pub returns-in-Err-2-clause-rows : goal.returns-in-Err-2-clause-rows
+returns-in-Err-2-clause-rows g c =
+    let gave = c.give_up-in-Err-2 in
+    record { others = left_others g (goal.at.returns-in-Err-2-clause-rows g c).After-has_partial-held c.renew.new.self.kept gave.new.pool.kept gave.ensures.kept c.renew.ensures.kept; own = λ stood goes. absurd (cc goes) }
+
+pub returns-in-Err-put-clause-rows : goal.returns-in-Err-put-clause-rows
+returns-in-Err-put-clause-rows g c =
+    let gave = c.give_up-in-Err-put in
+    let stays = c.in-Err-put.ensures.commits.stays ∙ c.renew.ensures.kept in
+    record { others = left_others g (goal.at.returns-in-Err-put-clause-rows g c).After-has_partial-held c.put.new.pool.kept gave.new.pool.kept gave.ensures.kept stays; own = λ stood goes. absurd (cc goes) }
+
+pub returns-in-Err-put-2-clause-rows : goal.returns-in-Err-put-2-clause-rows
+returns-in-Err-put-2-clause-rows g c =
+    let gave = c.give_up-in-Err-put-2 in
+    let stays = c.in-Err-put-2.ensures.commits.stays ∙ c.renew.ensures.kept in
+    record { others = left_others g (goal.at.returns-in-Err-put-2-clause-rows g c).After-has_partial-held c.put-in-Err.new.pool.kept gave.new.pool.kept gave.ensures.kept stays; own = λ stood goes. absurd (cc goes) }
+
+pub returns-in-Ok-put-2-clause-rows : goal.returns-in-Ok-put-2-clause-rows
+returns-in-Ok-put-2-clause-rows g c =
+    let rows = c.in-Ok-put-2.ensures.rows c.args.self.now.ask.target (read_fits g (goal.at.returns-in-Ok-put-2-clause-rows g c).After-read) in
+    record { others = λ other apart. rows.others other apart ∙ ap (λ (k : PoolState). find (is_for other) k.dir.partials) c.renew.ensures.kept; own = λ stood goes. absurd (cc goes) }
+
+pub returns-in-Ok-put-clause-rows : goal.returns-in-Ok-put-clause-rows
+returns-in-Ok-put-clause-rows g c =
+    let at = (goal.at.returns-in-Ok-put-clause-rows g c).After-read in
+    let target = c.args.self.now.ask.target in
+    let batch = c.read.new.batch in
+    let next = c.put.new.pool.kept in
+    let rows = c.in-Ok-put.ensures.rows target (read_fits g at) in
+    record {
+      others = λ other apart. rows.others other apart ∙ ap (λ (k : PoolState). find (is_for other) k.dir.partials) c.renew.ensures.kept;
+      own = λ stood goes.
+          subst (IsRow next.dir target) (sym c.go_on.ensures.stage)
+          (row_behind next.dir target batch.stage
+          (by_test batch.taken (IsRow next.dir target batch.stage) rows.own
+          (λ none.
+          let same : next ≡ c.args.pool.now.kept = (c.put.ensures.idle none).1 ∙ c.renew.ensures.kept in
+          subst (IsRow next.dir target) (sym (ap (λ (b : batches.Batch). b.stage) (c.read.ensures.gathers.idle none) ∙ began_at g at)) (subst (λ (k : PoolState). IsRow k.dir target c.args.self.now.stage) (sym same) stood))));
+    }
