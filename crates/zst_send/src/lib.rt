@@ -6,6 +6,7 @@ mod due_items;
 mod laws;
 mod lists;
 mod pending_record;
+mod rest;
 mod send;
 mod send_state;
 mod subject;
@@ -15,5 +16,6 @@ mod walk_position;
 pub use laws::{
     equal_views_are_sent_alike, rows_stand_for_sends, sends_go_on, tight_sets_tell_dates,
 };
+pub use rest::rest_plan;
 pub use send::Send;
 pub use zst_plan::{FromName, SendAsk};
