@@ -22,7 +22,7 @@ last_is [] all = refl
 last_is (byte ∷ line) all = goes_on byte line (All-head EndsNone byte line all) ∙ ap (onto_first byte) (last_is line (All-tail EndsNone byte line all))
 
 -- there is a first line
-has_first : (text : List ℕ) → (first : List ℕ) × (rest : List (List ℕ)) × (lines_of text ≡ first ∷ rest)
+pub has_first : (text : List ℕ) → (first : List ℕ) × (rest : List (List ℕ)) × (lines_of text ≡ first ∷ rest)
 has_first [] = ([], [], refl)
 has_first (byte ∷ text) = go (byte == 10) (has_first text)
   where

@@ -1,4 +1,9 @@
 pub mod Asks
 pub mod Lines
+pub mod EventWords
 pub mod Scripts
 pub mod Examples
+pub mod LineRoom
+pub mod LineStages
+pub mod LineReading
+pub mod ScriptLines

@@ -1,10 +1,11 @@
 -- What a line of a script says: an event.
-use Rattle.std.specs.Prelude.{◌≡◌, ◌==◌, ◌^◌, ◌<◌, ◌≤◌, ℕ, if◌then◌else◌, bytes_eq, List, [], ◌∷◌, Option, Ok, codes, decimal}
+use Rattle.std.specs.Prelude.{◌≡◌, ◌==◌, ◌+◌, ◌^◌, ◌<◌, ◌≤◌, ℕ, if◌then◌else◌, bytes_eq, IsUtf8, List, [], ◌∷◌, length, Option, Ok, codes, decimal}
 use Rattle.std.specs.List.{slice_split}
 use Rattle.zst_line.specs.Line.{LineAnswers}
 use Rattle.zst_line.specs.declared.line.Line.{Line}
 use Rattle.zst_line.specs.declared.line.Line.TheVariants as lines
 use Rattle.zst_model.specs.declared.refusals.subjects.Name.{Name}
+use Rattle.zst_model.specs.pools.Step.{IsCommand}
 use Rattle.zst_names.specs.Names.{IsDataset}
 use Rattle.zst_script.specs.Asks.{ask_of, receipt_of}
 use Rattle.zst_script.specs.declared.event.Event.{Event}
@@ -67,3 +68,20 @@ EventIs (events.Drop sends count) words = (words ≡ codes "drop" ∷ decimal se
 EventIs (events.Close sends) words = (words ≡ codes "close" ∷ decimal sends ∷ []) × IsId sends
 EventIs (events.Cut receives) words = (words ≡ codes "cut" ∷ decimal receives ∷ []) × IsId receives
 EventIs (events.Reopen side) words = OnPool side (codes "reopen" ∷ []) words
+
+-- an event that a line can say: its command's values are in their ranges, and so is its count of bytes
+abbrev pub IsEvent : Event → Type 0
+IsEvent (events.Step side command) = IsCommand command
+IsEvent (events.Pump sends receives count) = IsCount count
+IsEvent (events.Drop sends count) = IsCount count
+IsEvent event = Unit {0}
+
+-- a line that says an event has at most so many bytes: the longest writes 1,048,576 bytes in hexadecimal
+unfoldable pub longest_line : ℕ
+longest_line = 2 ^ 21 + 4096
+
+-- The line says this event.
+pub record LineSays (event : Event) (line : List ℕ) : Type 0 where
+  pub short : length line ≤ longest_line
+  pub text : IsUtf8 line
+  pub says : EventIs event (words_of line)

@@ -1,8 +1,8 @@
 -- What a script says: its events, line by line, up to the first line that says none.
-use Rattle.std.specs.Prelude.{◌≡◌, ◌≢◌, ◌==◌, ◌^◌, ◌<◌, ◌≤◌, ◌+◌, ℕ, suc, List, [], ◌∷◌, ◌++◌, length, take, All}
+use Rattle.std.specs.Prelude.{◌≡◌, ◌≢◌, ◌==◌, ◌^◌, ◌<◌, ◌≤◌, ◌+◌, ℕ, suc, List, [], ◌∷◌, ◌++◌, length, take, All, Option, None, Some}
 use Rattle.std.specs.List.{slice_split}
 use Rattle.zst_script.specs.declared.event.Event.{Event}
-use Rattle.zst_script.specs.Lines.{EventIs, words_of}
+use Rattle.zst_script.specs.Lines.{LineSays}
 
 -- a script has at most so many bytes
 abbrev pub script_limit : ℕ
@@ -25,7 +25,12 @@ IsPassedOver (byte ∷ rest) = byte ≡ 35
 
 -- a line says no event
 abbrev pub SaysNone : List ℕ → Type 0
-SaysNone line = (event : Event) → ¬ (EventIs event (words_of line))
+SaysNone line = (event : Event) → ¬ (LineSays event line)
+
+-- the event that a line says, or that it says none
+abbrev pub SaysOf : List ℕ → Option Event → Type 0
+SaysOf line None = SaysNone line
+SaysOf line (Some event) = LineSays event line
 
 -- where the events of a script end: all lines were read; or this one, counted from 1, says none (E1); or the script is longer than one may be (E23)
 pub data ScriptEnd : Type 0 where
@@ -37,7 +42,7 @@ pub data ScriptEnd : Type 0 where
 pub data Says : ℕ → List (List ℕ) → List Event → ScriptEnd → Type 0 where
   Nothing : (number : ℕ) → Says number [] [] AllRead
   Passes : (number : ℕ) (line : List ℕ) (rest : List (List ℕ)) (events : List Event) (end : ScriptEnd) → IsPassedOver line → Says (suc number) rest events end → Says number (line ∷ rest) events end
-  Event' : (number : ℕ) (line : List ℕ) (rest : List (List ℕ)) (event : Event) (events : List Event) (end : ScriptEnd) → ¬ (IsPassedOver line) → EventIs event (words_of line) → Says (suc number) rest events end
+  Event' : (number : ℕ) (line : List ℕ) (rest : List (List ℕ)) (event : Event) (events : List Event) (end : ScriptEnd) → ¬ (IsPassedOver line) → LineSays event line → Says (suc number) rest events end
       → Says number (line ∷ rest) (event ∷ events) end
   Stops : (number : ℕ) (line : List ℕ) (rest : List (List ℕ)) → ¬ (IsPassedOver line) → SaysNone line → Says number (line ∷ rest) [] (Misread number)
 
@@ -48,6 +53,10 @@ pub data IsScript (text : List ℕ) (events : List Event) : ScriptEnd → Type 0
   Long : script_limit < length text → Says 1 (ended_lines (lines_of (take script_limit text))) events AllRead → IsScript text events TooLong
 
 -- ---- laws
+
+-- No line says two events.
+abbrev pub OneEvent : Type 0
+OneEvent = (line : List ℕ) (one other : Event) → LineSays one line → LineSays other line → one ≡ other
 
 -- A line ends at its line feed, or where the text does: of a front of a longer text that is a broken line.
 abbrev pub LinesEnd : Type 0
