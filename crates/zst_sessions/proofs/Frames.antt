@@ -14,8 +14,8 @@ use Rattle.zst_sessions.proofs.OwnSends.{pieces_own}
 use Rattle.zst_sessions.specs.Engines.{ReceiveStands, SendStands}
 use Rattle.zst_sessions.specs.Frames.{ClosedMatch, FedMatch, GivenMatch, OpenedMatch, ReceivesStandOn, SendsStandOn, TakesStand}
 use Rattle.zst_sessions.specs.World.{left_of, next_piece, OpenReceive, OpenSend, moved_to}
-use Rattle.zst_sessions.specs.declared.engine.OpenReceive as kept_receives
-use Rattle.zst_sessions.specs.declared.engine.OpenSend as kept_sends
+use Rattle.zst_sessions.specs.declared.open_sessions.OpenReceive as kept_receives
+use Rattle.zst_sessions.specs.declared.open_sessions.OpenSend as kept_sends
 
 pub sends_stand_on : SendsGoOn → SendsStandOn
 sends_stand_on go_on failed lost old new space less coded send keep stands = record {
@@ -28,7 +28,7 @@ sends_stand_on go_on failed lost old new space less coded send keep stands = rec
 }
 
 -- a row that is found as before is the stage's
-row_on : (rows others : Rows) (target : List ℕ) (stage : coded_stages.Stage) → find (is_for target) others.partials ≡ find (is_for target) rows.partials → IsRow rows target stage → IsRow others target stage
+pub row_on : (rows others : Rows) (target : List ℕ) (stage : coded_stages.Stage) → find (is_for target) others.partials ≡ find (is_for target) rows.partials → IsRow rows target stage → IsRow others target stage
 row_on rows others target stages.Waits same is = is
 row_on rows others target (stages.Lives flags row) same is = same ∙ is
 row_on rows others target (stages.Ends row) same is = is
@@ -45,6 +45,7 @@ receives_stand_on go_on fitting tight number later failed lost old new space les
       live = stands.live;
       fits = fitting rows others coded.recv lawful row stands.fits;
       row = row;
+      fed = stands.fed;
       receives = λ works. let both = keep works in go_on tight number later old new space less coded.recv receive.text receive.stage le both.1 (stands.receives both.0);
     }
 

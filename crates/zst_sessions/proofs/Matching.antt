@@ -13,7 +13,7 @@ module _ {A B : Type 0} (Is : A → B → Type 0) where
   snoc_match (a ∷ xs) (b ∷ ys) x y m is = (m.0, snoc_match xs ys x y m.1 is)
 
   module _ (id_of : A → ℕ) (name_of : B → ℕ) (same : (x : A) (y : B) → Is x y → id_of x ≡ name_of y) where
-    apart : (xs : List A) (ys : List B) (place : ℕ) (d : A) (a n : ℕ) → Match Is xs ys → place < length xs → id_of (get_or xs place d) ≡ n → All (λ y. a ≢ name_of y) ys → a ≢ n
+    pub apart : (xs : List A) (ys : List B) (place : ℕ) (d : A) (a n : ℕ) → Match Is xs ys → place < length xs → id_of (get_or xs place d) ≡ n → All (λ y. a ≢ name_of y) ys → a ≢ n
     apart [] ys place d a n m lt at all = absurd (omega (arith, lt))
     apart (x ∷ xs) [] place d a n m lt at all = absurd m
     apart (x ∷ xs) (y ∷ ys) zero d a n m lt at all = λ e. All-head (λ y. a ≢ name_of y) y ys all (e ∙ sym at ∙ same x y m.0)

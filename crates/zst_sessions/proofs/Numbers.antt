@@ -279,8 +279,8 @@ lost_rises : CommitsCount → AnswersKeep → (now : ℕ) (world next : World) (
 lost_rises counts keep now world next (events.Step side command) fails =
     fails_rise side world world (moved now (events.Step side command) world).world next (stays world) (moved_rises counts keep now world (events.Step side command)) fails
 lost_rises counts keep now world next (events.Token side dataset) fails = absurd fails
-lost_rises counts keep now world next (events.Send side id ask) fails = absurd fails
-lost_rises counts keep now world next (events.Resume side id dataset) fails = absurd fails
+lost_rises counts keep now world next (events.Send side id ask) fails = fails_rise side world world world next (stays world) (stays world) fails
+lost_rises counts keep now world next (events.Resume side id dataset) fails = fails_rise side world world world next (stays world) (stays world) fails
 lost_rises counts keep now world next (events.Receive side id ask) fails = absurd fails
 lost_rises counts keep now world next (events.Pump sends receives count) (inl take) = fails_rise take.0.side world world world next (stays world) (stays world) take.2
 lost_rises counts keep now world next (events.Pump sends receives count) (inr feed) =

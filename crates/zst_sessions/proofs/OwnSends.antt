@@ -235,8 +235,8 @@ module _ (id : ℕ) (send : OpenSend) where
   lost_stays : (now : ℕ) (event : Event) (world next : World) → DiskFails now event world next → found_in world.sends → Stays event next.sends
   lost_stays now (events.Step side command) world next fails found = fails_stays (events.Step side command) side world _ next fails (inl found)
   lost_stays now (events.Token side dataset) world next fails found = absurd fails
-  lost_stays now (events.Send side other ask) world next fails found = absurd fails
-  lost_stays now (events.Resume side other dataset) world next fails found = absurd fails
+  lost_stays now (events.Send side other ask) world next fails found = fails_stays (events.Send side other ask) side world _ next fails (inl found)
+  lost_stays now (events.Resume side other dataset) world next fails found = fails_stays (events.Resume side other dataset) side world _ next fails (inl found)
   lost_stays now (events.Receive side other ask) world next fails found = absurd fails
   lost_stays now (events.Pump sends receives count) world next (inl take) found = fails_stays (events.Pump sends receives count) take.0.side world _ next take.2 (inl found)
   lost_stays now (events.Pump sends receives count) world next (inr feed) found =

@@ -116,7 +116,7 @@ module _ (world : World) (is : IsWorld world) where
   with_pool side pool new = fewer world world.sends world.receives side pool is.sends is.receives is.targets stood new
 
   -- other sends
-  with_sends : (sends : List OpenSend) → AllPairs SendIds sends → IsWorld (record world { sends = sends })
+  pub with_sends : (sends : List OpenSend) → AllPairs SendIds sends → IsWorld (record world { sends = sends })
   with_sends sends ids = record {
     sends = ids;
     receives = is.receives;
@@ -124,7 +124,7 @@ module _ (world : World) (is : IsWorld world) where
     standing = All-from_contains (Stands (record world { sends = sends })) world.receives (λ r there. same_at (IsStanding r.ask r.stage) r.side world sends world.receives (stood r there));
   }
 
-  put_keeps : (send : OpenSend) → IsWorld (put_send send world)
+  pub put_keeps : (send : OpenSend) → IsWorld (put_send send world)
   put_keeps send =
       with_sends (map (placed send) world.sends)
       (AllPairs-map SendIds SendIds (placed send) (λ x y apart same. apart (sym (placed_id send x) ∙ same ∙ placed_id send y)) world.sends is.sends)
@@ -167,7 +167,7 @@ left_after Here pool world change = refl
 left_after There pool world change = refl
 
 -- a pool's mark alone
-mark_keeps : (world : World) → IsWorld world → (side : Side) (failed : Bool) → IsWorld (put_side side (record { pool = (at_side side world).pool; failed = failed }) world)
+pub mark_keeps : (world : World) → IsWorld world → (side : Side) (failed : Bool) → IsWorld (put_side side (record { pool = (at_side side world).pool; failed = failed }) world)
 mark_keeps world is side failed =
     with_pool world is side (record { pool = (at_side side world).pool; failed = failed })
     (λ r there sides. subst (λ (s : Side). IsStanding r.ask r.stage (at_side s world).pool) sides (stood world is r there))
@@ -555,8 +555,8 @@ module _ (claims : ClaimedStays) (leave : FeedsLeaveOthers) (stand : FeedsStand)
       on_own_side (moved now (events.Step side command) world).world (moved_keeps now world is (events.Step side command)) side r
       (subst (λ (rs : List OpenReceive). Contains rs r) (sym (step_receives now side command world)) there) sides)
   lost_keeps now world next is (events.Token side dataset) fails = absurd fails
-  lost_keeps now world next is (events.Send side id ask) fails = absurd fails
-  lost_keeps now world next is (events.Resume side id dataset) fails = absurd fails
+  lost_keeps now world next is (events.Send side id ask) fails = fails_keeps side world world next is fails (λ r there sides. on_own_side world is side r there sides)
+  lost_keeps now world next is (events.Resume side id dataset) fails = fails_keeps side world world next is fails (λ r there sides. on_own_side world is side r there sides)
   lost_keeps now world next is (events.Receive side id ask) fails = absurd fails
   lost_keeps now world next is (events.Pump sends receives count) (inl take) = fails_keeps take.0.side world world next is take.2 (λ r there sides. on_own_side world is take.0.side r there sides)
   lost_keeps now world next is (events.Pump sends receives count) (inr feed) = feed_fails now world is sends receives count feed.0 feed.1 next feed.2

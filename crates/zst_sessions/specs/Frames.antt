@@ -10,8 +10,8 @@ use Rattle.zst_send.specs.Sends.{SendFits, TakesFrom, begun_text}
 use Rattle.zst_send.specs.declared.send.Send.{Send}
 use Rattle.zst_sessions.specs.Engines.{ReceiveStands, SendStands}
 use Rattle.zst_sessions.specs.World.{OpenReceive, OpenSend, gone_on, left_of, next_piece, moved_to}
-use Rattle.zst_sessions.specs.declared.engine.OpenReceive as kept_receives
-use Rattle.zst_sessions.specs.declared.engine.OpenSend as kept_sends
+use Rattle.zst_sessions.specs.declared.open_sessions.OpenReceive as kept_receives
+use Rattle.zst_sessions.specs.declared.open_sessions.OpenSend as kept_sends
 
 -- A send stands on, whatever was done to its pool, as long as the blocks that were there still are or the disk has failed.
 abbrev pub SendsStandOn : Type 0

@@ -1,0 +1,31 @@
+use Rattle.std.specs.Prelude.{Err}
+use Rattle.std.proofs.Common.{sym, subst, ◌∙◌}
+use Rattle.zst_model.specs.declared.refusals.refusal.Refusal.{Refusal}
+use Rattle.zst_model.specs.pools.Step.{stepped}
+use Rattle.zst_sessions.proofs.SteppedPools.{busy_stepped, step_keeps, step_stepped}
+use Rattle.zst_sessions.specs.CommandSteps.{StepsPool}
+use Rattle.zst_sessions.specs.EngineSteps.{kept_pool}
+use Rattle.zst_sessions.specs.Moves.{Answer}
+use Rattle.zst_sessions.proofs.commands.step_unless_busy.Goals as goal
+
+-- a session is in its way
+pub returns-in-Some-clause-steps : goal.returns-in-Some-clause-steps
+returns-in-Some-clause-steps g c = λ held opened honest tells stands found.
+    let kept = kept_pool {g = g.D.Disk} c.args.pool.now in
+    let is_open = sym stands.mark ∙ c.if-pool.false in
+    subst (λ (refusal : Refusal). StepsPool c.args.command (stepped held c.args.now c.args.command opened.pool) opened kept kept (Err refusal)) (sym c.busy.ensures)
+    (busy_stepped c.sessions_come_first.ensures c.args.now c.args.command held opened kept c.in-Some.session is_open stands (sym c.in-Some.is ∙ found is_open))
+
+pub returns-clause-steps : goal.returns-clause-steps
+returns-clause-steps g c = λ held opened honest tells stands found.
+    let old = c.args.pool.now in
+    let new = c.step-answer.new.self in
+    let did = c.step-answer.ensures in
+    subst (λ (answer : Answer). StepsPool c.args.command (stepped held c.args.now c.args.command opened.pool) opened (kept_pool {g = g.D.Disk} old) (kept_pool {g = g.D.Disk} new) answer) (sym c.told.ensures)
+    (step_stepped old new c.sessions_come_first.ensures c.lost_disks_read.ensures c.args.now c.args.command c.step-answer.result did.did did.settles did.room c.if-pool.false
+    held opened honest tells stands (sym c.in_default.is ∙ found (sym stands.mark ∙ c.if-pool.false)))
+
+pub returns-clause-keeps : goal.returns-clause-keeps
+returns-clause-keeps g c =
+    let did = c.step-answer.ensures in
+    step_keeps c.args.pool.now c.step-answer.new.self c.args.now c.args.command c.args.holder c.step-answer.result did.did did.settles c.in_default.is c.datasets-lawful_still.ensures.lawful did.partials

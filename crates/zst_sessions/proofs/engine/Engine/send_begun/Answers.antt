@@ -1,0 +1,12 @@
+use Rattle.std.proofs.Common.{refl}
+use Rattle.zst_sessions.proofs.engine.Engine.send_begun.Goals as goal
+
+pub returns-in-Here : goal.returns-in-Here
+returns-in-Here g c =
+    let e = c.begin_send.ensures in
+    rw c.in-Here.is (record { begins = e.begins; fits = e.fits; looks = (refl, e.pool) })
+
+pub returns-in-There : goal.returns-in-There
+returns-in-There g c =
+    let e = c.begin_send-in-There.ensures in
+    rw c.in-There.is (record { begins = e.begins; fits = e.fits; looks = (refl, e.pool) })
