@@ -1,19 +1,19 @@
 mod Results
-mod FeedSteps
+pub mod FeedSteps
 mod RecordCounts
-mod Rows
+pub mod Rows
 mod ReceivePlans
 mod RecordEffects
-mod RunningPools
-mod StreamRecords
-mod FirstRecords
-mod AppliedRecords
-mod FinishedReceives
-mod FeedSequences
-mod StoppedReceives
-mod ReplicaLemmas
-mod FreshReceives
-mod ResumedReceives
+pub mod RunningPools
+pub mod StreamRecords
+pub mod FirstRecords
+pub mod AppliedRecords
+pub mod FinishedReceives
+pub mod FeedSequences
+pub mod StoppedReceives
+pub mod ReplicaLemmas
+pub mod FreshReceives
+pub mod ResumedReceives
 mod Chains
 mod CountedRows
 mod RoomyReceives

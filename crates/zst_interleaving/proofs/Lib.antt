@@ -1,0 +1,14 @@
+mod OneFeed
+mod Moments
+mod OnCourse
+mod Beside
+mod Pumps
+mod Runs
+mod OtherEvents
+mod RefusedBegins
+mod LawfulCommits
+mod LawfulPlans
+mod LawfulRecords
+mod LawfulMoves
+mod LawfulRuns
+mod LawfulLines
