@@ -10,7 +10,7 @@ use std::process::ExitCode;
 use std::time::{SystemTime, UNIX_EPOCH};
 use zst_file::{FileDisk, Input, Output, Start, UnknownStart};
 use zst_outside::SureDisk;
-use zst_run::{open, opening_of, run, run_on_file};
+use zst_run::{OpenMode, Opening, open, opening_of, run, run_on_file, run_on_files};
 
 /// The status where a file can't be opened.
 const CANNOT_OPEN: u8 = 11;
@@ -65,6 +65,29 @@ fn run_over_file<F: Start>(
     )))
 }
 
+/// Runs the words over these two images, which were just opened, and the standard streams.
+fn run_over_files<F: Start, G: Start>(
+    rt: &HostRuntime,
+    words: &[String],
+    here: &mut FileDisk<F>,
+    there: &mut FileDisk<G>,
+) -> io::Result<ExitCode>
+    requires here { history_of here.old ≡ [] }
+    requires there { history_of there.old ≡ [] }
+{
+    let mut streams = Streams::new(rt)?;
+    Ok(ExitCode::from(run_on_files(
+        rt.alloc(),
+        words,
+        seconds(rt)?,
+        here,
+        there,
+        &mut streams.input,
+        &mut streams.out,
+        &mut streams.note,
+    )))
+}
+
 /// Runs words that name no image over the standard streams.
 fn run_over_none(rt: &HostRuntime, words: &[String]) -> io::Result<ExitCode> {
     let mut here = SureDisk::new(Vec::new(rt.alloc()));
@@ -82,17 +105,50 @@ fn run_over_none(rt: &HostRuntime, words: &[String]) -> io::Result<ExitCode> {
     )))
 }
 
+/// Opens the image that the words name, and runs them over it.
+fn run_over_one(
+    rt: &HostRuntime,
+    words: &[String],
+    path: &str,
+    mode: OpenMode,
+) -> io::Result<ExitCode> {
+    match open(rt, path, mode, UnknownStart) {
+        Ok(mut disk) => run_over_file(rt, words, &mut disk),
+        Err(_) => cannot_open(rt),
+    }
+}
+
+/// Opens the two images that the words name, the first one first, and runs them over both. Where they are one file, the
+/// second can't be locked.
+fn run_over_two(
+    rt: &HostRuntime,
+    words: &[String],
+    here: &str,
+    there: &str,
+) -> io::Result<ExitCode> {
+    let Ok(mut first) = open(rt, here, OpenMode::Alone, UnknownStart) else {
+        return cannot_open(rt);
+    };
+    match open(rt, there, OpenMode::Alone, UnknownStart) {
+        Ok(mut second) => run_over_files(rt, words, &mut first, &mut second),
+        Err(_) => cannot_open(rt),
+    }
+}
+
+/// Notes that an image can't be opened.
+fn cannot_open(rt: &HostRuntime) -> io::Result<ExitCode> {
+    let _ = rt.stderr().write_all(b"zst: cannot open\n");
+    Ok(ExitCode::from(CANNOT_OPEN))
+}
+
 fn main(rt: HostRuntime) -> io::Result<ExitCode> {
     let alloc = rt.alloc();
     let words: Vec<String> = env::args(&rt)?.skip(1).collect(alloc)?;
-    let Some((path, opening)) = opening_of(alloc, &words)? else {
-        return run_over_none(&rt, &words);
-    };
-    match open(&rt, path.as_str(), opening, UnknownStart) {
-        Ok(mut disk) => run_over_file(&rt, &words, &mut disk),
-        Err(_) => {
-            let _ = rt.stderr().write_all(b"zst: cannot open\n");
-            Ok(ExitCode::from(CANNOT_OPEN))
+    match opening_of(alloc, &words)? {
+        None => run_over_none(&rt, &words),
+        Some(Opening::One(path, mode)) => run_over_one(&rt, &words, path.as_str(), mode),
+        Some(Opening::Two { here, there }) => {
+            run_over_two(&rt, &words, here.as_str(), there.as_str())
         }
     }
 }

@@ -21,6 +21,9 @@ pub mod ReceiveDamage
 pub mod LiveReceives
 pub mod ReceiveLemmas
 pub mod ImageReceives
+pub mod GeneratorRuns
+pub mod GeneratorImages
+pub mod GeneratorLine
 pub mod ReceiptLine
 pub mod PipedRuns
 pub mod ChainedRuns
@@ -32,3 +35,11 @@ pub mod CompleteRuns
 pub mod CompleteTransfers
 pub mod TurnEnds
 pub mod OpenedSends
+pub mod RefusalLines
+pub mod EventLines
+pub mod ReplayRuns
+pub mod ReplayLines
+pub mod ReplayScripts
+pub mod ReplayEnds
+pub mod ReplayImages
+mod EventRanges

@@ -1,5 +1,5 @@
 -- What a line does that sends, one that receives, and one that tells a token.
-use Rattle.std.proofs.Common.{◌≡◌, ℕ, List, Some, Result, sym, subst}
+use Rattle.std.proofs.Common.{◌≡◌, ℕ, Bool, List, Some, Result, sym, subst}
 use Rattle.zst_outside.specs.Images.{DiskState}
 use Rattle.zst_model.specs.declared.refusals.refusal.Refusal.{Refusal}
 use Rattle.zst_line.specs.declared.line.Line.{Line}
@@ -15,52 +15,52 @@ use Rattle.zst_run.specs.declared.send.SendRequest.TheVariants.{Named, Rest}
 use Rattle.zst_run.specs.Sends.{Sends}
 use Rattle.zst_run.specs.Tokens.{Tokens}
 
-pub does_send : {D : Type 0} → (state : D → DiskState) (now : ℕ) (line : Line) (ask : SendRequest) (old new : Devices D) (result : Result (Unit {0}) Refusal) → send_of line ≡ Some ask
-    → Sends ask (state old.here) (state new.here) old.out new.out result → new.input ≡ old.input → DoesLine state now line old new result
-does_send state now (Send image from redacts snapshot) ask old new result is sends input =
+pub does_send : {D E : Type 0} → (state : D → DiskState) (tells : Bool) (other : E → DiskState) (others : Bool) (now : ℕ) (line : Line) (ask : SendRequest) (old new : Devices D E) (result : Result (Unit {0}) Refusal) → send_of line ≡ Some ask
+    → Sends ask (state old.here) (state new.here) old.out new.out result → new.input ≡ old.input → new.there ≡ old.there → DoesLine state tells other others now line old new result
+does_send state tells other others now (Send image from redacts snapshot) ask old new result is sends input there =
     let same : Named (ask_of from redacts snapshot) ≡ ask = cc is in
-    (subst (λ (a : SendRequest). Sends a (state old.here) (state new.here) old.out new.out result) (sym same) sends, input)
-does_send state now Dump ask old new result is sends input = absurd (cc is)
-does_send state now (Create image sectors id) ask old new result is sends input = absurd (cc is)
-does_send state now (Step image command) ask old new result is sends input = absurd (cc is)
-does_send state now (Resume image token) ask old new result is sends input =
+    (subst (λ (a : SendRequest). Sends a (state old.here) (state new.here) old.out new.out result) (sym same) sends, input, there)
+does_send state tells other others now Dump ask old new result is sends input there = absurd (cc is)
+does_send state tells other others now (Create image sectors id) ask old new result is sends input there = absurd (cc is)
+does_send state tells other others now (Step image command) ask old new result is sends input there = absurd (cc is)
+does_send state tells other others now (Resume image token) ask old new result is sends input there =
     let same : Rest token ≡ ask = cc is in
-    (subst (λ (a : SendRequest). Sends a (state old.here) (state new.here) old.out new.out result) (sym same) sends, input)
-does_send state now (Receive image keeps forces origin target) ask old new result is sends input = absurd (cc is)
-does_send state now (Token image dataset) ask old new result is sends input = absurd (cc is)
-does_send state now (Check image) ask old new result is sends input = absurd (cc is)
-does_send state now (Gen image steps) ask old new result is sends input = absurd (cc is)
-does_send state now (Reclaim image) ask old new result is sends input = absurd (cc is)
-does_send state now (Replay here there) ask old new result is sends input = absurd (cc is)
+    (subst (λ (a : SendRequest). Sends a (state old.here) (state new.here) old.out new.out result) (sym same) sends, input, there)
+does_send state tells other others now (Receive image keeps forces origin target) ask old new result is sends input there = absurd (cc is)
+does_send state tells other others now (Token image dataset) ask old new result is sends input there = absurd (cc is)
+does_send state tells other others now (Check image) ask old new result is sends input there = absurd (cc is)
+does_send state tells other others now (Gen image steps) ask old new result is sends input there = absurd (cc is)
+does_send state tells other others now (Reclaim image) ask old new result is sends input there = absurd (cc is)
+does_send state tells other others now (Replay first second) ask old new result is sends input there = absurd (cc is)
 
-pub does_receive : {D : Type 0} → (state : D → DiskState) (now : ℕ) (line : Line) (ask : RecvAsk) (old new : Devices D) (result : Result (Unit {0}) Refusal) → receive_of line ≡ Some ask
-    → Replies (Receiving ask (state old.here) (state new.here) old.input new.input) old.out new.out result → DoesLine state now line old new result
-does_receive state now (Receive image keeps forces origin target) ask old new result is receives =
+pub does_receive : {D E : Type 0} → (state : D → DiskState) (tells : Bool) (other : E → DiskState) (others : Bool) (now : ℕ) (line : Line) (ask : RecvAsk) (old new : Devices D E) (result : Result (Unit {0}) Refusal) → receive_of line ≡ Some ask
+    → Replies (Receiving ask (state old.here) (state new.here) old.input new.input) old.out new.out result → new.there ≡ old.there → DoesLine state tells other others now line old new result
+does_receive state tells other others now (Receive image keeps forces origin target) ask old new result is receives there =
     let same : receipt_of keeps forces origin target ≡ ask = cc is in
-    subst (λ (a : RecvAsk). Replies (Receiving a (state old.here) (state new.here) old.input new.input) old.out new.out result) (sym same) receives
-does_receive state now Dump ask old new result is receives = absurd (cc is)
-does_receive state now (Create image sectors id) ask old new result is receives = absurd (cc is)
-does_receive state now (Step image command) ask old new result is receives = absurd (cc is)
-does_receive state now (Send image from redacts snapshot) ask old new result is receives = absurd (cc is)
-does_receive state now (Resume image token) ask old new result is receives = absurd (cc is)
-does_receive state now (Token image dataset) ask old new result is receives = absurd (cc is)
-does_receive state now (Check image) ask old new result is receives = absurd (cc is)
-does_receive state now (Gen image steps) ask old new result is receives = absurd (cc is)
-does_receive state now (Reclaim image) ask old new result is receives = absurd (cc is)
-does_receive state now (Replay here there) ask old new result is receives = absurd (cc is)
+    (subst (λ (a : RecvAsk). Replies (Receiving a (state old.here) (state new.here) old.input new.input) old.out new.out result) (sym same) receives, there)
+does_receive state tells other others now Dump ask old new result is receives there = absurd (cc is)
+does_receive state tells other others now (Create image sectors id) ask old new result is receives there = absurd (cc is)
+does_receive state tells other others now (Step image command) ask old new result is receives there = absurd (cc is)
+does_receive state tells other others now (Send image from redacts snapshot) ask old new result is receives there = absurd (cc is)
+does_receive state tells other others now (Resume image token) ask old new result is receives there = absurd (cc is)
+does_receive state tells other others now (Token image dataset) ask old new result is receives there = absurd (cc is)
+does_receive state tells other others now (Check image) ask old new result is receives there = absurd (cc is)
+does_receive state tells other others now (Gen image steps) ask old new result is receives there = absurd (cc is)
+does_receive state tells other others now (Reclaim image) ask old new result is receives there = absurd (cc is)
+does_receive state tells other others now (Replay first second) ask old new result is receives there = absurd (cc is)
 
-pub does_tell : {D : Type 0} → (state : D → DiskState) (now : ℕ) (line : Line) (dataset : List ℕ) (old new : Devices D) (result : Result (Unit {0}) Refusal) → token_dataset_of line ≡ Some dataset
-    → Tokens dataset (state old.here) (state new.here) old.out new.out result → new.input ≡ old.input → DoesLine state now line old new result
-does_tell state now (Token image name) dataset old new result is tells input =
+pub does_tell : {D E : Type 0} → (state : D → DiskState) (tells : Bool) (other : E → DiskState) (others : Bool) (now : ℕ) (line : Line) (dataset : List ℕ) (old new : Devices D E) (result : Result (Unit {0}) Refusal) → token_dataset_of line ≡ Some dataset
+    → Tokens dataset (state old.here) (state new.here) old.out new.out result → new.input ≡ old.input → new.there ≡ old.there → DoesLine state tells other others now line old new result
+does_tell state tells other others now (Token image name) dataset old new result is gives input there =
     let same : name ≡ dataset = cc is in
-    (subst (λ (d : List ℕ). Tokens d (state old.here) (state new.here) old.out new.out result) (sym same) tells, input)
-does_tell state now Dump dataset old new result is tells input = absurd (cc is)
-does_tell state now (Create image sectors id) dataset old new result is tells input = absurd (cc is)
-does_tell state now (Step image command) dataset old new result is tells input = absurd (cc is)
-does_tell state now (Send image from redacts snapshot) dataset old new result is tells input = absurd (cc is)
-does_tell state now (Resume image token) dataset old new result is tells input = absurd (cc is)
-does_tell state now (Receive image keeps forces origin target) dataset old new result is tells input = absurd (cc is)
-does_tell state now (Check image) dataset old new result is tells input = absurd (cc is)
-does_tell state now (Gen image steps) dataset old new result is tells input = absurd (cc is)
-does_tell state now (Reclaim image) dataset old new result is tells input = absurd (cc is)
-does_tell state now (Replay here there) dataset old new result is tells input = absurd (cc is)
+    (subst (λ (d : List ℕ). Tokens d (state old.here) (state new.here) old.out new.out result) (sym same) gives, input, there)
+does_tell state tells other others now Dump dataset old new result is gives input there = absurd (cc is)
+does_tell state tells other others now (Create image sectors id) dataset old new result is gives input there = absurd (cc is)
+does_tell state tells other others now (Step image command) dataset old new result is gives input there = absurd (cc is)
+does_tell state tells other others now (Send image from redacts snapshot) dataset old new result is gives input there = absurd (cc is)
+does_tell state tells other others now (Resume image token) dataset old new result is gives input there = absurd (cc is)
+does_tell state tells other others now (Receive image keeps forces origin target) dataset old new result is gives input there = absurd (cc is)
+does_tell state tells other others now (Check image) dataset old new result is gives input there = absurd (cc is)
+does_tell state tells other others now (Gen image steps) dataset old new result is gives input there = absurd (cc is)
+does_tell state tells other others now (Reclaim image) dataset old new result is gives input there = absurd (cc is)
+does_tell state tells other others now (Replay first second) dataset old new result is gives input there = absurd (cc is)

@@ -5,8 +5,12 @@ pub mod Relays
 pub mod Unreadable
 pub mod Completeness
 pub mod Replies
+pub mod Replays
+pub mod ReplayTurns
 pub mod Commands
 pub mod Devices
+pub mod Generating
+pub mod GeneratorTurns
 pub mod LaterDisks
 pub mod LineEffects
 pub mod OpenMode

@@ -1,5 +1,5 @@
 -- What a line does.
-use Rattle.std.specs.Prelude.{ℕ, ◌≡◌, IfSome, List, Option, None, Some, Result, Ok, Err}
+use Rattle.std.specs.Prelude.{ℕ, ◌≡◌, ◌≤◌, Bool, IfSome, List, Option, None, Some, Result, Ok, Err}
 use Rattle.zst_outside.specs.Images.{DiskState}
 use Rattle.zst_model.specs.pools.Step.{IsCommand}
 use Rattle.zst_model.specs.declared.refusals.faults.Lack.TheVariants as lacks
@@ -8,18 +8,20 @@ use Rattle.zst_model.specs.declared.refusals.refusal.Refusal.{Refusal}
 use Rattle.zst_model.specs.declared.refusals.refusal.Refusal.TheVariants as refusals
 use Rattle.zst_line.specs.Line.{IsCreate, refusal_of}
 use Rattle.zst_line.specs.declared.line.Line.{Line}
-use Rattle.zst_line.specs.declared.line.Line.TheVariants.{Dump, Create, Step, Send, Resume, Receive, Token}
+use Rattle.zst_line.specs.declared.line.Line.TheVariants.{Dump, Create, Step, Send, Resume, Receive, Token, Gen, Replay}
 use Rattle.zst_line.specs.declared.line.LineFault.{LineFault}
 use Rattle.zst_plan.specs.declared.receive.RecvAsk.{RecvAsk}
-use Rattle.zst_script.specs.Asks.{ask_of, receipt_of}
+use Rattle.zst_script.specs.Asks.{IsSource, IsTarget, ask_of, receipt_of}
 use Rattle.zst_run.specs.Commands.{Making, Stepping}
 use Rattle.zst_run.specs.Devices.{Devices}
 use Rattle.zst_run.specs.Dumps.{Dumps}
-use Rattle.zst_run.specs.Receives.{IsTarget, Receiving}
+use Rattle.zst_run.specs.Generating.{Generating}
+use Rattle.zst_run.specs.Receives.{Receiving}
+use Rattle.zst_run.specs.Replays.{Replays}
 use Rattle.zst_run.specs.Replies.{Replies}
 use Rattle.zst_run.specs.declared.send.SendRequest.{SendRequest}
 use Rattle.zst_run.specs.declared.send.SendRequest.TheVariants.{Named, Rest}
-use Rattle.zst_run.specs.Sends.{IsSource, Sends}
+use Rattle.zst_run.specs.Sends.{Sends}
 use Rattle.zst_run.specs.Tokens.{Tokens}
 
 -- a line whose values are in their ranges
@@ -28,6 +30,7 @@ IsInRange (Create image sectors id) = IsCreate sectors id
 IsInRange (Step image command) = IsCommand command
 IsInRange (Send image from redacts snapshot) = IfSome from IsSource
 IsInRange (Receive image keeps forces origin target) = IsTarget target
+IsInRange (Gen image steps) = (1 ≤ steps) × (steps ≤ 64)
 IsInRange line = Unit {0}
 
 -- what a line asks to be sent
@@ -46,25 +49,30 @@ abbrev pub token_dataset_of : Line → Option (List ℕ)
 token_dataset_of (Token image dataset) = Some dataset
 token_dataset_of line = None
 
--- What a line does: `dump` reads the input and leaves the image alone, `receive` reads the input, and all others leave it alone. Those
--- that check, make content, make room or run scripts aren't built yet: they are refused (E19), and nothing is done.
-abbrev pub DoesLine : {D : Type 0} → (D → DiskState) → ℕ → Line → Devices D → Devices D → Result (Unit {0}) Refusal → Type 0
-DoesLine state now Dump old new result = Dumps old.input new.input old.out new.out result × (new.here ≡ old.here)
-DoesLine state now (Create image sectors id) old new result =
-    Replies (Making sectors id (state old.here) (state new.here)) old.out new.out result × (new.input ≡ old.input)
-DoesLine state now (Step image command) old new result =
-    Replies (Stepping now command (state old.here) (state new.here)) old.out new.out result × (new.input ≡ old.input)
-DoesLine state now (Send image from redacts snapshot) old new result =
-    Sends (Named (ask_of from redacts snapshot)) (state old.here) (state new.here) old.out new.out result × (new.input ≡ old.input)
-DoesLine state now (Resume image token) old new result =
-    Sends (Rest token) (state old.here) (state new.here) old.out new.out result × (new.input ≡ old.input)
-DoesLine state now (Receive image keeps forces origin target) old new result =
-    Replies (Receiving (receipt_of keeps forces origin target) (state old.here) (state new.here) old.input new.input) old.out new.out result
-DoesLine state now (Token image dataset) old new result =
-    Tokens dataset (state old.here) (state new.here) old.out new.out result × (new.input ≡ old.input)
-DoesLine state now line old new result = (result ≡ Err (refusals.Plan (plans.Unsupported lacks.NotBuilt))) × (new ≡ old)
+-- What a line does, of two disks of which it is said what each is at a moment, and whether it tells its images: `replay` runs the script that is its
+-- input on both images; all other lines leave the second one alone. `dump` reads the input and leaves the first alone too, `receive` reads the
+-- input, and all others leave it alone. Those that check and make room aren't built yet: they are refused (E19), and nothing is done.
+abbrev pub DoesLine : {D E : Type 0} → (D → DiskState) → Bool → (E → DiskState) → Bool → ℕ → Line → Devices D E → Devices D E → Result (Unit {0}) Refusal → Type 0
+DoesLine state tells other others now Dump old new result = Dumps old.input new.input old.out new.out result × (new.here ≡ old.here) × (new.there ≡ old.there)
+DoesLine state tells other others now (Create image sectors id) old new result =
+    Replies (Making sectors id (state old.here) (state new.here)) old.out new.out result × (new.input ≡ old.input) × (new.there ≡ old.there)
+DoesLine state tells other others now (Step image command) old new result =
+    Replies (Stepping now command (state old.here) (state new.here)) old.out new.out result × (new.input ≡ old.input) × (new.there ≡ old.there)
+DoesLine state tells other others now (Send image from redacts snapshot) old new result =
+    Sends (Named (ask_of from redacts snapshot)) (state old.here) (state new.here) old.out new.out result × (new.input ≡ old.input) × (new.there ≡ old.there)
+DoesLine state tells other others now (Resume image token) old new result =
+    Sends (Rest token) (state old.here) (state new.here) old.out new.out result × (new.input ≡ old.input) × (new.there ≡ old.there)
+DoesLine state tells other others now (Receive image keeps forces origin target) old new result =
+    Replies (Receiving (receipt_of keeps forces origin target) (state old.here) (state new.here) old.input new.input) old.out new.out result × (new.there ≡ old.there)
+DoesLine state tells other others now (Token image dataset) old new result =
+    Tokens dataset (state old.here) (state new.here) old.out new.out result × (new.input ≡ old.input) × (new.there ≡ old.there)
+DoesLine state tells other others now (Gen image steps) old new result =
+    Replies (Generating now steps (state old.here) (state new.here)) old.out new.out result × (new.input ≡ old.input) × (new.there ≡ old.there)
+DoesLine state tells other others now (Replay here there) old new result =
+    Replays now (state old.here) (state new.here) tells (other old.there) (other new.there) others old.input new.input old.out new.out result
+DoesLine state tells other others now line old new result = (result ≡ Err (refusals.Plan (plans.Unsupported lacks.NotBuilt))) × (new ≡ old)
 
 -- What words do: those that are no line are refused, and nothing is done.
-abbrev pub Does : {D : Type 0} → (D → DiskState) → ℕ → Result Line LineFault → Devices D → Devices D → Result (Unit {0}) Refusal → Type 0
-Does state now (Ok line) old new result = DoesLine state now line old new result
-Does state now (Err fault) old new result = (result ≡ Err (refusal_of fault)) × (new ≡ old)
+abbrev pub Does : {D E : Type 0} → (D → DiskState) → Bool → (E → DiskState) → Bool → ℕ → Result Line LineFault → Devices D E → Devices D E → Result (Unit {0}) Refusal → Type 0
+Does state tells other others now (Ok line) old new result = DoesLine state tells other others now line old new result
+Does state tells other others now (Err fault) old new result = (result ≡ Err (refusal_of fault)) × (new ≡ old)

@@ -8,8 +8,6 @@ use Rattle.zst_space.specs.FreeSectors.{FreeSectors}
 use Rattle.zst_block.specs.Blocks.{Has, KeepsBlocks, SparesTaken}
 use Rattle.zst_uber.specs.declared.uber.Uber.{Uber}
 use Rattle.zst_model.specs.declared.refusals.faults.Quantity.TheVariants.{Stream}
-use Rattle.zst_model.specs.declared.refusals.subjects.Name.{Name}
-use Rattle.zst_model.specs.declared.refusals.subjects.Name.TheVariants as names
 use Rattle.zst_model.specs.declared.refusals.plan_fault.PlanFault.{PlanFault}
 use Rattle.zst_model.specs.declared.refusals.refusal.Refusal.{Refusal}
 use Rattle.zst_model.specs.declared.refusals.refusal.Refusal.TheVariants as refusals
@@ -41,13 +39,6 @@ use Rattle.zst_recv.specs.ReceiveSteps.{Stage, Waits, Lives, Ends, Goes, Stops, 
 use Rattle.zst_recv.specs.declared.fault.RecvFault.{RecvFault}
 use Rattle.zst_run.specs.Commands.{IsPoolRefusal, Opens, SaysOfOpening}
 use Rattle.zst_run.specs.Dumps.{NoFault}
-
--- ---- what is asked
-
--- a name that a receive may be into: a dataset's, or a snapshot's
-abbrev pub IsTarget : Name → Type 0
-IsTarget (names.Bookmark name) = ⊥
-IsTarget name = Unit {0}
 
 -- ---- the pieces that are read
 

@@ -1,14 +1,19 @@
 -- How the reply of a command is written, and how what waits is handed on.
-use Rattle.std.specs.Prelude.{ℕ, ◌≡◌, ◌⊎◌, ◌≤◌, List, ◌++◌, flat_map, codes, IfErr, OnOk, Result, Ok, Err}
+use Rattle.std.specs.Prelude.{ℕ, ◌≡◌, ◌⊎◌, ◌≤◌, List, ◌++◌, flat_map, codes, decimal, IfErr, OnOk, Result, Ok, Err}
 use Rattle.zst_outside.specs.Causes.{Rose}
 use Rattle.zst_outside.specs.States.{SinkState, HandedOn}
 use Rattle.zst_outside.specs.Printing.{Prints}
 use Rattle.zst_model.specs.declared.refusals.refusal.Refusal.{Refusal}
 use Rattle.zst_model.specs.declared.refusals.refusal.Refusal.TheVariants as refusals
+use Rattle.zst_model.specs.refusals.Refusal.{number_of, text_of}
 
 -- lines, each with its line feed
 abbrev pub reply_text : List (List ℕ) → List ℕ
 reply_text lines = flat_map (λ line. line ++ codes "\n") lines
+
+-- the line of a refusal: its number, and its text
+abbrev pub refusal_line : Refusal → List ℕ
+refusal_line refusal = codes "E" ++ (decimal (number_of refusal) ++ (codes " " ++ text_of refusal))
 
 -- The lines of an answer are written and handed on, or the output failed (E30); a refusal is passed on, and nothing is written.
 abbrev pub Replied : SinkState → SinkState → Result (List (List ℕ)) Refusal → Result (Unit {0}) Refusal → Type 0

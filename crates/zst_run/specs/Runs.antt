@@ -1,5 +1,5 @@
 -- What a run does: the status, and what is noted.
-use Rattle.std.specs.Prelude.{ℕ, ◌≡◌, ◌⊎◌, ◌==◌, if◌then◌else◌, List, ◌++◌, Result, Ok, Err, codes, decimal}
+use Rattle.std.specs.Prelude.{ℕ, ◌≡◌, ◌⊎◌, Bool, ◌==◌, if◌then◌else◌, List, ◌++◌, Result, Ok, Err, codes, decimal}
 use Rattle.zst_outside.specs.Causes.{Rose}
 use Rattle.zst_outside.specs.Images.{DiskState}
 use Rattle.zst_outside.specs.States.{SinkState, HandedOn}
@@ -55,14 +55,14 @@ Told note note' status (Ok done) = (status ≡ 0) × (note' ≡ note)
 Told note note' status (Err refusal) = (status ≡ status_of refusal) × Noted note note' (note_of refusal)
 
 -- What words do: the line that they are, or why they are none, and what it does.
-abbrev pub DoesWords : {D : Type 0} → (D → DiskState) → ℕ → List (List ℕ) → Devices D → Devices D → Result (Unit {0}) Refusal → Type 0
-DoesWords state now words old new result = (line : Result Line LineFault) × LineAnswers words line × Does state now line old new result
+abbrev pub DoesWords : {D E : Type 0} → (D → DiskState) → Bool → (E → DiskState) → Bool → ℕ → List (List ℕ) → Devices D E → Devices D E → Result (Unit {0}) Refusal → Type 0
+DoesWords state tells other others now words old new result = (line : Result Line LineFault) × LineAnswers words line × Does state tells other others now line old new result
 
--- A run of the program on these words, at this time: the line that they are, or why they are none, then what it does,
--- and what is told of that.
-pub record Runs {D : Type 0} (state : D → DiskState) (now : ℕ) (words : List (List ℕ)) (old new : Devices D) (note note' : SinkState) (status : ℕ) : Type 0 where
+-- A run of the program on these words, at this time, over two disks of which it is said what each is at a moment, and whether it tells its images:
+-- the line that they are, or why they are none, then what it does, and what is told of that.
+pub record Runs {D E : Type 0} (state : D → DiskState) (tells : Bool) (other : E → DiskState) (others : Bool) (now : ℕ) (words : List (List ℕ)) (old new : Devices D E) (note note' : SinkState) (status : ℕ) : Type 0 where
   pub line : Result Line LineFault
   pub says : LineAnswers words line
   pub result : Result (Unit {0}) Refusal
-  pub does : Does state now line old new result
+  pub does : Does state tells other others now line old new result
   pub told : Told note note' status result

@@ -9,7 +9,6 @@ use Rattle.zst_uber.specs.Body.{InRange, UberFits}
 use Rattle.zst_uber.specs.Slots.{Stands}
 use Rattle.zst_uber.specs.declared.uber.Uber.{Uber}
 use Rattle.zst_model.specs.declared.refusals.faults.Quantity.TheVariants.{Runs, Stream}
-use Rattle.zst_model.specs.declared.refusals.subjects.Name.{Name}
 use Rattle.zst_model.specs.declared.refusals.subjects.Name.TheVariants as names
 use Rattle.zst_model.specs.declared.refusals.plan_fault.PlanFault.{PlanFault}
 use Rattle.zst_model.specs.declared.refusals.refusal.Refusal.{Refusal}
@@ -41,11 +40,6 @@ use Rattle.zst_run.specs.declared.send.SendRequest.TheVariants.{Named, Rest}
 use Rattle.zst_run.specs.Commands.{IsPoolRefusal, Opens, SaysOfOpening}
 
 -- ---- what is asked
-
--- a name that a send may be from: a snapshot's or a bookmark's
-abbrev pub IsSource : Name → Type 0
-IsSource (names.Dataset name) = ⊥
-IsSource name = Unit {0}
 
 -- what is to be sent, or why it can't: the refusals of its plan, which the directory tells alone
 abbrev pub to_send : SendRequest → Pool → Result Sent PlanFault

@@ -1,8 +1,8 @@
-// How the program opens the image that a line names.
+// How the program opens the image that a line names, or the two of a replay.
 ghost use Rattle.std.specs.Prelude.{◌≡◌, IfOk, [], map, string_bytes};
 ghost use Rattle.zst_file.specs.FileDisk.{history_of};
 ghost use Rattle.zst_run.specs.LineEffects.{IsInRange};
-ghost use Rattle.zst_run.specs.OpenMode.{OpensBy, image_in, way_of};
+ghost use Rattle.zst_run.specs.OpenMode.{OpensBy, image_in, one_of, opening_in, way_of};
 
 use std::alloc::{AllocError, Global};
 use std::fs::{self, File};
@@ -25,9 +25,17 @@ pub enum OpenMode {
     Made { bytes: u64 },
 }
 
-/// How a line opens its image: one that commits nothing needs no leave to write. None where it names no image, or asks
-/// for what isn't built.
-fn opening_for(line: &Line) -> Option<OpenMode>
+/// The images that a line names, and how they are opened.
+#[derive(Drop)]
+pub enum Opening {
+    One(Text, OpenMode),
+    /// Each of the two with nobody beside, the first one first.
+    Two { here: Text, there: Text },
+}
+
+/// How a line opens its one image: one that commits nothing needs no leave to write. None where it doesn't name one, or
+/// asks for what isn't built.
+fn mode_for(line: &Line) -> Option<OpenMode>
     requires { IsInRange line.now }
     ensures { result ≡ way_of line.now }
 {
@@ -37,7 +45,7 @@ fn opening_for(line: &Line) -> Option<OpenMode>
             Some(OpenMode::Made { bytes })
         }
         Line::Step { command, .. } if command.commits() => Some(OpenMode::Alone),
-        Line::Receive { .. } => Some(OpenMode::Alone),
+        Line::Receive { .. } | Line::Gen { .. } => Some(OpenMode::Alone),
         Line::Step { .. } | Line::Send { .. } | Line::Resume { .. } | Line::Token { .. } => {
             Some(OpenMode::Shared)
         }
@@ -45,7 +53,7 @@ fn opening_for(line: &Line) -> Option<OpenMode>
     }
 }
 
-/// The image that a line names, where it is built.
+/// The one image that a line names, where it is built.
 fn image_of(line: Line) -> Option<Text>
     ensures { result ≡ image_in line }
 {
@@ -56,27 +64,42 @@ fn image_of(line: Line) -> Option<Text>
         Line::Resume { image, .. } => Some(image),
         Line::Receive { image, .. } => Some(image),
         Line::Token { image, .. } => Some(image),
+        Line::Gen { image, .. } => Some(image),
         _ => None,
     }
 }
 
-/// The image that the words name, and how it is opened; None where they name none, are no line, or ask for what isn't
-/// built.
-pub fn opening_of(alloc: Global, words: &[String]) -> Result<Option<(Text, OpenMode)>, AllocError>
+/// The one image that a line names, and how it is opened.
+fn opening_of_one(line: Line) -> Option<Opening>
+    requires { IsInRange line }
+    ensures { result ≡ one_of (image_in line) (way_of line) }
+{
+    let mode = mode_for(&line)?;
+    let path = image_of(line)?;
+    Some(Opening::One(path, mode))
+}
+
+/// The images that a line names, and how they are opened.
+fn opening_for(line: Line) -> Option<Opening>
+    requires { IsInRange line }
+    ensures { result ≡ opening_in line }
+{
+    match line {
+        Line::Replay { here, there } => Some(Opening::Two { here, there }),
+        line => opening_of_one(line),
+    }
+}
+
+/// The images that the words name, and how they are opened; None where they name none, are no line, or ask for what
+/// isn't built.
+pub fn opening_of(alloc: Global, words: &[String]) -> Result<Option<Opening>, AllocError>
     ensures { IfOk result (OpensBy (map string_bytes words.now)) }
 {
-    let line = match parse(alloc, words) {
-        Ok(line) => line,
-        Err(LineFault::Memory) => return Err(AllocError),
-        Err(_) => return Ok(None),
-    };
-    let Some(opening) = opening_for(&line) else {
-        return Ok(None);
-    };
-    let Some(image) = image_of(line) else {
-        return Ok(None);
-    };
-    Ok(Some((image, opening)))
+    match parse(alloc, words) {
+        Ok(line) => Ok(opening_for(line)),
+        Err(LineFault::Memory) => Err(AllocError),
+        Err(_) => Ok(None),
+    }
 }
 
 /// Syncs the folder of a path, and with it the entry of a file that was made there.

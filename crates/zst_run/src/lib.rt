@@ -3,11 +3,14 @@
 
 mod completeness;
 mod dump;
+mod event_replies;
 mod file_runs;
+mod generate;
 mod image;
 mod note;
 mod pools;
 mod receive;
+mod replay;
 mod replication;
 mod reply;
 mod runs;
@@ -19,8 +22,8 @@ pub use completeness::{
     sends_complete, steps_complete, tokens_complete, transfers_complete,
 };
 pub use dump::dumps_have_one_answer;
-pub use file_runs::run_on_file;
-pub use image::{OpenMode, open, opening_of};
+pub use file_runs::{run_on_file, run_on_files};
+pub use image::{OpenMode, Opening, open, opening_of};
 pub use note::status_of;
 pub use replication::{
     chains_of_runs_complete, cuts_tell_alike, redacted_is_unreadable, refused_leaves_nothing,

@@ -1,6 +1,7 @@
-ghost use Rattle.std.specs.Prelude.{◌≡◌, decimal};
+ghost use Rattle.std.specs.Prelude.{◌≡◌, ◌++◌, codes, decimal};
 ghost use Rattle.zst_model.specs.refusals.Refusal.{text_of};
 ghost use Rattle.zst_outside.specs.Printing.{Prints};
+ghost use Rattle.zst_run.specs.Replies.{refusal_line};
 ghost use Rattle.zst_run.specs.Runs.{Noted, note_of, plan_status, status_of};
 
 use itoa::Buffer;
@@ -51,14 +52,22 @@ fn write_text<N: Sink>(refusal: &Refusal, note: &mut N) -> Result<(), Fault>
     write_all(note, refusal.text().as_str().as_bytes())
 }
 
-fn write_note<N: Sink>(refusal: &Refusal, note: &mut N) -> Result<(), Fault>
-    ensures { Prints (N.state note.old) (N.state note.new) (note_of refusal.now) result }
+/// Writes the line of a refusal, and its line feed.
+pub(crate) fn write_refusal<N: Sink>(refusal: &Refusal, note: &mut N) -> Result<(), Fault>
+    ensures { Prints (N.state note.old) (N.state note.new) (refusal_line refusal.now ++ codes "\n") result }
 {
-    write_all(note, b"zst: E")?;
+    write_all(note, b"E")?;
     write_number(refusal.number(), note)?;
     write_all(note, b" ")?;
     write_text(refusal, note)?;
     write_all(note, b"\n")
+}
+
+fn write_note<N: Sink>(refusal: &Refusal, note: &mut N) -> Result<(), Fault>
+    ensures { Prints (N.state note.old) (N.state note.new) (note_of refusal.now) result }
+{
+    write_all(note, b"zst: ")?;
+    write_refusal(refusal, note)
 }
 
 /// Notes a refusal, and hands the note on. A fault of the note changes nothing.

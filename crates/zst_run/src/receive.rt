@@ -13,17 +13,15 @@ ghost use Rattle.zst_record.specs.Laws.{AreBytes};
 ghost use Rattle.zst_recv.specs.ReceiveSteps.{Stage, left_by};
 ghost use Rattle.zst_recv.specs.Stages.{Receives as HasTaken, RecvFits, ask_of, fed_of, is_live, received_by, stage_of};
 ghost use Rattle.zst_dir.specs.Rows.{Rows};
-ghost use Rattle.zst_script.specs.Asks.{receipt_of, snapshot_of, target_of};
 ghost use Rattle.zst_run.specs.LaterDisks.{IsLater};
-ghost use Rattle.zst_run.specs.Receives.{IsTarget, Receiving, SaysOfPlan, piece_size};
+ghost use Rattle.zst_run.specs.Receives.{Receiving, SaysOfPlan, piece_size};
 ghost use Rattle.zst_run.specs.Replies.{Replies, reply_text};
 ghost use Rattle.zst_run.specs.ReceiveTurns.{CanFeed, Fed, Fills, HasFed, IsReady, IsUnfed, PlansOn, TurnBlocks, TurnLeaves, TurnPlans, TurnSets, Turns, WaitsForMore, WhyReceiveEnds, cut_refusal, line_of, told, turn_behind};
 
 use itoa::Buffer;
 use std::alloc::Global;
 use zst_image::{PoolState, images_keep_partials};
-use zst_model::{Name, Refusal, guid_text};
-use zst_names::{DatasetName, SnapName};
+use zst_model::{Refusal, guid_text};
 use zst_outside::{Disk, Fault, Sink, Source, write_all};
 use zst_pool::{Pool, opened_is_at_rest};
 use zst_recv::{ReceivedSnapshot, Recv, RecvAsk};
@@ -32,49 +30,6 @@ use zst_stream::fronts_agree;
 
 /// How many bytes are read at once, and committed once.
 const PIECE: usize = 1_048_576;
-
-/// The dataset that a target names, and the snapshot, where it names one.
-fn target_of(target: &Name) -> DatasetName
-    requires { IsTarget target.now }
-    ensures { result ≡ target_of target.now }
-{
-    match target {
-        Name::Dataset(name) => name.duplicate(),
-        Name::Snapshot(name) => name.dataset(),
-        Name::Bookmark(_) => unreachable!(),
-    }
-}
-
-fn snapshot_of(target: &Name) -> Option<SnapName>
-    ensures { result ≡ snapshot_of target.now }
-{
-    match target {
-        Name::Snapshot(name) => Some(name.duplicate()),
-        Name::Dataset(_) | Name::Bookmark(_) => None,
-    }
-}
-
-/// What the words of a line ask for.
-pub(crate) fn receipt_of(
-    keeps: bool,
-    forces: bool,
-    origin: &Option<SnapName>,
-    target: &Name,
-) -> RecvAsk
-    requires { IsTarget target.now }
-    ensures { result ≡ receipt_of keeps forces origin.now target.now }
-{
-    RecvAsk {
-        target: target_of(target),
-        snap: snapshot_of(target),
-        keep: keeps,
-        force: forces,
-        origin: match origin {
-            Some(name) => Some(name.duplicate()),
-            None => None,
-        },
-    }
-}
 
 /// What an input gave for a piece.
 #[derive(Clone, Copy)]

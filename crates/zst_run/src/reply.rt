@@ -6,8 +6,8 @@ ghost use Rattle.zst_run.specs.Replies.{HandsOn, reply_text};
 use zst_model::{Refusal, Reply};
 use zst_outside::{Fault, Sink, write_all};
 
-// Writes a line, and its line feed.
-fn write_line<K: Sink>(line: &[u8], out: &mut K) -> Result<(), Fault>
+/// Writes a line, and its line feed.
+pub(crate) fn write_line<K: Sink>(line: &[u8], out: &mut K) -> Result<(), Fault>
     ensures { Prints (K.state out.old) (K.state out.new) (line.now ++ codes "\n") result }
 {
     write_all(out, line)?;
@@ -23,14 +23,22 @@ pub(crate) fn print_line<K: Sink>(line: &[u8], out: &mut K) -> Result<(), Fault>
     out.flush()
 }
 
+/// Writes the lines of a reply.
+pub(crate) fn write_lines<K: Sink>(reply: &Reply, out: &mut K) -> Result<(), Fault>
+    ensures { Prints (K.state out.old) (K.state out.new) (reply_text reply.now) result }
+{
+    for line in reply.lines() {
+        write_line(line.as_slice(), out)?;
+    }
+    Ok(())
+}
+
 /// Writes the lines of a reply, and hands them on.
 pub(crate) fn print_reply<K: Sink>(reply: &Reply, out: &mut K) -> Result<(), Fault>
     ensures prints { Prints (K.state out.old) (K.state out.new) (reply_text reply.now) result }
     ensures handed_on { OnOk result (HandedOn (K.state out.new)) }
 {
-    for line in reply.lines() {
-        write_line(line.as_slice(), out)?;
-    }
+    write_lines(reply, out)?;
     out.flush()
 }
 

@@ -4,10 +4,12 @@ ghost use Rattle.zst_run.specs.LineEffects.{DoesLine, IsInRange, receive_of, sen
 ghost use Rattle.zst_run.specs.Runs.{DoesWords, Runs};
 
 use crate::dump::dump;
+use crate::generate::generate;
 use crate::note::{note_refusal, status_of};
 use crate::pools::{create_pool, step_pool};
-use crate::receive::{receipt_of, receive};
-use crate::send::{SendRequest, ask_of, ask_rest, send};
+use crate::receive::receive;
+use crate::replay::replay;
+use crate::send::{SendRequest, ask_rest, send};
 use crate::tokens::tell_token;
 use std::alloc::Global;
 use zst_line::{Line, parse};
@@ -15,10 +17,11 @@ use zst_model::{Lack, PlanFault, Refusal};
 use zst_names::DatasetName;
 use zst_outside::{Disk, Sink, Source};
 use zst_recv::RecvAsk;
+use zst_script::{ask_of, receipt_of};
 
 /// Does what the words after the program's name ask for, and answers the program's status. A refusal goes to `note`.
 ///
-/// `here` is the image that a line names, `now` is the time in seconds since 1970. No line uses `there` yet.
+/// `here` is the image that a line names, `there` is the second one that `replay` names, and `now` is the time in seconds since 1970.
 pub fn run<D: Disk, E: Disk, S: Source, K: Sink, N: Sink>(
     alloc: Global,
     words: &[String],
@@ -29,12 +32,11 @@ pub fn run<D: Disk, E: Disk, S: Source, K: Sink, N: Sink>(
     out: &mut K,
     note: &mut N,
 ) -> u8
-    ensures runs { Runs D.state now (map string_bytes words.now)
-        (devices here.old (S.state input.old) (K.state out.old)) (devices here.new (S.state input.new) (K.state out.new))
+    ensures runs { Runs D.state D.tells_images E.state E.tells_images now (map string_bytes words.now)
+        (devices here.old there.old (S.state input.old) (K.state out.old)) (devices here.new there.new (S.state input.new) (K.state out.new))
         (N.state note.old) (N.state note.new) result }
-    ensures there { there.new ≡ there.old }
 {
-    match run_words(alloc, words, now, here, input, out) {
+    match run_words(alloc, words, now, here, there, input, out) {
         Ok(()) => 0,
         Err(refusal) => {
             note_refusal(&refusal, note);
@@ -44,62 +46,65 @@ pub fn run<D: Disk, E: Disk, S: Source, K: Sink, N: Sink>(
 }
 
 /// Does what words ask for that are a line.
-fn run_words<D: Disk, S: Source, K: Sink>(
+fn run_words<D: Disk, E: Disk, S: Source, K: Sink>(
     alloc: Global,
     words: &[String],
     now: u64,
     here: &mut D,
+    there: &mut E,
     input: &mut S,
     out: &mut K,
 ) -> Result<(), Refusal>
-    ensures { DoesWords D.state now (map string_bytes words.now)
-        (devices here.old (S.state input.old) (K.state out.old)) (devices here.new (S.state input.new) (K.state out.new)) result }
+    ensures { DoesWords D.state D.tells_images E.state E.tells_images now (map string_bytes words.now)
+        (devices here.old there.old (S.state input.old) (K.state out.old)) (devices here.new there.new (S.state input.new) (K.state out.new)) result }
 {
     let line = parse(alloc, words)?;
     match send_of(&line) {
         Some(request) => send(alloc, here, &request, out),
-        None => run_unsent(alloc, line, now, here, input, out),
+        None => run_unsent(alloc, line, now, here, there, input, out),
     }
 }
 
 /// Does what a line asks for that sends nothing.
-fn run_unsent<D: Disk, S: Source, K: Sink>(
+fn run_unsent<D: Disk, E: Disk, S: Source, K: Sink>(
     alloc: Global,
     line: Line,
     now: u64,
     here: &mut D,
+    there: &mut E,
     input: &mut S,
     out: &mut K,
 ) -> Result<(), Refusal>
     requires range { IsInRange line }
     requires no_send { send_of line ≡ None }
-    ensures { DoesLine D.state now line
-        (devices here.old (S.state input.old) (K.state out.old)) (devices here.new (S.state input.new) (K.state out.new)) result }
+    ensures { DoesLine D.state D.tells_images E.state E.tells_images now line
+        (devices here.old there.old (S.state input.old) (K.state out.old)) (devices here.new there.new (S.state input.new) (K.state out.new)) result }
 {
     match receive_of(&line) {
         Some(ask) => receive(alloc, here, ask, input, out),
-        None => run_here(alloc, line, now, here, input, out),
+        None => run_here(alloc, line, now, here, there, input, out),
     }
 }
 
 /// Does what a line asks for that sends and receives nothing.
-fn run_here<D: Disk, S: Source, K: Sink>(
+fn run_here<D: Disk, E: Disk, S: Source, K: Sink>(
     alloc: Global,
     line: Line,
     now: u64,
     here: &mut D,
+    there: &mut E,
     input: &mut S,
     out: &mut K,
 ) -> Result<(), Refusal>
     requires range { IsInRange line }
     requires no_send { send_of line ≡ None }
     requires no_receive { receive_of line ≡ None }
-    ensures { DoesLine D.state now line
-        (devices here.old (S.state input.old) (K.state out.old)) (devices here.new (S.state input.new) (K.state out.new)) result }
+    ensures { DoesLine D.state D.tells_images E.state E.tells_images now line
+        (devices here.old there.old (S.state input.old) (K.state out.old)) (devices here.new there.new (S.state input.new) (K.state out.new)) result }
 {
     match token_dataset_of(&line) {
         Some(dataset) => tell_token(alloc, here, &dataset, out),
-        None => run_line(alloc, line, now, here, input, out),
+        None => run_line(alloc, line, now, here, there, input, out),
     }
 }
 
@@ -114,7 +119,7 @@ fn send_of(line: &Line) -> Option<SendRequest>
             redacts,
             snapshot,
             ..
-        } => Some(ask_of(from, redacts, snapshot)),
+        } => Some(SendRequest::Named(ask_of(from, redacts, snapshot))),
         Line::Resume { token, .. } => Some(ask_rest(token)),
         _ => None,
     }
@@ -148,11 +153,12 @@ fn token_dataset_of(line: &Line) -> Option<DatasetName>
 }
 
 /// Does what a line asks for that sends, receives and tells nothing, where it is built.
-fn run_line<D: Disk, S: Source, K: Sink>(
+fn run_line<D: Disk, E: Disk, S: Source, K: Sink>(
     alloc: Global,
     line: Line,
     now: u64,
     here: &mut D,
+    there: &mut E,
     input: &mut S,
     out: &mut K,
 ) -> Result<(), Refusal>
@@ -160,13 +166,15 @@ fn run_line<D: Disk, S: Source, K: Sink>(
     requires no_send { send_of line ≡ None }
     requires no_receive { receive_of line ≡ None }
     requires no_token { token_dataset_of line ≡ None }
-    ensures { DoesLine D.state now line
-        (devices here.old (S.state input.old) (K.state out.old)) (devices here.new (S.state input.new) (K.state out.new)) result }
+    ensures { DoesLine D.state D.tells_images E.state E.tells_images now line
+        (devices here.old there.old (S.state input.old) (K.state out.old)) (devices here.new there.new (S.state input.new) (K.state out.new)) result }
 {
     match line {
         Line::Dump => dump(alloc, input, out),
         Line::Create { sectors, id, .. } => create_pool(alloc, here, sectors, id, out),
         Line::Step { command, .. } => step_pool(alloc, here, now, command, out),
+        Line::Gen { steps, .. } => generate(alloc, here, now, steps, out),
+        Line::Replay { .. } => replay(alloc, now, here, there, input, out),
         _ => Err(Refusal::Plan(PlanFault::Unsupported(Lack::NotBuilt))),
     }
 }

@@ -1,6 +1,5 @@
 // The lines that send a snapshot, or the rest of it that a token tells: the stream is written piece by piece, as it is read of the image.
-ghost use Rattle.std.specs.Prelude.{Option, ◌≡◌, ◌==◌, ◌≤◌, false, length, IfErr, IfOk, IfSome, OnOk, Some, Ok, Err};
-ghost use Rattle.std.specs.List.{position};
+ghost use Rattle.std.specs.Prelude.{Option, ◌≡◌, ◌≤◌, false, length, IfErr, IfSome, OnOk, Some, Ok, Err};
 ghost use Rattle.zst_outside.specs.Images.{OnlyReads};
 ghost use Rattle.zst_outside.specs.States.{SinkState};
 ghost use Rattle.zst_block.specs.IoStates.{IsHonest, blocks_of, disk_of, io_of};
@@ -9,27 +8,23 @@ ghost use Rattle.zst_model.specs.pools.Pool.{Pool as Plain};
 ghost use Rattle.zst_model.specs.declared.refusals.plan_fault.PlanFault.{PlanFault};
 ghost use Rattle.zst_model.specs.declared.sends.header.Point.{Point};
 ghost use Rattle.zst_model.specs.sends.Headers.{Sent};
-ghost use Rattle.zst_plan.specs.Plans.{AnswersPlan};
 ghost use Rattle.zst_reader.specs.InputReads.{stream_limit};
-ghost use Rattle.zst_send.specs.Openings.{StandsPlanned, rest_of};
-ghost use Rattle.zst_script.specs.Asks.{ask_of, source_of};
+ghost use Rattle.zst_send.specs.Openings.{StandsPlanned};
 ghost use Rattle.zst_run.specs.declared.send.SendRequest.TheVariants.{Named, Rest};
 ghost use Rattle.zst_run.specs.LaterDisks.{IsLater};
-ghost use Rattle.zst_run.specs.Sends.{IsDamagedRequest, IsSendRefusal, IsSource, OfGiving, ReadsForSends, Sends, SendsBy, SentAlike, TellsLong, TellsOf, TwoWorldsAreSentAlike, start_of, to_give, to_send};
+ghost use Rattle.zst_run.specs.Sends.{IsDamagedRequest, IsSendRefusal, OfGiving, ReadsForSends, Sends, SendsBy, SentAlike, TellsLong, TellsOf, TwoWorldsAreSentAlike, start_of, to_give, to_send};
 ghost use Rattle.zst_run.specs.SendPieces.{Advances, GivesPieces, IfUnplanned, OpensFor, Passed, PieceLeaves, Sending, WhySendEnds, WritesPiece};
 
 use crate::reply::hand_on;
 use std::alloc::Global;
-use zst_dir::{Dir, bytes_are_one_directory};
+use zst_dir::bytes_are_one_directory;
 use zst_image::PoolState;
 use zst_leaves::root_has_one_text;
-use zst_model::{Lack, Name, PlanFault, Quantity, Refusal};
-use zst_names::{BookName, SnapName};
+use zst_model::{Quantity, Refusal};
 use zst_outside::{Disk, Sink, write_all};
-use zst_plan::{SendPlan, resume_plan};
 use zst_pool::{Pool, PoolFault};
 use zst_reader::STREAM_LIMIT;
-use zst_send::{FromName, Send, SendAsk, rows_stand_for_sends};
+use zst_send::{Send, SendAsk, rest_plan, rows_stand_for_sends};
 use zst_token::Token;
 
 /// The bytes of a piece, which stay in a processor's cache from where they are read to where they are written.
@@ -42,38 +37,6 @@ pub(crate) enum SendRequest {
     Named(SendAsk),
     /// The rest of what a token is of.
     Rest(Token),
-}
-
-/// What an increment is asked to be sent from.
-fn source_of(from: &Option<Name>) -> Option<FromName>
-    requires { IfSome from.now IsSource }
-    ensures { result ≡ source_of from.now }
-{
-    match from {
-        Some(Name::Snapshot(name)) => Some(FromName::Snap(name.duplicate())),
-        Some(Name::Bookmark(name)) => Some(FromName::Book(name.duplicate())),
-        Some(Name::Dataset(_)) => unreachable!(),
-        None => None,
-    }
-}
-
-/// What the names of a line ask for.
-pub(crate) fn ask_of(
-    from: &Option<Name>,
-    redacts: &Option<BookName>,
-    snapshot: &SnapName,
-) -> SendRequest
-    requires { IfSome from.now IsSource }
-    ensures { result ≡ Named (ask_of from.now redacts.now snapshot.now) }
-{
-    SendRequest::Named(SendAsk {
-        snap: snapshot.duplicate(),
-        from: source_of(from),
-        redact: match redacts {
-            Some(name) => Some(name.duplicate()),
-            None => None,
-        },
-    })
 }
 
 /// What a token asks for.
@@ -179,17 +142,6 @@ fn open_named<D: Disk>(
     ensures { OpensFor (Named ask.now) pool.old pool.new result }
 {
     Send::open(pool, alloc, ask)
-}
-
-// What a token asks for, by the rows. Large blocks aren't supported, so that nothing is looked up then.
-fn rest_plan(dir: &Dir, token: &Token) -> Result<SendPlan, PlanFault>
-    ensures plans { AnswersPlan dir.now (rest_of token.now) result }
-    ensures to { IfOk result (λ plan. position (λ snapshot. snapshot.guid == token.now.to) dir.now.snapshots ≡ Some plan.snap) }
-{
-    if token.large {
-        return Err(PlanFault::Unsupported(Lack::LargeBlocks));
-    }
-    resume_plan(dir, token)
 }
 
 // Opens a send of the rest that a token tells.

@@ -205,7 +205,7 @@ pub returns-else-fed-clause-blocks : goal.returns-else-fed-clause-blocks
 returns-else-fed-clause-blocks g c =
     let e = c.in-Ok.ensures in
     record {
-      blocks = λ more. e.pool.blocks (ap not c.if-fed.false);
+      blocks = λ more. e.pool.blocks (λ is. absurd (cc is));
       stood = λ apart. e.pool.stood (λ is. absurd (cc is));
       size = e.pool.size;
       waits = λ waits. (e.kept.waits waits, e.receive.waited waits);

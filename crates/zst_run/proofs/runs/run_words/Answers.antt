@@ -14,5 +14,5 @@ pub returns-in-Some : goal.returns-in-Some
 returns-in-Some g c = (
   Ok c.in_ok-line.line,
   c.in_ok-line.ensures,
-  does_send g.D.Disk.state c.args.now c.in_ok-line.line c.in-Some.request _ _ _ (sym c.in-Some.ensures) c.send.ensures refl,
+  does_send g.D.Disk.state g.D.Disk.tells_images g.E.Disk.state g.E.Disk.tells_images c.args.now c.in_ok-line.line c.in-Some.request _ _ _ (sym c.in-Some.ensures) c.send.ensures refl refl,
 )

@@ -1,7 +1,7 @@
 use Rattle.std.proofs.Common.{take}
 use Rattle.zst_outside.specs.Printing.{Printed}
 use Rattle.zst_run.specs.Replies.{reply_text}
-use Rattle.zst_run.proofs.reply.print_reply.Given as goal
+use Rattle.zst_run.proofs.reply.write_lines.Given as goal
 
 -- the lines that came before are written
 abbrev pub invariant-loop-line : goal.invariant-loop-line

@@ -1,10 +1,10 @@
 use Rattle.std.proofs.Common.{◌≡◌, ◌∙◌, List, ℕ, get_or, ap}
 use Rattle.zst_outside.specs.Printing.{Prints-stop, Printed-then}
 use Rattle.zst_run.proofs.ReplyLines.{reply_at, reply_more}
-use Rattle.zst_run.proofs.reply.print_reply.Goals as goal
+use Rattle.zst_run.proofs.reply.write_lines.Goals as goal
 
-pub returns-in_err-write_line-clause-prints : goal.returns-in_err-write_line-clause-prints
-returns-in_err-write_line-clause-prints g c =
+pub returns-in_err-write_line : goal.returns-in_err-write_line
+returns-in_err-write_line g c =
     let i = c.loop-line.line-index in
     let d = c.line-item.result in
     let same : c.as_slice.result.now ≡ get_or c.args.reply.now i d = c.as_slice.ensures ∙ c.line-item.is ∙ ap (λ (l : List (List ℕ)). get_or l i d) c.lines-line-items.ensures in

@@ -1,0 +1,83 @@
+-- What the line `gen` makes of the pool of an image, and why it ends.
+use Rattle.std.specs.Prelude.{ℕ, ◌+◌, ◌*◌, ◌≡◌, ◌⊎◌, ◌<◌, ◌≤◌, Bool, IfErr, List, [], ◌∷◌, length, take, codes, decimal, Result, Ok, Err}
+use Rattle.std.specs.List.{concat}
+use Rattle.zst_outside.specs.Images.{DiskState, Leaves, OnlyReads}
+use Rattle.zst_block.specs.Blocks.{KeepsBlocks}
+use Rattle.zst_uber.specs.declared.uber.Uber.{Uber}
+use Rattle.zst_model.specs.declared.pools.command.Command.{Command}
+use Rattle.zst_model.specs.declared.refusals.refusal.Refusal.{Refusal}
+use Rattle.zst_model.specs.declared.refusals.refusal.Refusal.TheVariants as refusals
+use Rattle.zst_model.specs.pools.KeptPool.{kept_of}
+use Rattle.zst_model.specs.pools.Pool.{Pool}
+use Rattle.zst_model.specs.pools.Step.{stepped}
+use Rattle.zst_model.specs.states.AppliedItems.{◌>>=◌}
+use Rattle.zst_gen.specs.Generated.{generated}
+use Rattle.zst_dir.specs.Rows.{Rows}
+use Rattle.zst_image.specs.Reads.{Reads, free_by}
+use Rattle.zst_run.specs.Commands.{IsPoolRefusal, OfStepping, Opens, SaysOfOpening}
+use Rattle.zst_run.specs.Receives.{Keeps}
+
+-- commands one after another, each of which is accepted
+unfoldable pub stepped_all : (now : ℕ) → List Command → Pool → Result Pool Refusal
+stepped_all now [] pool = Ok pool
+stepped_all now (command ∷ rest) pool = stepped [] now command pool >>= λ done. stepped_all now rest done.pool
+
+-- so many of the first commands that make content of so many objects
+abbrev pub first_made : (now steps count : ℕ) → Pool → Result Pool Refusal
+first_made now steps count pool = stepped_all now (take count (generated steps)) pool
+
+-- the line: the objects, their blocks that are written, their holes, the bytes of those blocks, and the pool's number
+abbrev pub gen_line : (steps number : ℕ) → List ℕ
+gen_line steps number = concat (
+    codes "gen " ∷ decimal steps ∷ codes " blocks " ∷ decimal (224 * steps) ∷ codes " holes " ∷ decimal (31 * steps)
+    ∷ codes " bytes " ∷ decimal (224 * steps * 131072) ∷ codes " number " ∷ decimal number ∷ [])
+
+-- an image that reads as what is kept of the pool that some first commands make
+abbrev pub ReadsMade : (tight : Bool) → (now steps : ℕ) → Pool → List ℕ → Type 0
+ReadsMade tight now steps pool image = (n : ℕ) × (after : Pool) × (first_made now steps n pool ≡ Ok after) × Reads tight (kept_of after) image
+
+-- an image that stood before the line, or such a one
+abbrev pub OldOrMade : (tight : Bool) → DiskState → (now steps : ℕ) → Pool → List ℕ → Type 0
+OldOrMade tight here now steps pool image = here.images image ⊎ ReadsMade tight now steps pool image
+
+-- these commands were accepted, and what is kept of the pool that they made stands
+pub record Made (tight : Bool) (now : ℕ) (commands : List Command) (pool : Pool) (here' : DiskState) : Type 0 where
+  pub after : Pool
+  pub is : stepped_all now commands pool ≡ Ok after
+  pub keeps : Keeps tight here' after
+
+-- some first commands were accepted and stand, and there are more
+pub record StoppedAt (tight : Bool) (now steps : ℕ) (pool : Pool) (here' : DiskState) : Type 0 where
+  pub count : ℕ
+  pub more : count < length (generated steps)
+  pub made : Made tight now (take count (generated steps)) pool here'
+
+-- How it ends, and what then stands: all commands were accepted, and the line tells it; else some were, which stand, and the next one is
+-- refused: as the definition says; E24 where the definition accepts it, and the longest extent is shorter than what is needed; or E32. Nothing is damaged.
+abbrev pub GenEnds : (tight : Bool) → (now steps : ℕ) → Pool → DiskState → Result (List (List ℕ)) Refusal → Type 0
+GenEnds tight now steps pool here' (Ok lines) = (made : Made tight now (generated steps) pool here') × (lines ≡ gen_line steps made.after.number ∷ [])
+GenEnds tight now steps pool here' (Err refusals.DiskFault) = Unit {0}
+GenEnds tight now steps pool here' (Err (refusals.Full need largest)) =
+    (stop : StoppedAt tight now steps pool here') × (largest < need) × ((after : Pool) × (first_made now steps (stop.count + 1) pool ≡ Ok after))
+GenEnds tight now steps pool here' (Err refusals.OutOfMemory) = StoppedAt tight now steps pool here'
+GenEnds tight now steps pool here' (Err (refusals.Damaged sector stated found)) = ⊥
+GenEnds tight now steps pool here' (Err refusals.NoPool) = ⊥
+GenEnds tight now steps pool here' (Err (refusals.BadVersion number)) = ⊥
+GenEnds tight now steps pool here' (Err refusal) = (stop : StoppedAt tight now steps pool here') × (first_made now steps (stop.count + 1) pool ≡ Err refusal)
+
+-- The commands on a pool that was opened by this body and these rows, whether or not the image reads as a pool: whatever the answer, but for E28, each
+-- block still stands that stood in sectors which the body left not free, and E24 comes only where the longest extent is shorter than what is needed.
+pub record GenRan (here here' : DiskState) (answer : Result (List (List ℕ)) Refusal) (uber : Uber) (rows : Rows) : Type 0 where
+  pub opens : Opens here uber rows
+  pub stood : ¬ (answer ≡ Err refusals.DiskFault) → KeepsBlocks here.seen (free_by uber) here'.seen (free_by uber)
+  pub full : (need largest : ℕ) → answer ≡ Err (refusals.Full need largest) → largest < need
+
+-- The commands that make content of so many objects, on the pool of an image: at every moment, and in the end, each image stood before them, or reads as
+-- what is kept of the pool that some first ones make, by tight object sets where it stood so.
+pub record Generating (now steps : ℕ) (here here' : DiskState) (answer : Result (List (List ℕ)) Refusal) : Type 0 where
+  pub moments : (tight : Bool) (pool : Pool) → here'.honest → Reads tight pool here.seen → Leaves here here' (OldOrMade tight here now steps pool)
+  pub images : (tight : Bool) (pool : Pool) → here'.honest → Reads tight pool here.seen → (c : List ℕ) → here'.images c → OldOrMade tight here now steps pool c
+  pub ends : (tight : Bool) (pool : Pool) → here'.honest → Reads tight pool here.seen → GenEnds tight now steps pool here' answer
+  pub opened : here'.honest → SaysOfOpening (OnlyReads here here') here (GenRan here here' answer) answer
+  pub refused : IfErr answer (IsPoolRefusal OfStepping here here')
+  pub later : here.faults ≤ here'.faults
