@@ -1,8 +1,8 @@
-// One call of `run`: on an image of these bytes, with this input, where some call outside may fail.
+// One call of `run`: on images of these bytes, with this input, where some call outside may fail.
 
 use std::alloc::{AllocError, Global};
 use std::str;
-use zst_outside::{Call, Disk, MemDisk, MemSink, MemSource, Sink, Source, SureDisk};
+use zst_outside::{Call, Disk, Entry, MemDisk, MemSink, MemSource, Sink, Source};
 use zst_run::run;
 
 /// The time of each run, in seconds since 1970.
@@ -14,6 +14,8 @@ pub(crate) struct Line {
     pub(crate) words: Vec<String>,
     /// The image, None where the line names none.
     pub(crate) image: Option<Vec<u8>>,
+    /// The second image, which a replay names.
+    pub(crate) other: Option<Vec<u8>>,
     pub(crate) input: Vec<u8>,
     /// The most bytes that a read of the input gives, and that a write of the output takes.
     pub(crate) pieces: (usize, usize),
@@ -22,13 +24,10 @@ pub(crate) struct Line {
 impl Line {
     /// The same line with another input.
     pub(crate) fn with_input(&self, alloc: Global, input: Vec<u8>) -> Result<Line, AllocError> {
-        let image = match &self.image {
-            Some(image) => Some(image.to_vec(alloc)?),
-            None => None,
-        };
         Ok(Line {
             words: self.words.clone()?,
-            image,
+            image: copied(alloc, &self.image)?,
+            other: copied(alloc, &self.other)?,
             input,
             pieces: self.pieces,
         })
@@ -39,16 +38,32 @@ impl Line {
         Ok(Line {
             words: self.words.clone()?,
             image: Some(image),
+            other: copied(alloc, &self.other)?,
             input: self.input.to_vec(alloc)?,
             pieces: self.pieces,
         })
     }
 }
 
+/// The same image, if there is one.
+fn copied(alloc: Global, image: &Option<Vec<u8>>) -> Result<Option<Vec<u8>>, AllocError> {
+    Ok(match image {
+        Some(image) => Some(image.to_vec(alloc)?),
+        None => None,
+    })
+}
+
+/// One of the two disks of a line: most lines have the first one alone.
+#[derive(Clone, Copy, PartialEq, Eq)]
+pub(crate) enum Side {
+    Here,
+    There,
+}
+
 /// An end of the world that a line calls.
 #[derive(Clone, Copy, PartialEq, Eq)]
 pub(crate) enum End {
-    Disk,
+    Disk(Side),
     Input,
     Output,
     Note,
@@ -71,31 +86,34 @@ fn failing_at(alloc: Global, failing: Option<Failing>, end: End) -> Result<Vec<u
     Ok(numbers)
 }
 
-/// What came of a line.
+/// A disk behind a line.
 #[derive(Drop)]
-pub(crate) struct Answer {
-    pub(crate) status: u8,
-    pub(crate) out: Vec<u8>,
-    pub(crate) note: Vec<u8>,
+pub(crate) struct UsedDisk {
     /// The disk as it then stands.
-    pub(crate) disk: MemDisk,
+    disk: MemDisk,
     /// How many calls the line made on it.
     pub(crate) calls: u64,
-    /// How many calls outside failed.
-    pub(crate) faults: u64,
 }
 
-impl Answer {
-    pub(crate) fn note(&self) -> &str {
-        str::from_utf8(&self.note).unwrap_or("")
+impl UsedDisk {
+    fn new(disk: MemDisk) -> UsedDisk {
+        UsedDisk {
+            calls: disk.calls(),
+            disk,
+        }
     }
 
-    /// What the disk reads.
+    /// What it reads.
     pub(crate) fn image(&mut self, alloc: Global) -> Result<Vec<u8>, AllocError> {
         seen(alloc, &mut self.disk)
     }
 
-    /// How many of the line's calls on the disk read.
+    /// Its calls, the first one first.
+    pub(crate) fn log(&self) -> &[Entry] {
+        self.disk.log()
+    }
+
+    /// How many of the line's calls read.
     pub(crate) fn reads(&self) -> usize {
         let calls = self.calls;
         self.disk
@@ -113,7 +131,7 @@ impl Answer {
             .any(|entry| matches!(entry.call, Call::Write(..)))
     }
 
-    /// What the disk holds where it stopped before the call of this number, and each range that wasn't synced is filled.
+    /// What it holds where it stopped before the call of this number, and each range that wasn't synced is filled.
     pub(crate) fn stopped(
         &self,
         alloc: Global,
@@ -123,6 +141,39 @@ impl Answer {
         let number = number.min(self.disk.calls());
         let mut image = self.disk.image(alloc, number, fill)?;
         seen(alloc, &mut image)
+    }
+}
+
+/// What came of a line.
+#[derive(Drop)]
+pub(crate) struct Answer {
+    pub(crate) status: u8,
+    pub(crate) out: Vec<u8>,
+    pub(crate) note: Vec<u8>,
+    pub(crate) here: UsedDisk,
+    pub(crate) there: UsedDisk,
+    /// How many calls outside failed.
+    pub(crate) faults: u64,
+}
+
+impl Answer {
+    pub(crate) fn note(&self) -> &str {
+        str::from_utf8(&self.note).unwrap_or("")
+    }
+
+    pub(crate) fn on(&self, side: Side) -> &UsedDisk {
+        match side {
+            Side::Here => &self.here,
+            Side::There => &self.there,
+        }
+    }
+
+    /// What the disk of a side reads.
+    pub(crate) fn image(&mut self, alloc: Global, side: Side) -> Result<Vec<u8>, AllocError> {
+        match side {
+            Side::Here => self.here.image(alloc),
+            Side::There => self.there.image(alloc),
+        }
     }
 }
 
@@ -138,7 +189,8 @@ fn seen(alloc: Global, disk: &mut MemDisk) -> Result<Vec<u8>, AllocError> {
 /// The ends of the world that a line meets.
 #[derive(Drop)]
 struct Outside {
-    disk: MemDisk,
+    here: MemDisk,
+    there: MemDisk,
     input: MemSource,
     out: MemSink,
     note: MemSink,
@@ -148,7 +200,8 @@ impl Outside {
     /// How many calls failed, at the end where some did.
     fn faults(&self) -> u64 {
         let streams = self.input.faults().max(self.out.faults());
-        self.disk.faults().max(self.note.faults()).max(streams)
+        let disks = self.here.faults().max(self.there.faults());
+        disks.max(self.note.faults()).max(streams)
     }
 }
 
@@ -159,17 +212,29 @@ fn note_for(alloc: Global, failing: Option<Failing>) -> Result<MemSink, AllocErr
     Ok(MemSink::new(numbers).in_pieces_of(room))
 }
 
-/// What a line meets, where one call fails.
-fn outside_of(alloc: Global, line: &Line, failing: Option<Failing>) -> Result<Outside, AllocError> {
-    let image = match &line.image {
+/// A disk of this image, or of no bytes.
+fn disk_of(
+    alloc: Global,
+    image: &Option<Vec<u8>>,
+    failing: Option<Failing>,
+    side: Side,
+) -> Result<MemDisk, AllocError> {
+    let bytes = match image {
         Some(image) => image.to_vec(alloc)?,
         None => Vec::new(alloc),
     };
+    let numbers = failing_at(alloc, failing, End::Disk(side))?;
+    Ok(MemDisk::new(bytes, numbers, None))
+}
+
+/// What a line meets, where one call fails.
+fn outside_of(alloc: Global, line: &Line, failing: Option<Failing>) -> Result<Outside, AllocError> {
     let (piece, room) = line.pieces;
     let reads = failing_at(alloc, failing, End::Input)?;
     let writes = failing_at(alloc, failing, End::Output)?;
     Ok(Outside {
-        disk: MemDisk::new(image, failing_at(alloc, failing, End::Disk)?, None),
+        here: disk_of(alloc, &line.image, failing, Side::Here)?,
+        there: disk_of(alloc, &line.other, failing, Side::There)?,
         input: MemSource::new(line.input.to_vec(alloc)?, reads).in_pieces_of(piece.max(1)),
         out: MemSink::new(writes).in_pieces_of(room.max(1)),
         note: note_for(alloc, failing)?,
@@ -183,20 +248,20 @@ pub(crate) fn done(
     failing: Option<Failing>,
 ) -> Result<Answer, AllocError> {
     let mut outside = outside_of(alloc, line, failing)?;
-    let mut there = SureDisk::new(Vec::new(alloc));
     let status = run(
         alloc,
         &line.words,
         NOW,
-        &mut outside.disk,
-        &mut there,
+        &mut outside.here,
+        &mut outside.there,
         &mut outside.input,
         &mut outside.out,
         &mut outside.note,
     );
     let faults = outside.faults();
     let Outside {
-        disk,
+        here,
+        there,
         out,
         note,
         ..
@@ -205,8 +270,8 @@ pub(crate) fn done(
         status,
         out: out.bytes().to_vec(alloc)?,
         note: note.bytes().to_vec(alloc)?,
-        calls: disk.calls(),
-        disk,
+        here: UsedDisk::new(here),
+        there: UsedDisk::new(there),
         faults,
     })
 }

@@ -91,7 +91,7 @@ pub(crate) fn damage_label(
     }
     let mut label = note_of(alloc, found.note(), image, turned)?;
     label.push_str(format!(in alloc; " (status {})", found.status)?.as_str())?;
-    if found.wrote() {
+    if found.here.wrote() {
         label.push_str(", behind a write")?;
     }
     Ok(label)

@@ -5,6 +5,7 @@
 mod calls;
 mod counts;
 mod damage;
+mod documents;
 mod filters;
 mod labels;
 mod pipes;
@@ -12,6 +13,7 @@ mod places;
 mod pools;
 mod records;
 mod remnants;
+mod replays;
 mod sessions;
 mod trials;
 

@@ -12,6 +12,8 @@ pub(crate) type Files = BTreeMap<String, Vec<u8>>;
 pub(crate) struct Stage {
     pub(crate) words: Vec<String>,
     pub(crate) from: Option<String>,
+    /// Whether its input is the text below the line.
+    pub(crate) takes_text: bool,
     pub(crate) to: Option<String>,
 }
 
@@ -70,10 +72,13 @@ fn stage_of(alloc: Global, text: &str) -> Result<Stage, AllocError> {
     let mut stage = Stage {
         words: Vec::new(alloc),
         from: None,
+        takes_text: false,
         to: None,
     };
     for word in text.split(' ') {
-        if let Some(name) = word.strip_prefix('<') {
+        if word.starts_with("<<") {
+            stage.takes_text = true;
+        } else if let Some(name) = word.strip_prefix('<') {
             stage.from = Some(String::from_str(alloc, name)?);
         } else if let Some(name) = word.strip_prefix('>') {
             stage.to = Some(String::from_str(alloc, name)?);

@@ -73,9 +73,16 @@ fn line_on(alloc: Global, image: &[u8], text: &str) -> Result<Line, AllocError> 
     Ok(Line {
         words,
         image: Some(image.to_vec(alloc)?),
+        other: None,
         input: Vec::new(alloc),
         pieces: (usize::MAX, usize::MAX),
     })
+}
+
+/// Whether an image has a pool that opens.
+pub(crate) fn opens(alloc: Global, image: &[u8]) -> Result<bool, AllocError> {
+    let line = line_on(alloc, image, "list I")?;
+    Ok(done(alloc, &line, None)?.status == 0)
 }
 
 /// What a line that only answers says of an image.

@@ -104,10 +104,10 @@ pub(crate) fn left_each_way(
 ) -> Result<String, AllocError> {
     let mut counts = Counts::new(alloc);
     let mut most = 0u64;
-    for stop in 0..=whole.calls {
-        let images = images_at(whole.disk.log(), stop);
+    for stop in 0..=whole.here.calls {
+        let images = images_at(whole.here.log(), stop);
         let mut label = String::new(alloc);
-        standing_at(alloc, whole.disk.log(), ends, stop, images)?.add_to(&mut label)?;
+        standing_at(alloc, whole.here.log(), ends, stop, images)?.add_to(&mut label)?;
         counts.add(label)?;
         most = most.max(images);
     }

@@ -1,6 +1,7 @@
 // A session: the lines of an example one after the other, over its images and streams.
 
-use crate::calls::{Answer, Failing, Line, done};
+use crate::calls::{Answer, Failing, Line, Side, done};
+use crate::documents::Document;
 use crate::filters::filtered;
 use crate::pipes::{Files, Stage, bytes_in, stages_of};
 use crate::trials::{Ask, tried};
@@ -8,7 +9,7 @@ use crate::{UNREAD, trials};
 use std::alloc::{AllocError, Global};
 use std::collections::BTreeMap;
 use std::{mem, str};
-use zst_run::{OpenMode, opening_of};
+use zst_run::{OpenMode, Opening, opening_of};
 
 /// What the program says where an image can't be opened, and its status then.
 const CANNOT_OPEN: &str = "zst: cannot open\n(status 11)\n";
@@ -24,6 +25,8 @@ pub(crate) struct Session {
     ask: Option<Ask>,
     /// The line so far, where it goes on in the next one.
     begun: String,
+    /// The text below that line so far, where it takes one.
+    document: Option<Document>,
     /// What is to be printed.
     told: String,
 }
@@ -35,17 +38,6 @@ struct Handed {
     notes: String,
 }
 
-/// The image of a line.
-#[derive(Drop)]
-enum Image {
-    /// The line names none, or is no line.
-    Unnamed,
-    /// It is this file.
-    Named(String),
-    /// It isn't there.
-    Absent,
-}
-
 impl Session {
     pub(crate) fn new(alloc: Global) -> Session {
         Session {
@@ -53,6 +45,7 @@ impl Session {
             files: BTreeMap::new(alloc),
             ask: None,
             begun: String::new(alloc),
+            document: None,
             told: String::new(alloc),
         }
     }
@@ -67,11 +60,19 @@ impl Session {
         self.told.clear();
     }
 
-    /// Takes a line: a comment begins an example, of which nothing is there yet.
+    /// Takes a line.
     pub(crate) fn take(&mut self, line: &str) -> Result<(), AllocError> {
         let alloc = self.alloc;
         self.told.push_str(line)?;
         self.told.push('\n')?;
+        match self.document.take() {
+            Some(document) => self.read_on(alloc, document, line),
+            None => self.take_own(alloc, line),
+        }
+    }
+
+    /// Takes a line that stands in no text: a comment begins an example, of which nothing is there yet.
+    fn take_own(&mut self, alloc: Global, line: &str) -> Result<(), AllocError> {
         if line.starts_with("# ") {
             self.files.clear();
             self.ask = None;
@@ -91,20 +92,44 @@ impl Session {
         }
     }
 
-    /// Takes a part of a line, and does the line where it ends there.
+    /// Takes a line of the text below a line, and does that line where the text ends there.
+    fn read_on(
+        &mut self,
+        alloc: Global,
+        mut document: Document,
+        line: &str,
+    ) -> Result<(), AllocError> {
+        if document.ends_at(line) {
+            return self.finish(alloc, document.text());
+        }
+        document.add(line)?;
+        self.document = Some(document);
+        Ok(())
+    }
+
+    /// Takes a part of a line, and does the line where it ends there and takes no text below it.
     fn go_on(&mut self, alloc: Global, more: &str) -> Result<(), AllocError> {
         self.begun.push_str(more)?;
         if more.ends_with('|') {
             return self.begun.push(' ');
         }
+        self.document = Document::begun_by(alloc, self.begun.as_str())?;
+        if self.document.is_some() {
+            return Ok(());
+        }
+        self.finish(alloc, "")
+    }
+
+    /// Does the line that was begun, over the text below it.
+    fn finish(&mut self, alloc: Global, text: &str) -> Result<(), AllocError> {
         let line = self.begun.clone()?;
         self.begun.clear();
         let stages = stages_of(alloc, line.as_str(), &self.files)?;
-        self.pipe(alloc, &stages)
+        self.pipe(alloc, &stages, text)
     }
 
     /// Does the commands of a pipe, each with what the one before it gave. What is asked is asked of its last `zst`.
-    fn pipe(&mut self, alloc: Global, stages: &[Stage]) -> Result<(), AllocError> {
+    fn pipe(&mut self, alloc: Global, stages: &[Stage], text: &str) -> Result<(), AllocError> {
         let (ask, none) = (self.ask.take(), None);
         let last = stages.iter().rposition(is_zst);
         let mut handed = Handed {
@@ -114,6 +139,9 @@ impl Session {
         for (i, stage) in stages.iter().enumerate() {
             if let Some(name) = &stage.from {
                 handed.bytes = bytes_in(&self.files, name.as_str()).to_vec(alloc)?;
+            }
+            if stage.takes_text {
+                handed.bytes = text.as_bytes().to_vec(alloc)?;
             }
             let asked = if last == Some(i) { &ask } else { &none };
             handed = self.command(alloc, stage, handed, pieces_at(stages, i), asked)?;
@@ -162,48 +190,77 @@ impl Session {
         }
     }
 
-    /// The image that words name, with zeros for it where they make it.
-    fn image_of(&mut self, alloc: Global, words: &[String]) -> Result<Image, AllocError> {
-        let Some((path, opening)) = opening_of(alloc, words)? else {
-            return Ok(Image::Unnamed);
-        };
-        let name = String::from_str(alloc, path.as_str())?;
-        if self.files.contains_key(name.as_str()) {
-            return Ok(Image::Named(name));
+    /// Whether an image is there, with zeros for it where the line makes it.
+    fn finds(&mut self, alloc: Global, name: &str, mode: OpenMode) -> Result<bool, AllocError> {
+        if self.files.contains_key(name) {
+            return Ok(true);
         }
-        match opening {
+        match mode {
             OpenMode::Made { bytes } if bytes <= LARGEST => {
                 let zeros = vec![in alloc; 0; bytes as usize]?;
-                self.files.insert(name.clone()?, zeros)?;
-                Ok(Image::Named(name))
+                self.files.insert(String::from_str(alloc, name)?, zeros)?;
+                Ok(true)
             }
-            _ => Ok(Image::Absent),
+            _ => Ok(false),
         }
     }
 
-    /// A line, and the name of its image. None where that isn't there.
-    fn line_of(
+    /// The names of the images of a line, None where one can't be opened: it isn't there, or it is both, and the second can't be
+    /// locked.
+    fn images_of(
         &mut self,
         alloc: Global,
-        words: Vec<String>,
-        input: Vec<u8>,
-        pieces: (usize, usize),
-    ) -> Result<Option<(Line, Option<String>)>, AllocError> {
-        let (image, name) = match self.image_of(alloc, &words)? {
-            Image::Unnamed => (None, None),
-            Image::Named(name) => {
-                let bytes = bytes_in(&self.files, name.as_str()).to_vec(alloc)?;
-                (Some(bytes), Some(name))
+        words: &[String],
+    ) -> Result<Option<Vec<String>>, AllocError> {
+        let mut names = Vec::new(alloc);
+        let is_found = match opening_of(alloc, words)? {
+            None => true,
+            Some(Opening::One(path, mode)) => {
+                names.push(String::from_str(alloc, path.as_str())?)?;
+                self.finds(alloc, path.as_str(), mode)?
             }
-            Image::Absent => return Ok(None),
+            Some(Opening::Two { here, there }) => {
+                names.push(String::from_str(alloc, here.as_str())?)?;
+                names.push(String::from_str(alloc, there.as_str())?)?;
+                here.as_str() != there.as_str()
+                    && self.files.contains_key(here.as_str())
+                    && self.files.contains_key(there.as_str())
+            }
         };
-        let line = Line {
-            words,
-            image,
-            input,
-            pieces,
-        };
-        Ok(Some((line, name)))
+        Ok(if is_found { Some(names) } else { None })
+    }
+
+    /// The bytes of the image of a line at a place among those that it names.
+    fn image_at(
+        &self,
+        alloc: Global,
+        names: &[String],
+        place: usize,
+    ) -> Result<Option<Vec<u8>>, AllocError> {
+        Ok(match names.get(place) {
+            Some(name) => Some(bytes_in(&self.files, name.as_str()).to_vec(alloc)?),
+            None => None,
+        })
+    }
+
+    /// Keeps what stands on the images of a line, the first one first, and tells which of them it wrote to.
+    fn keep(
+        &mut self,
+        alloc: Global,
+        names: Vec<String>,
+        left: Vec<Vec<u8>>,
+    ) -> Result<String, AllocError> {
+        let mut written = String::new(alloc);
+        for (name, image) in names.into_iter().zip(left) {
+            if bytes_in(&self.files, name.as_str()) != image.as_slice() {
+                if !written.is_empty() {
+                    written.push_str(" and ")?;
+                }
+                written.push_str(name.as_str())?;
+            }
+            self.files.insert(name, image)?;
+        }
+        Ok(written)
     }
 
     /// Does a line of `zst`.
@@ -216,20 +273,24 @@ impl Session {
         ask: &Option<Ask>,
     ) -> Result<Handed, AllocError> {
         let Handed { bytes, mut notes } = handed;
-        let Some((line, name)) = self.line_of(alloc, words, bytes, pieces)? else {
+        let Some(names) = self.images_of(alloc, &words)? else {
             notes.push_str(CANNOT_OPEN)?;
             let bytes = Vec::new(alloc);
             return Ok(Handed { bytes, notes });
         };
+        let line = Line {
+            words,
+            image: self.image_at(alloc, &names, 0)?,
+            other: self.image_at(alloc, &names, 1)?,
+            input: bytes,
+            pieces,
+        };
         let mut answer = done(alloc, &line, failing_of(ask))?;
         let left = left_of(alloc, &mut answer, ask)?;
-        let is_written = line.image.as_ref() != Some(&left);
+        let written = self.keep(alloc, names, left)?;
         add_note(alloc, &mut notes, &mut answer, ask)?;
-        add_status(alloc, &mut notes, &answer, &name, is_written)?;
+        add_status(alloc, &mut notes, &answer, written.as_str())?;
         add_asked(alloc, &mut notes, &line, ask, &mut answer)?;
-        if let Some(name) = name {
-            self.files.insert(name, left)?;
-        }
         let bytes = answer.out;
         Ok(Handed { bytes, notes })
     }
@@ -243,12 +304,19 @@ fn failing_of(ask: &Option<Ask>) -> Option<Failing> {
     }
 }
 
-/// What the disk holds behind a line.
-fn left_of(alloc: Global, answer: &mut Answer, ask: &Option<Ask>) -> Result<Vec<u8>, AllocError> {
-    match ask {
-        Some(Ask::Stops { number, fill }) => answer.stopped(alloc, *number, *fill),
-        _ => answer.image(alloc),
-    }
+/// What the disks hold behind a line.
+fn left_of(
+    alloc: Global,
+    answer: &mut Answer,
+    ask: &Option<Ask>,
+) -> Result<Vec<Vec<u8>>, AllocError> {
+    let mut left = Vec::new(alloc);
+    left.push(match ask {
+        Some(Ask::Stops { number, fill }) => answer.here.stopped(alloc, *number, *fill)?,
+        _ => answer.image(alloc, Side::Here)?,
+    })?;
+    left.push(answer.image(alloc, Side::There)?)?;
+    Ok(left)
 }
 
 /// Tells what goes to standard error. A line whose disk stopped says nothing but that.
@@ -305,22 +373,28 @@ fn piece_of(stage: Option<&Stage>) -> usize {
     }
 }
 
-/// Tells a status other than 0, and that an image was written to by a line that isn't told as done.
+/// Whether a line is told as done, so that nothing need be said of what it wrote.
+fn is_told(answer: &Answer) -> bool {
+    answer.out.starts_with(b"ok ")
+        || answer.out.starts_with(b"received ")
+        || answer.out.starts_with(b"gen ")
+}
+
+/// Tells a status other than 0, and the images that were written to by a line that isn't told as done.
 fn add_status(
     alloc: Global,
     notes: &mut String,
     answer: &Answer,
-    name: &Option<String>,
-    is_written: bool,
+    written: &str,
 ) -> Result<(), AllocError> {
-    let is_told = answer.out.starts_with(b"ok ") || answer.out.starts_with(b"received ");
     let status = answer.status;
-    let text = match name {
-        Some(name) if is_written && !is_told => format!(in alloc;
-            "(status {status}, {name} was written to)\n"
-        )?,
-        _ if status > 0 => format!(in alloc; "(status {status})\n")?,
-        _ => String::new(alloc),
+    let were = if written.contains(" ") { "were" } else { "was" };
+    let text = if !written.is_empty() && !is_told(answer) {
+        format!(in alloc; "(status {status}, {written} {were} written to)\n")?
+    } else if status > 0 {
+        format!(in alloc; "(status {status})\n")?
+    } else {
+        String::new(alloc)
     };
     notes.push_str(text.as_str())
 }
@@ -335,8 +409,8 @@ fn add_asked(
 ) -> Result<(), AllocError> {
     let text = match ask {
         Some(Ask::Each(trial)) => tried(alloc, line, trial, answer)?,
-        Some(Ask::AtMostCalls(most)) => bounded(alloc, answer.calls, *most, "calls")?,
-        Some(Ask::AtMostReads(most)) => bounded(alloc, answer.reads() as u64, *most, "reads")?,
+        Some(Ask::AtMostCalls(most)) => bounded(alloc, answer.here.calls, *most, "calls")?,
+        Some(Ask::AtMostReads(most)) => bounded(alloc, answer.here.reads() as u64, *most, "reads")?,
         _ => String::new(alloc),
     };
     notes.push_str(text.as_str())

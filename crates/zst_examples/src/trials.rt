@@ -1,12 +1,13 @@
 // A line that is done over and over, each time with something else done to it.
 
-use crate::calls::{Answer, End, Failing, Line, done};
+use crate::calls::{Answer, End, Failing, Line, Side, done};
 use crate::counts::Counts;
 use crate::damage::damage_label;
 use crate::labels::label_of;
 use crate::places::bytes_of;
 use crate::pools::{Ends, Standing};
 use crate::remnants::left_each_way;
+use crate::replays::replayed;
 use std::alloc::{AllocError, Global};
 
 /// The most times that a line is tried.
@@ -15,9 +16,12 @@ const TRIES: u64 = 1 << 20;
 /// What is done to a line, each time at another place.
 #[derive(Drop)]
 pub(crate) enum Trial {
-    /// The disk stops before a call, and what wasn't synced is filled with each of these bytes.
-    DiskStops(Vec<u8>),
-    /// The disk stops before a call, and each range that wasn't synced is left in each way.
+    /// A disk stops before a call, and what wasn't synced is filled with each of these bytes.
+    DiskStops {
+        side: Side,
+        fills: Vec<u8>,
+    },
+    /// The first disk stops before a call, and each range that wasn't synced is left in each way.
     DiskStopsEachWay,
     /// A call of an end fails, and then the disk stops as well, and what wasn't synced is filled with each of these bytes.
     Fails {
@@ -91,7 +95,10 @@ pub(crate) fn ask_of(alloc: Global, text: &str) -> Result<Option<Ask>, AllocErro
         return Ok(bits.map(|bits| Ask::Each(Trial::Turned(bits))));
     }
     if let Some(words) = text.strip_prefix("each disk call ") {
-        return each_call(alloc, words);
+        return each_call(alloc, words, Side::Here);
+    }
+    if let Some(words) = text.strip_prefix("each second disk call ") {
+        return each_call(alloc, words, Side::There);
     }
     Ok(match text {
         "each read fails" => Some(each_fails(alloc, End::Input)),
@@ -112,15 +119,18 @@ fn each_fails(alloc: Global, end: End) -> Ask {
     })
 }
 
-/// The same for each call of the disk.
-fn each_call(alloc: Global, words: &str) -> Result<Option<Ask>, AllocError> {
+/// The same for each call of a disk.
+fn each_call(alloc: Global, words: &str, side: Side) -> Result<Option<Ask>, AllocError> {
     if words == "stops each way" {
         return Ok(Some(Ask::Each(Trial::DiskStopsEachWay)));
     }
     Ok(match words.split_once(' ') {
-        Some(("stops", fills)) => Some(Ask::Each(Trial::DiskStops(fills_of(alloc, fills)?))),
+        Some(("stops", fills)) => {
+            let fills = fills_of(alloc, fills)?;
+            Some(Ask::Each(Trial::DiskStops { side, fills }))
+        }
         Some(("fails", fills)) => Some(Ask::Each(Trial::Fails {
-            end: End::Disk,
+            end: End::Disk(side),
             fills: fills_of(alloc, fills)?,
         })),
         _ => None,
@@ -140,14 +150,15 @@ fn at_most(words: &str) -> Option<Ask> {
 
 /// The same for one call.
 fn one_of(text: &str) -> Option<Ask> {
-    let (what, rest) = match text.strip_prefix("disk call ") {
-        Some(rest) => ("disk", rest),
+    let (what, rest) = match text.split_once("disk call ") {
+        Some((which, rest)) => (which, rest),
         None => text.split_once(' ')?,
     };
     let (number, does) = rest.split_once(' ')?;
     let number = number.parse::<u64>().ok()?;
     let end = match what {
-        "disk" => End::Disk,
+        "" => End::Disk(Side::Here),
+        "second " => End::Disk(Side::There),
         "read" => End::Input,
         "write" => End::Output,
         "note" => End::Note,
@@ -165,9 +176,9 @@ impl Trial {
     /// What there is one of for each try.
     fn places(&self) -> &'static str {
         match self {
-            Trial::DiskStops(_) | Trial::DiskStopsEachWay => "stops",
+            Trial::DiskStops { .. } | Trial::DiskStopsEachWay => "stops",
             Trial::Fails { end, .. } => match end {
-                End::Disk => "calls",
+                End::Disk(_) => "calls",
                 End::Input => "reads",
                 End::Output | End::Note => "writes",
             },
@@ -178,6 +189,17 @@ impl Trial {
     }
 }
 
+/// The pools before and after a line that names one image.
+fn ends_of(alloc: Global, line: &Line, whole: &mut Answer) -> Result<Option<Ends>, AllocError> {
+    Ok(match (&line.image, &line.other) {
+        (Some(before), None) => {
+            let after = whole.image(alloc, Side::Here)?;
+            Some(Ends::new(alloc, before.to_vec(alloc)?, after)?)
+        }
+        _ => None,
+    })
+}
+
 /// Tries a line at each place, and tells what came of it.
 pub(crate) fn tried(
     alloc: Global,
@@ -185,10 +207,10 @@ pub(crate) fn tried(
     trial: &Trial,
     whole: &mut Answer,
 ) -> Result<String, AllocError> {
-    let ends = match &line.image {
-        Some(before) => Some(Ends::new(alloc, before.to_vec(alloc)?, whole.image(alloc)?)?),
-        None => None,
-    };
+    if let Some(told) = replayed(alloc, line, trial, whole)? {
+        return Ok(told);
+    }
+    let ends = ends_of(alloc, line, whole)?;
     if let (Trial::DiskStopsEachWay, Some(ends)) = (trial, &ends) {
         return left_each_way(alloc, whole, ends);
     }
@@ -212,7 +234,7 @@ fn one_try(
     number: u64,
 ) -> Result<Option<String>, AllocError> {
     match trial {
-        Trial::DiskStops(fills) => stopped(alloc, whole, ends, number, fills),
+        Trial::DiskStops { fills, .. } => stopped(alloc, whole, ends, number, fills),
         Trial::Fails { end, fills } => {
             let failing = Failing { end: *end, number };
             failed(alloc, line, whole, ends, failing, fills)
@@ -243,7 +265,7 @@ fn standing_of(
     let mut standing = Standing::none();
     if let Some(ends) = ends {
         for fill in fills {
-            let image = found.stopped(alloc, number, *fill)?;
+            let image = found.here.stopped(alloc, number, *fill)?;
             standing = standing.or(ends.standing(alloc, &image)?);
         }
     }
@@ -257,7 +279,7 @@ fn stopped(
     number: u64,
     fills: &[u8],
 ) -> Result<Option<String>, AllocError> {
-    if number > whole.calls {
+    if number > whole.here.calls {
         return Ok(None);
     }
     let mut label = String::new(alloc);
@@ -279,9 +301,9 @@ fn failed(
         return Ok(None);
     }
     let mut label = label_of(alloc, whole, &found, failing.number, line)?;
-    let mut standing = standing_of(alloc, &found, ends, found.calls, fills)?;
+    let mut standing = standing_of(alloc, &found, ends, found.here.calls, fills)?;
     if let Some(ends) = ends {
-        let image = found.image(alloc)?;
+        let image = found.image(alloc, Side::Here)?;
         standing = standing.or(ends.standing(alloc, &image)?);
     }
     standing.add_to(&mut label)?;
@@ -314,7 +336,7 @@ fn noted(
     };
     let mut label = String::from_str(alloc, told)?;
     if let Some(ends) = ends {
-        let image = found.image(alloc)?;
+        let image = found.image(alloc, Side::Here)?;
         ends.standing(alloc, &image)?.add_to(&mut label)?;
     }
     Ok(Some(label))
@@ -347,7 +369,7 @@ fn given(
     let mut found = done(alloc, &line, None)?;
     let mut label = label_of(alloc, whole, &found, number, &line)?;
     if let Some(ends) = ends {
-        let image = found.image(alloc)?;
+        let image = found.image(alloc, Side::Here)?;
         ends.standing(alloc, &image)?.add_to(&mut label)?;
     }
     Ok(Some(label))
