@@ -1,5 +1,5 @@
 -- What a read and a write do, and one call after another.
-use Rattle.std.proofs.Common.{◌≡◌, ◌⊎◌, inl, inr, ℕ, ◌+◌, ◌<◌, ◌≤◌, ◌||◌, Bool, true, false, refl, sym, ◌∙◌, subst, ap, arith}
+use Rattle.std.proofs.Common.{◌≡◌, inl, inr, ℕ, ◌+◌, ◌<◌, ◌≤◌, ◌||◌, Bool, true, false, refl, sym, ◌∙◌, subst, ap, arith}
 use Rattle.std.specs.Prelude.{Option, Some, None, Result, Ok, Err, ◌↔◌}
 use Rattle.zst_outside.specs.Images.{OnlyReads}
 use Rattle.zst_space.specs.FreeSectors.{largest_of, room}
@@ -13,9 +13,9 @@ use Rattle.zst_block.specs.declared.fault.BlockFault.{BlockFault}
 use Rattle.zst_block.specs.declared.fault.BlockFault.TheVariants.{Full, Damaged, DiskFault}
 use Rattle.zst_block.specs.Faults.{is_disk_fault, HasDiskCause}
 use Rattle.zst_block.specs.IoStates.{IoState}
-use Rattle.zst_block.specs.IoCalls.{stop_of, fails, is_damage, HasCause, TakesAtMost, IsFull, Looks, Works}
+use Rattle.zst_block.specs.IoCalls.{stop_of, fails, is_damage, HasCause, IsBlockLength, TakesAtMost, IsFull, Looks, Works}
 use Rattle.zst_block.specs.declared.ptr.Ptr.{Ptr}
-use Rattle.zst_block.proofs.TakenSectors.{takes}
+use Rattle.zst_block.proofs.TakenSectors.{of_tree, takes, takes_more, takes_none, takes_then, takes_tree}
 
 or_false : (b : Bool) → (b || false) ≡ b
 or_false true = refl
@@ -28,12 +28,7 @@ HasCause-then before mid now stop later cause = record { later = omega (arith, l
 pub Works-then : {most more block : ℕ} {old mid new : IoState} {stop : Option BlockFault} → Works most block old mid None → Works more block mid new stop → Works (most + more) block old new stop
 Works-then {most} {more} {block} {old} {mid} {new} {stop} first second = record {
   fills = FillsFree-then old.disk mid.disk new.disk old.space mid.space new.space first.fills second.fills;
-  takes = record {
-    sectors = second.takes.sectors ∙ first.takes.sectors;
-    left = omega (arith, first.takes.left, second.takes.left);
-    longest = omega (arith, first.takes.longest, second.takes.longest);
-    unbroken = λ none. second.takes.unbroken (first.takes.unbroken none);
-  };
+  takes = takes_then old.space mid.space new.space first.takes second.takes;
   full = λ need largest is.
       let full = second.full need largest is in
       record { shorter = full.shorter; is_longest = full.is_longest; needed = full.needed; before = omega (arith, full.before, first.takes.longest) };
@@ -50,7 +45,7 @@ Works-after {more} {block} {old} {mid} {new} {stop} first second =
     let fills : FillsFree old.disk old.space mid.disk mid.space = subst (λ (s : FreeSectors). FillsFree old.disk old.space mid.disk s) (sym same) (FillsFree-reads old.disk mid.disk old.space first.reads) in
     record {
       fills = FillsFree-then old.disk mid.disk new.disk old.space mid.space new.space fills second.fills;
-      takes = subst (λ (s : FreeSectors). TakesAtMost more s new.space) same second.takes;
+      takes = subst (λ (s : FreeSectors). TakesAtMost more (IsBlockLength block) s new.space) same second.takes;
       full = subst (λ (s : FreeSectors). (need largest : ℕ) → stop ≡ Some (Full need largest) → IsFull more block s new.space need largest) same second.full;
       told = λ whole. second.told whole ∙ first.told refl;
       failed = second.failed ∙ ap (λ (b : Bool). b || fails stop) (first.failed ∙ or_false old.failed);
@@ -63,7 +58,7 @@ module _ {most block : ℕ} {old new : IoState} {stop : Option BlockFault} where
   pub Works-looks : Looks old new stop → Works most block old new stop
   Works-looks looks = record {
     fills = subst (λ (s : FreeSectors). FillsFree old.disk old.space new.disk s) (sym looks.space) (FillsFree-reads old.disk new.disk old.space looks.reads);
-    takes = subst (λ (s : FreeSectors). TakesAtMost most old.space s) (sym looks.space) (record { sectors = refl; left = omega arith; longest = omega arith; unbroken = λ none. none });
+    takes = subst (λ (s : FreeSectors). TakesAtMost most (IsBlockLength block) old.space s) (sym looks.space) (takes_none old.space);
     full = λ need largest is. absurd (looks.never_full need largest is);
     told = looks.told;
     failed = looks.failed;
@@ -73,9 +68,9 @@ module _ {most block : ℕ} {old new : IoState} {stop : Option BlockFault} where
 
   -- who takes fewer sectors takes no more
   pub Works-more : {fewer : ℕ} → fewer ≤ most → Works fewer block old new stop → Works most block old new stop
-  Works-more le works = record {
+  Works-more {fewer} le works = record {
     fills = works.fills;
-    takes = record { sectors = works.takes.sectors; left = omega (arith, works.takes.left, le); longest = omega (arith, works.takes.longest, le); unbroken = works.takes.unbroken };
+    takes = takes_more fewer most old.space new.space le works.takes;
     full = λ need largest is. let full = works.full need largest is in record { shorter = full.shorter; is_longest = full.is_longest; needed = full.needed; before = omega (arith, full.before, le) };
     told = works.told;
     failed = works.failed;
@@ -87,17 +82,13 @@ module _ {most block : ℕ} {old new : IoState} {stop : Option BlockFault} where
   pub Works-block : Works most 16 old new stop → Works most block old new stop
   Works-block works = record {
     fills = works.fills;
-    takes = works.takes;
-    full = λ need largest is. let full = works.full need largest is in record { shorter = full.shorter; is_longest = full.is_longest; needed = inl (only full.needed); before = full.before };
+    takes = takes_tree old.space new.space works.takes;
+    full = λ need largest is. let full = works.full need largest is in record { shorter = full.shorter; is_longest = full.is_longest; needed = inl (of_tree full.needed); before = full.before };
     told = works.told;
     failed = works.failed;
     cause = works.cause;
     same = works.same;
   }
-    where
-      only : {need : ℕ} → (need ≡ 16) ⊎ (need ≡ 16) → need ≡ 16
-      only (inl is) = is
-      only (inr is) = is
 
 -- a call that does nothing
 pub Looks-none : (io : IoState) → Looks io io None
@@ -161,7 +152,7 @@ pub Works-write : (count : ℕ) (old new : IoState) (result : Result Ptr BlockFa
     → Works count count old new (stop_of result)
 Works-write count old new result fills after untouched left full_is counts failed cause same = record {
   fills = fills;
-  takes = takes old.space new.space count after untouched left;
+  takes = takes {IsLength = IsBlockLength count} old.space new.space count (inr refl) after untouched left;
   full = λ need largest is.
       let full = (full_is need largest).0 (err_of result (Full need largest) is) in
       record { shorter = full.2; is_longest = full.1 ∙ ap largest_of (sym (untouched (omega (arith, full.0, full.1, full.2)))); needed = inr full.0; before = omega (arith, full.0, full.1, full.2) };

@@ -4,6 +4,7 @@ use Rattle.zst_outside.specs.Causes.{Rose, next_count}
 use Rattle.zst_outside.specs.Images.{OnlyReads}
 use Rattle.zst_fletcher.specs.WeightSum.{parts_of}
 use Rattle.zst_space.specs.FreeSectors.{FreeSectors, largest_of, room}
+use Rattle.zst_space.specs.TakenExtents.{TakenInTurn}
 use Rattle.zst_block.specs.Blocks.{FillsFree}
 use Rattle.zst_block.specs.IoStates.{IoState}
 use Rattle.zst_block.specs.ReadAnswers.{IsDamage}
@@ -42,18 +43,24 @@ pub record HasCause (before now : ℕ) (stop : Option BlockFault) : Type 0 where
   pub later : before ≤ now
   pub fault : stop ≡ Some DiskFault → Rose before now
 
--- so many sectors at most were taken, of all that are free and of the longest free extent alike; where no extents were free below the end, none are
-pub record TakesAtMost (count : ℕ) (old new : FreeSectors) : Type 0 where
+-- a block of a tree, of 16 sectors, or one of so many
+abbrev pub IsBlockLength : (block : ℕ) → ℕ → Type 0
+IsBlockLength block count = (count ≡ 16) ⊎ (count ≡ block)
+
+-- So many sectors at most were taken, of all that are free and of the longest free extent alike; where no extents were free below the end, none are. What is free now
+-- is what was free before less the blocks that were written since, each of such a length and where it first fits.
+pub record TakesAtMost (count : ℕ) (IsLength : ℕ → Type 0) (old new : FreeSectors) : Type 0 where
   pub sectors : new.sectors ≡ old.sectors
   pub left : room old ≤ room new + count
   pub longest : largest_of old ≤ largest_of new + count
   pub unbroken : old.free ≡ [] → new.free ≡ []
+  pub blocks : TakenInTurn IsLength old new
 
 -- What was to be written is a block of a tree, of 16 sectors, or one of so many: no free extent has as many now, and before the call none had all that the call may take.
 pub record IsFull (most block : ℕ) (old new : FreeSectors) (need largest : ℕ) : Type 0 where
   pub shorter : largest < need
   pub is_longest : largest ≡ largest_of new
-  pub needed : (need ≡ 16) ⊎ (need ≡ block)
+  pub needed : IsBlockLength block need
   pub before : largest_of old < most
 
 -- a call that reads
@@ -70,7 +77,7 @@ pub record Looks (old new : IoState) (stop : Option BlockFault) : Type 0 where
 -- a call that writes: it takes so many sectors at most, for blocks of 16 sectors or of so many
 pub record Works (most block : ℕ) (old new : IoState) (stop : Option BlockFault) : Type 0 where
   pub fills : FillsFree old.disk old.space new.disk new.space
-  pub takes : TakesAtMost most old.space new.space
+  pub takes : TakesAtMost most (IsBlockLength block) old.space new.space
   pub full : (need largest : ℕ) → stop ≡ Some (Full need largest) → IsFull most block old.space new.space need largest
   -- a block that is found damaged is told so
   pub told : is_damage stop ≡ false → new.checksum_errors ≡ old.checksum_errors

@@ -4,7 +4,7 @@ use Rattle.std.proofs.Common.{◌≡◌, ℕ, ◌+◌, ◌-◌, ◌≤◌, List,
 use Rattle.zst_space.specs.declared.space.Extent.{Extent}
 use Rattle.zst_space.specs.FreeSectors.{FreeSectors, room, total}
 use Rattle.zst_block.specs.Blocks.{FitsDisk}
-use Rattle.zst_block.specs.IoCalls.{IsFull, TakesAtMost}
+use Rattle.zst_block.specs.IoCalls.{IsBlockLength, IsFull, TakesAtMost}
 use Rattle.zst_block.specs.declared.fault.BlockFault.TheVariants as blocks
 use Rattle.zst_dir.specs.Rows.{Rows}
 use Rattle.zst_dir.specs.Spelling.{dir_bytes}
@@ -18,12 +18,12 @@ use Rattle.zst_image.specs.declared.commit_fault.CommitFault.TheVariants.{Full, 
 room_behind : (space : FreeSectors) → space.free ≡ [] → room space ≡ space.sectors - space.end
 room_behind space none = let empty : total space.free ≡ 0 = ap (λ (l : List Extent). total l) none in omega (arith, empty)
 
-pub end_bounded : (most size : ℕ) (old new : FreeSectors) → old.free ≡ [] → TakesAtMost most old new → FitsDisk size new → new.end ≤ old.end + most
+pub end_bounded : {IsLength : ℕ → Type 0} → (most size : ℕ) (old new : FreeSectors) → old.free ≡ [] → TakesAtMost most IsLength old new → FitsDisk size new → new.end ≤ old.end + most
 end_bounded most size old new none takes fits =
     omega (arith, room_behind old none, room_behind new (takes.unbroken none), takes.left, takes.sectors, fits.extents.end)
 
 -- and what is taken moves the end
-pub end_moved : (taken most : ℕ) (old new : FreeSectors) → old.free ≡ [] → TakesAtMost most old new → new.end ≤ new.sectors → room new + taken ≡ room old → taken + old.end ≤ old.sectors → new.end ≡ old.end + taken
+pub end_moved : {IsLength : ℕ → Type 0} → (taken most : ℕ) (old new : FreeSectors) → old.free ≡ [] → TakesAtMost most IsLength old new → new.end ≤ new.sectors → room new + taken ≡ room old → taken + old.end ≤ old.sectors → new.end ≡ old.end + taken
 end_moved taken most old new none takes inside took enough =
     omega (arith, room_behind old none, room_behind new (takes.unbroken none), took, takes.sectors, inside, enough)
 
@@ -31,7 +31,7 @@ IsDirFull-written : (rows : Rows) (old new : FreeSectors) (need largest : ℕ) �
 IsDirFull-written rows old new need largest full = record { shorter = full.shorter; needed = ⊎_elim (λ node. node) (λ leaf. leaf) full.needed; is_longest = full.is_longest; before = full.before }
 
 -- where the directory wasn't written, the commit takes what that took
-pub takes-refused : (rows : Rows) (old new : FreeSectors) (fault : CommitFault) → TakesAtMost (dir_sectors (length (dir_bytes rows))) old new
+pub takes-refused : (rows : Rows) (old new : FreeSectors) (fault : CommitFault) → TakesAtMost (dir_sectors (length (dir_bytes rows))) (IsBlockLength 16) old new
     → ((need largest : ℕ) → stop_of_commit {T = Rows} (Err fault) ≡ Some (blocks.Full need largest) → IsFull (dir_sectors (length (dir_bytes rows))) 16 old new need largest) → TakesForDir rows old new (Err fault)
 takes-refused rows old new (Full need largest) takes full = record {
   takes = takes;

@@ -3,7 +3,7 @@ ghost use Rattle.std.specs.Prelude.{◌≡◌, ◌+◌, ◌*◌, ◌/◌, ◌^�
 ghost use Rattle.zst_space.specs.FreeSectors.{room};
 ghost use Rattle.zst_block.specs.IoCalls.{Works, stop_of};
 ghost use Rattle.zst_block.specs.IoStates.{blocks_of, disk_of, io_of};
-ghost use Rattle.zst_leaves.specs.Leaves.{IsLeaf, IsOver, LeavesBelow, Numbered, blocks_for, bytes_below, leaves_for};
+ghost use Rattle.zst_leaves.specs.Leaves.{IsLeaf, IsLeast, IsOver, LeavesBelow, Numbered, blocks_for, bytes_below, leaves_for};
 ghost use Rattle.zst_leaves.specs.WrittenLeaves.{WritesBlocks, WritesLeaves};
 ghost use Rattle.zst_leaves.specs.declared.sizes.TheConstants.{MOST_BYTES};
 
@@ -78,6 +78,8 @@ pub fn write_leaves<D: Disk>(
     // Free sectors alone are written: 16 for each leaf and for each node above.
     ensures works { Works (16 * (leaves_for (length bytes.now) + leaves_for (length bytes.now) / 127 + 3)) 16 (io_of io.old) (io_of io.new) (stop_of result) }
     ensures two_levels { length bytes.now ≤ 8192 * 128 ^ 2 → Works (16 * (leaves_for (length bytes.now) + leaves_for (length bytes.now) / 128 + 3)) 16 (io_of io.old) (io_of io.new) (stop_of result) }
+    // By the levels that have room for the text, no more blocks than it has are written.
+    ensures exact { (levels : ℕ) → IsLeast levels (length bytes.now) → Works (16 * blocks_for levels (length bytes.now)) 16 (io_of io.old) (io_of io.new) (stop_of result) }
     ensures one_leaf { length bytes.now ≤ 8192 → OnOk result (room io.new.space + 16 ≡ room io.old.space) }
     ensures never_damaged { (sector : ℕ) (stated found : List ℕ) → ¬ (result ≡ Err (BlockFault.Damaged sector stated found)) }
     ensures calls { (disk_of io.new).calls ≤ (disk_of io.old).calls + (leaves_for (length bytes.now) + leaves_for (length bytes.now) / 127 + 3) }

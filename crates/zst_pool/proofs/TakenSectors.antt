@@ -6,10 +6,6 @@ use Rattle.zst_block.specs.IoCalls.{TakesAtMost}
 use Rattle.zst_uber.specs.declared.uber.Uber.{Uber}
 use Rattle.zst_image.specs.Reads.{free_by}
 
--- where nothing is done, nothing is taken
-pub taken_none : (count : ℕ) (space : FreeSectors) → TakesAtMost count space space
-taken_none count space = record { sectors = refl; left = omega arith; longest = omega arith; unbroken = λ none. none }
-
 -- where no extents are free below the end, the sectors behind it are the longest extent, and all that is left
 unbroken_longest : (space : FreeSectors) → space.free ≡ [] → largest_of space ≡ space.sectors - space.end
 unbroken_longest space none = ap (λ (free : List Extent). greatest free (space.sectors - space.end)) none
@@ -17,7 +13,7 @@ unbroken_longest space none = ap (λ (free : List Extent). greatest free (space.
 unbroken_room : (space : FreeSectors) → space.free ≡ [] → total space.free ≡ 0
 unbroken_room space none = ap (λ (free : List Extent). total free) none
 
-module _ (uber : Uber) (left : FreeSectors) {most : ℕ} (takes : TakesAtMost most (free_by uber) left) where
+module _ (uber : Uber) (left : FreeSectors) {most : ℕ} {IsLength : ℕ → Type 0} (takes : TakesAtMost most IsLength (free_by uber) left) where
   -- of what is free by a body, as much at most is left as was free
   pub was_free : ((sector : ℕ) → IsFree left sector → IsFree (free_by uber) sector) → largest_of left ≤ uber.sectors - uber.end
   was_free fewer =

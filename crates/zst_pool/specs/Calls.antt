@@ -3,7 +3,7 @@ use Rattle.std.specs.Prelude.{◌≡◌, ◌⊎◌, ◌+◌, ◌<◌, ◌≤◌,
 use Rattle.zst_outside.specs.Images.{DiskState, Leaves}
 use Rattle.zst_space.specs.FreeSectors.{FreeSectors, largest_of}
 use Rattle.zst_block.specs.Blocks.{FillsFree, FitsDisk, Has}
-use Rattle.zst_block.specs.IoCalls.{TakesAtMost}
+use Rattle.zst_block.specs.IoCalls.{IsBlockLength, TakesAtMost}
 use Rattle.zst_uber.specs.declared.uber.Uber.{Uber}
 use Rattle.zst_model.specs.declared.refusals.faults.Quantity.{Quantity}
 use Rattle.zst_model.specs.declared.refusals.plan_fault.PlanFault.TheVariants.{Limit}
@@ -80,9 +80,9 @@ abbrev pub keeping : PoolState → Result ℕ PoolFault → Result PoolState Poo
 keeping kept (Ok number) = Ok kept
 keeping kept (Err fault) = Err fault
 
--- E24 of a call: the 16 sectors of a block of a directory are longer than the longest extent of those that are left then; at most so many were taken as a directory with 2,048 bytes more takes, and before it no free extent had as many
+-- E24 of a call: the 16 sectors of a block of a directory are longer than the longest extent of those that are left then, which are those before less blocks of it that were written; at most so many were taken as a directory with 2,048 bytes more takes, and before it no free extent had as many
 pub record IsCallFull (space left : FreeSectors) (rows : Rows) (need largest : ℕ) : Type 0 where
-  pub taken : TakesAtMost (dir_sectors (length (dir_bytes rows) + 2048)) space left
+  pub taken : TakesAtMost (dir_sectors (length (dir_bytes rows) + 2048)) (IsBlockLength 16) space left
   pub shorter : largest < need
   pub needed : need ≡ 16
   pub is_longest : largest ≡ largest_of left

@@ -13,7 +13,7 @@ use Rattle.zst_model.specs.declared.refusals.refusal.Refusal.{Refusal}
 use Rattle.zst_dir.specs.RowNames.{AreNamed}
 use Rattle.zst_dir.specs.Rows.{Rows}
 use Rattle.zst_dir.specs.Spelling.{dir_bytes}
-use Rattle.zst_block.specs.IoCalls.{TakesAtMost}
+use Rattle.zst_block.specs.IoCalls.{IsBlockLength, TakesAtMost}
 use Rattle.zst_list.specs.StoredLists.{list_sectors}
 use Rattle.zst_image.specs.Reads.{dir_sectors, free_by}
 use Rattle.zst_pool.specs.Redactions.{left_of}
@@ -97,11 +97,11 @@ cost_of (commands.ListObjects name) = cells_only 0
 abbrev pub most_sectors : (cells block list : ℕ) → Rows → ℕ
 most_sectors cells block list rows = block + list + 640 * cells + dir_sectors (length (dir_bytes rows) + 1024)
 
--- E24: what is to be written, a block of a tree or of a list, or the data, is longer than the longest extent of the sectors that are left then, which were free before; and before, fewer sectors were free than the event takes at most
+-- E24: what is to be written, a block of a tree or of a list, or the data, is longer than the longest extent of the sectors that are left then, which are those that were free before less the blocks that the event wrote; and before, fewer sectors were free than the event takes at most
 pub record HasNoRoom (cells block list : ℕ) (uber : Uber) (rows : Rows) (left : FreeSectors) (need largest : ℕ) : Type 0 where
-  pub taken : TakesAtMost (most_sectors cells block list rows) (free_by uber) left
+  pub taken : TakesAtMost (most_sectors cells block list rows) (IsBlockLength block) (free_by uber) left
   pub shorter : largest < need
-  pub needed : (need ≡ 16) ⊎ (need ≡ block)
+  pub needed : IsBlockLength block need
   pub is_longest : largest ≡ largest_of left
   pub was_free : largest ≤ uber.sectors - uber.end
   pub room : uber.sectors - uber.end < most_sectors cells block list rows

@@ -2,7 +2,7 @@
 ghost use Rattle.std.specs.Prelude.{◌≡◌, ◌+◌, ◌<◌, ℕ, false, filter, length, not, IfErr, IfOk, OnErr, Err, Bool};
 ghost use Rattle.zst_block.specs.Blocks.{FitsDisk, KeepsBlocks, SparesTaken};
 ghost use Rattle.zst_block.specs.IoStates.{IsHonest, blocks_of, disk_of, io_of};
-ghost use Rattle.zst_block.specs.IoCalls.{TakesAtMost};
+ghost use Rattle.zst_block.specs.IoCalls.{IsBlockLength, TakesAtMost};
 ghost use Rattle.zst_model.specs.pools.Pool.{Pool as Plain};
 ghost use Rattle.zst_model.specs.pools.KeptPool.{kept_of};
 ghost use Rattle.zst_dir.specs.Rows.{is_unkept_for};
@@ -38,7 +38,7 @@ pub fn commit_next<D: Disk>(
     ensures next { IfOk result (FollowsBy io.old.space kept.now dir) }
     ensures known { IfErr result IsCallFault }
     ensures full { (need largest : ℕ) → result ≡ Err (PoolFault.Full need largest) → IsDirFull io.old.space io.new.space dir need largest }
-    ensures takes { TakesAtMost (dir_sectors (length (dir_bytes dir))) io.old.space io.new.space }
+    ensures takes { TakesAtMost (dir_sectors (length (dir_bytes dir))) (IsBlockLength 16) io.old.space io.new.space }
     // The blocks that were there still are, over the sectors that the new body leaves free.
     ensures blocks { IfOk result (λ next. KeepsBlocks (disk_of io.old).seen io.old.space (disk_of io.new).seen (free_by next.body)) }
     // A refusal, but for that of the disk, wrote into free sectors alone.

@@ -8,7 +8,7 @@ use Rattle.zst_block.specs.IoCalls.{TakesAtMost, Works}
 use Rattle.zst_block.specs.IoStates.{IoState}
 use Rattle.zst_block.specs.declared.fault.BlockFault.{BlockFault}
 use Rattle.zst_block.specs.declared.fault.BlockFault.TheVariants as blocks
-use Rattle.zst_block.proofs.TakenSectors.{takes_more, takes_then}
+use Rattle.zst_block.proofs.TakenSectors.{of_tree, takes_more, takes_none, takes_then, takes_wider}
 use Rattle.zst_image.specs.Reads.{free_by}
 use Rattle.zst_image.specs.declared.pool_state.PoolState.{PoolState}
 use Rattle.zst_objset.specs.declared.fault.ObjFault.{ObjFault}
@@ -49,7 +49,7 @@ needed_before need (c ∷ records) more (inr is) = inr (needed_before need recor
 -- nothing
 pub spends_idle : (records : List Covered) (space : FreeSectors) (stop : Option BlockFault) → stop ≡ None → Spends records space space stop
 spends_idle records space stop none = record {
-  takes = record { sectors = refl; left = omega arith; longest = omega arith; unbroken = λ free. free };
+  takes = takes_none space;
   before = λ need largest is. absurd (let both = sym none ∙ is in cc);
   needed = λ need largest is. absurd (let both = sym none ∙ is in cc);
 }
@@ -57,7 +57,7 @@ spends_idle records space stop none = record {
 -- by one record that was applied
 pub spends_one : (c : Covered) {old new : IoState} {stop : Option BlockFault} → Works (record_cost c.head) (record_block c.head) old new stop → Spends (c ∷ []) old.space new.space stop
 spends_one c {old} {new} works = record {
-  takes = takes_more (record_cost c.head) (records_cost (c ∷ [])) old.space new.space (omega arith) works.takes;
+  takes = takes_more (record_cost c.head) (records_cost (c ∷ [])) old.space new.space (omega arith) (takes_wider old.space new.space either works.takes);
   before = λ need largest is. let full = works.full need largest is in omega (arith, full.before);
   needed = λ need largest is. either need (let full = works.full need largest is in full.needed);
 }
@@ -71,7 +71,8 @@ pub spends_then : (records more : List Covered) (old mid new : FreeSectors) (sto
 spends_then records more old mid new stop first second =
     let all = sum_by-append (λ (c : Covered). record_cost c.head) records more in
     record {
-      takes = takes_more (records_cost records + records_cost more) (records_cost (records ++ more)) old new (omega (arith, all)) (takes_then old mid new first.takes second.takes);
+      takes = takes_more (records_cost records + records_cost more) (records_cost (records ++ more)) old new (omega (arith, all))
+          (takes_then old mid new (takes_wider old mid (λ count is. needed_before count records more is) first.takes) (takes_wider mid new (λ count is. needed_behind count records more is) second.takes));
       before = λ need largest is. omega (arith, all, second.before need largest is, first.takes.longest);
       needed = λ need largest is. needed_behind need records more (second.needed need largest is);
     }
@@ -81,7 +82,7 @@ spends_front : (records more : List Covered) (old new : FreeSectors) (stop : Opt
 spends_front records more old new stop spends =
     let all = sum_by-append (λ (c : Covered). record_cost c.head) records more in
     record {
-      takes = takes_more (records_cost records) (records_cost (records ++ more)) old new (omega (arith, all)) spends.takes;
+      takes = takes_more (records_cost records) (records_cost (records ++ more)) old new (omega (arith, all)) (takes_wider old new (λ count is. needed_before count records more is) spends.takes);
       before = λ need largest is. omega (arith, all, spends.before need largest is);
       needed = λ need largest is. needed_before need records more (spends.needed need largest is);
     }
@@ -144,7 +145,7 @@ short_read records kept left stop need largest is shorter longest spends = recor
 pub short_put : (records : List Covered) (kept : PoolState) (mid left : FreeSectors) (stop : Option BlockFault) (need largest : ℕ) → Spends records (free_by kept.body) mid stop
     → IsCallFull mid left kept.dir need largest → PieceIsShort records kept left need largest
 short_put records kept mid left stop need largest spends full = record {
-  taken = takes_then (free_by kept.body) mid left spends.takes full.taken;
+  taken = takes_then (free_by kept.body) mid left spends.takes (takes_wider mid left (λ count is. needed_none count records (of_tree is)) full.taken);
   shorter = full.shorter;
   needed = needed_none need records full.needed;
   is_longest = full.is_longest;
@@ -162,7 +163,7 @@ full_keeps_none fault need largest keeps is = let none : keeps_before fault ≡ 
 -- ---- what is committed
 
 -- without extents below the end, that came no further than the records cost
-pub ends_within : (records : List Covered) (kept : PoolState) (space : FreeSectors) → TakesAtMost (records_cost records) (free_by kept.body) space → space.end ≤ space.sectors
+pub ends_within : {IsLength : ℕ → Type 0} → (records : List Covered) (kept : PoolState) (space : FreeSectors) → TakesAtMost (records_cost records) IsLength (free_by kept.body) space → space.end ≤ space.sectors
     → (space.free ≡ []) × (space.end ≤ kept.body.end + records_cost records)
 ends_within records kept space takes within =
     let none : space.free ≡ [] = takes.unbroken refl in
@@ -170,7 +171,7 @@ ends_within records kept space takes within =
     (none, omega (arith, takes.left, takes.sectors, nothing, within))
 
 -- a commit behind the records, or none
-pub piece_grows : (records : List Covered) (kept after : PoolState) (space : FreeSectors) → TakesAtMost (records_cost records) (free_by kept.body) space → space.end ≤ space.sectors
+pub piece_grows : {IsLength : ℕ → Type 0} → (records : List Covered) (kept after : PoolState) (space : FreeSectors) → TakesAtMost (records_cost records) IsLength (free_by kept.body) space → space.end ≤ space.sectors
     → (after ≡ kept) ⊎ CallGrows space kept after → PieceGrows records kept after
 piece_grows records kept after space takes within (inl same) = subst (PieceGrows records kept) (sym same) (record { directory = omega arith; sectors = refl; end = omega arith })
 piece_grows records kept after space takes within (inr grows) =

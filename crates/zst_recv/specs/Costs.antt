@@ -35,14 +35,14 @@ IsNeeded need (c ∷ rest) = (need ≡ record_block c.head) ⊎ IsNeeded need re
 
 -- These records took no more sectors than they cost. One found no room only where before them no free extent had as many sectors.
 pub record Spends (records : List Covered) (old new : FreeSectors) (stop : Option BlockFault) : Type 0 where
-  pub takes : TakesAtMost (records_cost records) old new
+  pub takes : TakesAtMost (records_cost records) (λ count. IsNeeded count records) old new
   pub before : (need largest : ℕ) → stop ≡ Some (Full need largest) → largest_of old < records_cost records
   pub needed : (need largest : ℕ) → stop ≡ Some (Full need largest) → IsNeeded need records
 
 -- E24 of a piece that covers these records, in a pool of this body and directory: what is to be written is longer than the longest extent of the sectors
--- that are left then; and before the piece, fewer sectors were free than it costs
+-- that are left then, which are those that the body leaves free less the blocks that the piece wrote; and before the piece, fewer sectors were free than it costs
 pub record PieceIsShort (records : List Covered) (kept : PoolState) (left : FreeSectors) (need largest : ℕ) : Type 0 where
-  pub taken : TakesAtMost (piece_cost records kept.dir) (free_by kept.body) left
+  pub taken : TakesAtMost (piece_cost records kept.dir) (λ count. IsNeeded count records) (free_by kept.body) left
   pub shorter : largest < need
   pub needed : IsNeeded need records
   pub is_longest : largest ≡ largest_of left

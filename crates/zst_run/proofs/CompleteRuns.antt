@@ -118,7 +118,7 @@ receives_complete here here' tight ask uber rows pool text input input' out out'
     let went = run.does in
     let found = of_front text input input' went.pieces went.are_pieces went.consumed has in
     let short : (need largest : ℕ) → run.answer ≡ Err (refusals.Full need largest) → ⊥ =
-    λ need largest full. let costs = went.cost honest need largest full in room costs.0 costs.1 went.pieces costs.2 found.1 costs.3 in
+    λ need largest full. let costs = went.cost honest need largest full in room costs.0 costs.1 went.pieces costs.2 found.1 costs.3.cost in
     let ends = went.ends tight uber rows pool honest reads tells in
     answer_done out out' run.answer result sink
     (λ refusal is. refusal_done tight ask pool text went.pieces here here' input input' has found.0 takes.whole (takes.accepts went.pieces found.1) within disk source refusal

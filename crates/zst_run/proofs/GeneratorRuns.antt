@@ -1,12 +1,13 @@
 -- The commands that make content, one after another on a pool that runs.
 use Rattle.std.specs.Prelude.{Some, Result, Ok, Err}
 use Rattle.std.specs.List.{slice_get}
-use Rattle.std.proofs.Common.{◌≡◌, ◌≢◌, inl, inr, ℕ, zero, suc, ◌+◌, ◌<◌, ◌≤◌, Bool, false, ◌||◌, List, [], ◌∷◌, length, take, refl, sym, ap, ◌∙◌, arith}
+use Rattle.std.proofs.Common.{◌≡◌, ◌≢◌, inl, inr, ℕ, zero, suc, ◌+◌, ◌<◌, ◌≤◌, Bool, false, ◌||◌, List, [], ◌∷◌, length, take, refl, sym, ap, subst, ◌∙◌, arith}
 use Rattle.std.proofs.lemmas.List.{take_all}
 use Rattle.zst_outside.specs.Causes.{Rose-earlier}
 use Rattle.zst_outside.specs.Images.{DiskState, Leaves, Leaves-none, Leaves-then, Leaves-weaker}
 use Rattle.zst_outside.specs.declared.disk.Disk.{Ghosts}
-use Rattle.zst_block.specs.IoStates.{disk_of, io_of}
+use Rattle.zst_space.specs.FreeSectors.{FreeSectors}
+use Rattle.zst_block.specs.IoStates.{IsHonest, disk_of, io_of}
 use Rattle.zst_model.specs.declared.pools.command.Command.{Command}
 use Rattle.zst_model.specs.declared.refusals.refusal.Refusal.{Refusal}
 use Rattle.zst_model.specs.declared.refusals.refusal.Refusal.TheVariants as refusals
@@ -18,13 +19,15 @@ use Rattle.zst_gen.specs.Generated.{generated}
 use Rattle.zst_image.specs.Commits.{Ready}
 use Rattle.zst_image.specs.declared.pool_state.PoolState.{PoolState}
 use Rattle.zst_pool.specs.Calls.{IsAtRest}
+use Rattle.zst_pool.specs.Cost.{HasNoRoom, cost_of}
 use Rattle.zst_pool.specs.Events.{Settles, StepDid}
 use Rattle.zst_pool.specs.Faults.{HasDiskCause, StepFault, pool_refusal}
 use Rattle.zst_pool.specs.StepAnswers.{BeforeOrAfter, StepAnswer}
+use Rattle.zst_pool.proofs.PoolsAtRest.{rest_plain}
 use Rattle.zst_pool.specs.declared.fault.PoolFault.{PoolFault}
 use Rattle.zst_pool.specs.declared.fault.PoolFault.TheVariants as faults
 use Rattle.zst_pool.specs.declared.pool.Pool.{Pool as OpenedPool}
-use Rattle.zst_run.specs.Generating.{GenEnds, ReadsMade, StoppedAt, first_made, gen_line, stepped_all}
+use Rattle.zst_run.specs.Generating.{GenEnds, NextFindsNoRoom, ReadsMade, StoppedAt, first_made, gen_line, stepped_all}
 use Rattle.zst_run.specs.GeneratorTurns.{IsStepRefusal, NextDid, RunsAll, RunsNext, RunsOn}
 use Rattle.zst_run.proofs.CommandLemmas.{disk_fault, failed_before, full_only}
 use Rattle.zst_run.proofs.LaterDisks.{later_none, later_then}
@@ -85,21 +88,29 @@ module _ (now steps number : ℕ) (command : Command) (pool running : Pool) (at 
       abbrev stop : IsAtRest tight new kept running → StoppedAt tight now steps pool new
       stop rests = stopped now steps number pool running new kept less is rests
 
-      ends : (fault : PoolFault) → ((need largest : ℕ) → fault ≡ faults.Full need largest → largest < need) → StepFault (IsAtRest tight new kept running) (stepped [] now command running) fault
+      -- E24 comes only where there are too few sectors
+      abbrev LacksRoom : PoolFault → Type 0
+      LacksRoom fault = (need largest : ℕ) → fault ≡ faults.Full need largest
+          → (left : FreeSectors) × HasNoRoom (cost_of command).cells ((cost_of command).block running) ((cost_of command).list running) kept.body kept.dir left need largest
+
+      ends : (fault : PoolFault) → LacksRoom fault → StepFault (IsAtRest tight new kept running) (stepped [] now command running) fault
           → GenEnds tight now steps pool new (Err (pool_refusal fault))
       ends (faults.Plan fault) short did =
           plan_cases (λ f r. stepped [] now command running ≡ Err r → GenEnds tight now steps pool new (Err r)) (λ f e. (stop did.1, refused (refusals.Plan f) e)) (λ w n e. (stop did.1, refused (refusals.Limit w n) e))
           fault did.0
       ends (faults.CannotApply fault) short did = (stop did.1, refused (refusals.CannotApply 0 fault) did.0)
       ends (faults.Redacted object block) short did = (stop did.1, refused (refusals.Redacted object block) did.0)
-      ends (faults.Full need largest) short did = (stop did.1, short need largest refl, (did.0.0.pool, accepted did.0.0 did.0.1))
+      ends (faults.Full need largest) short did =
+          let found = short need largest refl in
+          let room : NextFindsNoRoom tight now steps number pool new need largest = record { command = command; is_next = at; running = running; is = is; kept = kept; rests = did.1; left = found.0; short = found.1 } in
+          (stop did.1, room, (did.0.0.pool, accepted did.0.0 did.0.1))
       ends (faults.Damaged sector stated found) short did = absurd did
       ends faults.DiskFault short did = tt
       ends faults.Failed short did = absurd did
       ends faults.OutOfMemory short did = stop did
 
       -- it was refused
-      pub next_refused : (fault : PoolFault) → ((need largest : ℕ) → fault ≡ faults.Full need largest → largest < need) → StepAnswer tight new kept running (stepped [] now command running) (Err fault)
+      pub next_refused : (fault : PoolFault) → LacksRoom fault → StepAnswer tight new kept running (stepped [] now command running) (Err fault)
           → NextDid tight now steps number pool old new kept (Err fault)
       next_refused fault short did = record { moments = moments; stands = ends fault short did }
 
@@ -132,6 +143,13 @@ memory_refused here = record {
 
 module _ {D : Type 0} {g : Ghosts D} (now steps number : ℕ) (command : Command) (at : slice_get (generated steps) number ≡ Some command) (less : number < length (generated steps))
     (old new : OpenedPool D g) (works : old.io.failed ≡ false) where
+  -- where the command found no room, what is kept stayed
+  left_then : (kept kept' : PoolState) (running : Pool) (left : FreeSectors) (need largest : ℕ) → kept' ≡ kept
+      → HasNoRoom (cost_of command).cells ((cost_of command).block running) ((cost_of command).list running) kept.body kept.dir left need largest
+      → (less : FreeSectors) × HasNoRoom (cost_of command).cells ((cost_of command).block running) ((cost_of command).list running) kept'.body kept'.dir less need largest
+  left_then kept kept' running left need largest same short =
+      (left, subst (λ (k : PoolState). HasNoRoom (cost_of command).cells ((cost_of command).block running) ((cost_of command).list running) k.body k.dir left need largest) (sym same) short)
+
   -- a step that went well
   pub step_done : (reply : List (List ℕ)) → StepDid now command old new (Ok reply) → Settles {T = List (List ℕ)} old new (Ok reply) → RunsNext now steps number old new (Ok tt)
   step_done reply did settles =
@@ -150,9 +168,12 @@ module _ {D : Type 0} {g : Ghosts D} (now steps number : ℕ) (command : Command
   pub step_fails : (fault : PoolFault) → StepDid now command old new (Err fault) → Settles {T = List (List ℕ)} old new (Err fault) → RunsNext now steps number old new (Err fault)
   step_fails fault did settles =
       let short : (need largest : ℕ) → fault ≡ faults.Full need largest → largest < need = λ need largest is. ((did.spends works).2.full need largest is).shorter in
+      let room = λ (tight : Bool) (running : Pool) (told : IsHonest new.io) (rests : IsAtRest tight (disk_of old.io) old.kept running) (need largest : ℕ) (is : fault ≡ faults.Full need largest).
+      left_then old.kept new.kept running new.io.space need largest settles.stays ((did.exact running told works (rest_plain (disk_of old.io) old.kept running rests)).full need largest is) in
       record {
         says = λ tight pool running told is rests.
-            next_refused now steps number command pool running at is tight (disk_of old.io) (disk_of new.io) new.kept (did.moments tight running told rests) less fault short (did.answer tight running told works rests);
+            next_refused now steps number command pool running at is tight (disk_of old.io) (disk_of new.io) new.kept (did.moments tight running told rests) less fault (room tight running told rests)
+            (did.answer tight running told works rests);
         works = tt;
         ready = tt;
         blocks = λ apart. did.blocks (λ is. let same : fault ≡ faults.DiskFault = cc is in apart (ap (λ (f : PoolFault). Err f) same));

@@ -31,7 +31,7 @@ use Rattle.zst_recv.specs.Faults.{recv_refusal}
 use Rattle.zst_recv.specs.ReceiveSteps.{Waits}
 use Rattle.zst_recv.specs.declared.fault.RecvFault.{RecvFault}
 use Rattle.zst_recv.specs.declared.fault.RecvFault.TheVariants as faults
-use Rattle.zst_run.specs.Receives.{IsTightOrNew, IsDamagedReceive, IsOnTheWay, IsReceiveRefusal, ReceiveEnds, ReceiveRan, Receiving, SaysOfPlan, Stopped, CostMore}
+use Rattle.zst_run.specs.Receives.{IsTightOrNew, IsDamagedReceive, IsOnTheWay, IsReceiveRefusal, ReceiveEnds, ReceiveRan, Receiving, SaysOfPlan, Stopped, PiecesFindNoRoom}
 use Rattle.zst_run.specs.ReceiveTurns.{ReadsAlong, Fed, IsEnd, IsReady, told}
 use Rattle.zst_run.specs.declared.receive.Receipt.{Receipt}
 use Rattle.zst_run.proofs.CommandLemmas.{images_after, open_alive, open_disk, rests_read}
@@ -223,7 +223,7 @@ module _ (ask : RecvAsk) (here mid here' : DiskState) (input input' : SourceStat
               },
             ) (behind_opening here mid here' input input' (told result) ends);
         text = f.text;
-        cost = λ honest need largest is. let was = answers (falls honest) in (kept.body, was.1, (was.0, was.2, was.3), subst (λ (r : Rows). CostMore (record { body = kept.body; dir = r }) f.pieces) was.4 (f.cost need largest is));
+        cost = λ honest need largest is. let was = answers (falls honest) in (kept.body, was.1, (was.0, was.2, was.3), subst (λ (r : Rows). PiecesFindNoRoom (record { body = kept.body; dir = r }) f.pieces need largest) was.4 (f.cost need largest is));
         refused = refused_in here mid here' input input' (told result) later ends;
         later = omega (arith, later, still);
         input_later = input_later;

@@ -14,8 +14,8 @@ use Rattle.zst_stream.specs.Reading.{Reading, reading, waiting}
 use Rattle.zst_recv.specs.Costs.{PieceGrows, PieceIsShort, piece_cost, records_behind, records_cost}
 use Rattle.zst_recv.specs.Feeds.{new_records}
 use Rattle.zst_recv.specs.declared.recv.Recv.{Recv}
-use Rattle.zst_run.specs.Receives.{CostMore, pieces_cost}
-use Rattle.zst_run.specs.ReceiveTurns.{GrewBy, HasHanded}
+use Rattle.zst_run.specs.Receives.{CostMore, GrewBy, PiecesFindNoRoom, pieces_cost}
+use Rattle.zst_run.specs.ReceiveTurns.{HasHanded}
 use Rattle.zst_pool.proofs.Room.{dir-more}
 
 -- a piece behind a text did, over what the pool kept, and the body is as it was
@@ -83,8 +83,22 @@ grew_more first kept kept' pieces piece grew grows =
       end = let d = grew.end in let e = grows.end in omega (arith, d, e, within);
     }
 
-pub costs_more : (first kept : PoolState) (pieces : List (List ℕ)) (piece : List ℕ) → GrewBy first kept pieces → kept.body.sectors - kept.body.end < piece_cost (new_records (concat pieces) piece) kept.dir → CostMore first (pieces ++ piece ∷ [])
+costs_more : (first kept : PoolState) (pieces : List (List ℕ)) (piece : List ℕ) → GrewBy first kept pieces → kept.body.sectors - kept.body.end < piece_cost (new_records (concat pieces) piece) kept.dir → CostMore first (pieces ++ piece ∷ [])
 costs_more first kept pieces piece grew short =
     let within = cost_within first kept pieces piece grew in
     let d = grew.end in
     omega (arith, d, grew.sectors, within, short)
+
+-- where one piece more found no room, all cost more than was free
+pub short_pieces : (first kept : PoolState) (pieces : List (List ℕ)) (piece : List ℕ) (left : FreeSectors) (need largest : ℕ) → GrewBy first kept pieces
+    → PieceIsShort (new_records (concat pieces) piece) kept left need largest → PiecesFindNoRoom first (pieces ++ piece ∷ []) need largest
+short_pieces first kept pieces piece left need largest grew short = record {
+  cost = costs_more first kept pieces piece grew short.room;
+  before = pieces;
+  last = piece;
+  are = refl;
+  kept = kept;
+  grew = grew;
+  left = left;
+  short = short;
+}

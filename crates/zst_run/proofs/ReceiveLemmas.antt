@@ -32,8 +32,8 @@ use Rattle.zst_recv.specs.declared.recv.Recv.{Recv}
 use Rattle.zst_stream.specs.Findings.{IsFound}
 use Rattle.zst_stream.specs.Reading.{Reading, complete, reading}
 use Rattle.zst_reader.specs.StandsFor.{StandsFor}
-use Rattle.zst_run.specs.Receives.{CostMore, IsTightOrNew, ReceiveEnds, SaysOfText, Waited, piece_size, receipt_line}
-use Rattle.zst_run.specs.ReceiveTurns.{ReadsAlong, Fed, Feeding, GrewBy, HasHanded, IsEnd, IsFeedRefusal, IsInputOf, IsReady, IsReceived, TurnReads, Turned, Turns, WaitsForMore, cut_refusal, line_of, told, with_piece}
+use Rattle.zst_run.specs.Receives.{GrewBy, IsTightOrNew, PiecesFindNoRoom, ReceiveEnds, SaysOfText, Waited, piece_size, receipt_line}
+use Rattle.zst_run.specs.ReceiveTurns.{ReadsAlong, Fed, Feeding, HasHanded, IsEnd, IsFeedRefusal, IsInputOf, IsReady, IsReceived, TurnReads, Turned, Turns, WaitsForMore, cut_refusal, line_of, told, with_piece}
 use Rattle.zst_run.specs.Dumps.{NoFault}
 use Rattle.zst_run.specs.declared.receive.End.{End}
 use Rattle.zst_run.specs.declared.receive.End.TheVariants.{Ended, Failed}
@@ -43,7 +43,7 @@ use Rattle.zst_run.specs.declared.receive.Turn.TheVariants as turns
 use Rattle.zst_run.proofs.CommandLemmas.{disk_fault, failed_before, full_only}
 use Rattle.zst_run.proofs.FedPieces.{along_then, none_fed}
 use Rattle.zst_run.proofs.Pieces.{concat_with, pieces_then, whole_then, with_some}
-use Rattle.zst_run.proofs.PieceCosts.{costs_more, grew_more, grew_none}
+use Rattle.zst_run.proofs.PieceCosts.{grew_more, grew_none, short_pieces}
 
 -- ---- refusals
 
@@ -172,7 +172,7 @@ module _ (start old now : DiskState) (first kept kept' : PoolState) (begun recv 
 
   -- an end by this answer, where each pool that the pieces came from ends so
   ended : (answer : Result (List (List ℕ)) Refusal) → length t.piece ≤ piece_size → SaysOfText all_pieces input input' answer
-      → ((need largest : ℕ) → answer ≡ Err (refusals.Full need largest) → CostMore first all_pieces)
+      → ((need largest : ℕ) → answer ≡ Err (refusals.Full need largest) → PiecesFindNoRoom first all_pieces need largest)
       → ((tight : Bool) (pool : Pool) → now.honest → Turned tight start now kept' recv' begun.ask pool all_pieces items' turn → ReceiveEnds tight begun.ask pool all_pieces now input input' answer)
       → Fed (λ tight pool. WaitsForMore tight start first begun begun.ask pool [] 0) first start now begun.ask input input' answer
   ended answer most text cost ends = record {
@@ -232,7 +232,9 @@ module _ (start old now : DiskState) (first kept kept' : PoolState) (begun recv 
   refused_fed refusal t =
       ended start old now first kept kept' begun recv recv' items items' input mid input' (turns.Refused refusal) f t same falls (Err refusal) t.sized.1
       (says_refused (with_piece f.pieces t.piece) input input' recv' refusal (reads start old now first kept kept' begun recv recv' items items' input mid input' (turns.Refused refusal) f t same falls))
-      (λ need largest is. subst (λ (l : List (List ℕ)). CostMore first l) (sym (with_some f.pieces t.piece t.sized.0)) (costs_more first kept f.pieces t.piece f.grew (t.spends (concat f.pieces) f.hands need largest (err_same refusal (refusals.Full need largest) is))))
+      (λ need largest is.
+      let short = t.spends (concat f.pieces) f.hands need largest (err_same refusal (refusals.Full need largest) is) in
+      subst (λ (l : List (List ℕ)). PiecesFindNoRoom first l need largest) (sym (with_some f.pieces t.piece t.sized.0)) (short_pieces first kept f.pieces t.piece short.0 need largest f.grew short.1))
       (λ tight pool honest done. done.stands input input')
 
   -- what is left of a receive that waits for more

@@ -11,13 +11,13 @@ use Rattle.zst_model.specs.declared.refusals.refusal.Refusal.TheVariants as refu
 use Rattle.zst_model.specs.declared.refusals.stream_fault.StreamFault.{StreamFault}
 use Rattle.zst_model.specs.pools.Pool.{Pool}
 use Rattle.zst_model.proofs.PlanFaults.{plan_cases}
+use Rattle.zst_model.specs.states.State.{AreBytes}
 use Rattle.zst_pool.specs.Calls.{IsAtRest}
 use Rattle.zst_pool.specs.Faults.{pool_refusal}
 use Rattle.zst_pool.specs.declared.fault.PoolFault.{PoolFault}
 use Rattle.zst_pool.specs.declared.fault.PoolFault.TheVariants as pools
 use Rattle.zst_reader.specs.StandsFor.{HandsOut, StandsFor}
 use Rattle.zst_record.specs.Heads.{Covered}
-use Rattle.zst_record.specs.Laws.{AreBytes}
 use Rattle.zst_stream.specs.Reading.{complete, faulty, reading, waiting}
 use Rattle.zst_recv.specs.Answers.{Feeds}
 use Rattle.zst_recv.specs.Faults.{IsFeedFault, recv_refusal}
@@ -176,7 +176,7 @@ module _ (input input' : SourceState) (room : List ℕ) (count : ℕ) (end : Opt
       sized = (has_some, most);
       input_is = tt;
       reads = λ text has told is. let same = recv_stream fault told is in (subst IsFeedFault same known, stream text has.0 told has.1 same);
-      spends = λ text has need largest is. let s = short text has.0 need largest has.1 (recv_full fault need largest is) in s.short.room;
+      spends = λ text has need largest is. let s = short text has.0 need largest has.1 (recv_full fault need largest is) in (s.left, s.short);
       says = λ tight pool pieces honest u.
           turned_refused law tight old now kept kept' recv recv' recv.ask pool pieces (take count room) items u has_some same items' fault known (feeds tight u.after _ u.stage honest u.rests (dates_told tight recv.ask u.stage old kept u.after u.may u.rests) u.fed)
           (λ need largest is. short _ u.fed.handed need largest u.fed.reads is);

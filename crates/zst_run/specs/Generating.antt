@@ -1,7 +1,8 @@
 -- What the line `gen` makes of the pool of an image, and why it ends.
-use Rattle.std.specs.Prelude.{ℕ, ◌+◌, ◌*◌, ◌≡◌, ◌⊎◌, ◌<◌, ◌≤◌, Bool, IfErr, List, [], ◌∷◌, length, take, codes, decimal, Result, Ok, Err}
-use Rattle.std.specs.List.{concat}
+use Rattle.std.specs.Prelude.{ℕ, ◌+◌, ◌*◌, ◌≡◌, ◌⊎◌, ◌<◌, ◌≤◌, Bool, IfErr, List, [], ◌∷◌, length, take, codes, decimal, Result, Ok, Err, Some}
+use Rattle.std.specs.List.{concat, slice_get}
 use Rattle.zst_outside.specs.Images.{DiskState, Leaves, OnlyReads}
+use Rattle.zst_space.specs.FreeSectors.{FreeSectors}
 use Rattle.zst_block.specs.Blocks.{KeepsBlocks}
 use Rattle.zst_uber.specs.declared.uber.Uber.{Uber}
 use Rattle.zst_model.specs.declared.pools.command.Command.{Command}
@@ -14,6 +15,9 @@ use Rattle.zst_model.specs.states.AppliedItems.{◌>>=◌}
 use Rattle.zst_gen.specs.Generated.{generated}
 use Rattle.zst_dir.specs.Rows.{Rows}
 use Rattle.zst_image.specs.Reads.{Reads, free_by}
+use Rattle.zst_image.specs.declared.pool_state.PoolState.{PoolState}
+use Rattle.zst_pool.specs.Calls.{IsAtRest}
+use Rattle.zst_pool.specs.Cost.{HasNoRoom, cost_of}
 use Rattle.zst_run.specs.Commands.{IsPoolRefusal, OfStepping, Opens, SaysOfOpening}
 use Rattle.zst_run.specs.Receives.{Keeps}
 
@@ -52,13 +56,24 @@ pub record StoppedAt (tight : Bool) (now steps : ℕ) (pool : Pool) (here' : Dis
   pub more : count < length (generated steps)
   pub made : Made tight now (take count (generated steps)) pool here'
 
+-- The command with this number found no room, on the pool that those before it made, and by the body by which that rests still.
+pub record NextFindsNoRoom (tight : Bool) (now steps number : ℕ) (pool : Pool) (here' : DiskState) (need largest : ℕ) : Type 0 where
+  pub command : Command
+  pub is_next : slice_get (generated steps) number ≡ Some command
+  pub running : Pool
+  pub is : first_made now steps number pool ≡ Ok running
+  pub kept : PoolState
+  pub rests : IsAtRest tight here' kept running
+  pub left : FreeSectors
+  pub short : HasNoRoom (cost_of command).cells ((cost_of command).block running) ((cost_of command).list running) kept.body kept.dir left need largest
+
 -- How it ends, and what then stands: all commands were accepted, and the line tells it; else some were, which stand, and the next one is
--- refused: as the definition says; E24 where the definition accepts it, and the longest extent is shorter than what is needed; or E32. Nothing is damaged.
+-- refused: as the definition says; E24 where the definition accepts it, and the longest extent that is then free is shorter than what is needed; or E32. Nothing is damaged.
 abbrev pub GenEnds : (tight : Bool) → (now steps : ℕ) → Pool → DiskState → Result (List (List ℕ)) Refusal → Type 0
 GenEnds tight now steps pool here' (Ok lines) = (made : Made tight now (generated steps) pool here') × (lines ≡ gen_line steps made.after.number ∷ [])
 GenEnds tight now steps pool here' (Err refusals.DiskFault) = Unit {0}
 GenEnds tight now steps pool here' (Err (refusals.Full need largest)) =
-    (stop : StoppedAt tight now steps pool here') × (largest < need) × ((after : Pool) × (first_made now steps (stop.count + 1) pool ≡ Ok after))
+    (stop : StoppedAt tight now steps pool here') × NextFindsNoRoom tight now steps stop.count pool here' need largest × ((after : Pool) × (first_made now steps (stop.count + 1) pool ≡ Ok after))
 GenEnds tight now steps pool here' (Err refusals.OutOfMemory) = StoppedAt tight now steps pool here'
 GenEnds tight now steps pool here' (Err (refusals.Damaged sector stated found)) = ⊥
 GenEnds tight now steps pool here' (Err refusals.NoPool) = ⊥

@@ -5,6 +5,7 @@ use Rattle.zst_outside.specs.Causes.{Rose}
 use Rattle.zst_outside.specs.Images.{DiskState, Leaves}
 use Rattle.zst_outside.specs.States.{SourceState, Gave}
 use Rattle.zst_outside.specs.declared.disk.Disk.{Ghosts}
+use Rattle.zst_space.specs.FreeSectors.{FreeSectors}
 use Rattle.zst_block.specs.Blocks.{Has, KeepsBlocks}
 use Rattle.zst_block.specs.IoStates.{IsHonest, disk_of}
 use Rattle.zst_dir.specs.Rows.{Rows}
@@ -15,6 +16,7 @@ use Rattle.zst_model.specs.declared.refusals.stream_fault.StreamFault.{StreamFau
 use Rattle.zst_model.specs.declared.refusals.stream_fault.StreamFault.TheVariants.{Truncated}
 use Rattle.zst_model.specs.pools.KeptPool.{kept_of}
 use Rattle.zst_model.specs.pools.Pool.{Pool, Partial}
+use Rattle.zst_model.specs.states.State.{AreBytes}
 use Rattle.zst_dir.specs.Spelling.{dir_bytes}
 use Rattle.zst_image.specs.Commits.{Ready}
 use Rattle.zst_image.specs.Reads.{Reads, bound_of, free_by}
@@ -22,7 +24,6 @@ use Rattle.zst_image.specs.declared.pool_state.PoolState.{PoolState}
 use Rattle.zst_plan.specs.declared.receive.RecvAsk.{RecvAsk}
 use Rattle.zst_pool.specs.Calls.{IsAtRest}
 use Rattle.zst_pool.specs.declared.pool.Pool.{Pool as OpenedPool}
-use Rattle.zst_record.specs.Laws.{AreBytes}
 use Rattle.zst_reader.specs.InputReads.{stream_limit}
 use Rattle.zst_reader.specs.StandsFor.{HandsOut, StandsFor}
 use Rattle.zst_record.specs.Heads.{Covered}
@@ -32,7 +33,7 @@ use Rattle.zst_recv.specs.Answers.{received_of}
 use Rattle.zst_recv.specs.Faults.{IsFeedFault, recv_refusal}
 use Rattle.zst_recv.specs.Feeds.{receives, new_records}
 use Rattle.zst_recv.specs.Plans.{RefusesOne}
-use Rattle.zst_recv.specs.Costs.{PieceGrows, piece_cost}
+use Rattle.zst_recv.specs.Costs.{PieceGrows, PieceIsShort}
 use Rattle.zst_recv.specs.Damage.{IsDamagedFeed, MakesStage}
 use Rattle.zst_recv.specs.ReceiveSteps.{Stage, Waits, Lives, Goes, Ends, pool_of}
 use Rattle.zst_recv.specs.Stages as standing
@@ -43,7 +44,7 @@ use Rattle.zst_recv.specs.declared.stage.Stage as coded
 use Rattle.zst_recv.specs.declared.stage.Stage.TheVariants as stages
 use Rattle.zst_replication.specs.RecordCounts.{Counts}
 use Rattle.zst_run.specs.Dumps.{NoFault}
-use Rattle.zst_run.specs.Receives.{ArePieces, IsDamagedReceive, IsOpen, IsTightOrNew, MadeBy, ReceiveEnds, SaysOfPlan, SaysOfText, piece_size, receipt_line, CostMore, pieces_cost}
+use Rattle.zst_run.specs.Receives.{ArePieces, IsDamagedReceive, IsOpen, IsTightOrNew, MadeBy, ReceiveEnds, SaysOfPlan, SaysOfText, piece_size, receipt_line, GrewBy, PiecesFindNoRoom}
 use Rattle.zst_run.specs.declared.receive.End.{End}
 use Rattle.zst_run.specs.declared.receive.End.TheVariants.{Ended, Failed}
 use Rattle.zst_run.specs.declared.receive.Receipt.{Receipt}
@@ -175,13 +176,7 @@ TurnSpends kept kept' recv text piece turns.More = HasHanded recv (text ++ piece
 TurnSpends kept kept' recv text piece turns.Received = Unit {0}
 TurnSpends kept kept' recv text piece (turns.Over end) = HasHanded recv (text ++ piece)
 TurnSpends kept kept' recv text piece (turns.Refused refusal) =
-    (need largest : ℕ) → refusal ≡ refusals.Full need largest → kept.body.sectors - kept.body.end < piece_cost (new_records text piece) kept.dir
-
--- what the pool keeps has grown by no more than these pieces cost
-pub record GrewBy (first kept : PoolState) (pieces : List (List ℕ)) : Type 0 where
-  pub directory : length (dir_bytes kept.dir) ≤ length (dir_bytes first.dir) + 2048 * length pieces
-  pub sectors : kept.body.sectors ≡ first.body.sectors
-  pub end : kept.body.end ≤ first.body.end + pieces_cost (length (dir_bytes first.dir)) [] pieces
+    (need largest : ℕ) → refusal ≡ refusals.Full need largest → (left : FreeSectors) × PieceIsShort (new_records text piece) kept left need largest
 
 -- One turn: a piece was read, and fed behind those before.
 pub record Turns (old now : DiskState) (kept kept' : PoolState) (recv recv' : Recv) (items items' : ℕ) (input input' : SourceState) (turn : Turn) : Type 0 where
@@ -328,7 +323,7 @@ pub record Fed (Starts : (tight : Bool) → Pool → Type 0) (first : PoolState)
   pub are_pieces : ArePieces pieces
   pub consumed : Gave input input' (concat pieces)
   pub text : SaysOfText pieces input input' answer
-  pub cost : (need largest : ℕ) → answer ≡ Err (refusals.Full need largest) → CostMore first pieces
+  pub cost : (need largest : ℕ) → answer ≡ Err (refusals.Full need largest) → PiecesFindNoRoom first pieces need largest
   pub says : (tight : Bool) (pool : Pool) → now.honest → Starts tight pool → Outcome tight old now ask pool pieces input input' answer
 
 -- a pool at rest, of tight object sets, or without the target

@@ -1,5 +1,5 @@
 -- What a receive reads, what it leaves of an image, and why it ends.
-use Rattle.std.specs.Prelude.{ℕ, zero, suc, ◌+◌, ◌-◌, ◌≡◌, ◌⊎◌, ◌<◌, ◌≤◌, Bool, true, false, IsTrue, IfErr, List, [], ◌∷◌, ◌++◌, length, take, codes, decimal, None, Result, Ok, Err}
+use Rattle.std.specs.Prelude.{ℕ, zero, suc, ◌+◌, ◌*◌, ◌-◌, ◌≡◌, ◌⊎◌, ◌<◌, ◌≤◌, Bool, true, false, IsTrue, IfErr, List, [], ◌∷◌, ◌++◌, length, take, codes, decimal, None, Result, Ok, Err}
 use Rattle.std.specs.List.{concat}
 use Rattle.zst_outside.specs.Causes.{Rose}
 use Rattle.zst_outside.specs.Images.{DiskState, Leaves, OnlyReads}
@@ -108,6 +108,23 @@ pieces_cost count text (piece ∷ rest) = records_cost (new_records text piece) 
 -- fewer sectors were free by what was opened than the pieces cost together
 abbrev pub CostMore : PoolState → List (List ℕ) → Type 0
 CostMore kept pieces = kept.body.sectors - kept.body.end < pieces_cost (length (dir_bytes kept.dir)) [] pieces
+
+-- what the pool keeps has grown by no more than these pieces cost
+pub record GrewBy (first kept : PoolState) (pieces : List (List ℕ)) : Type 0 where
+  pub directory : length (dir_bytes kept.dir) ≤ length (dir_bytes first.dir) + 2048 * length pieces
+  pub sectors : kept.body.sectors ≡ first.body.sectors
+  pub end : kept.body.end ≤ first.body.end + pieces_cost (length (dir_bytes first.dir)) [] pieces
+
+-- The last of the pieces found no room, whatever the image is: the pieces cost more than was free, and the last found none by what was kept of the pool once those before it were taken.
+pub record PiecesFindNoRoom (first : PoolState) (pieces : List (List ℕ)) (need largest : ℕ) : Type 0 where
+  pub cost : CostMore first pieces
+  pub before : List (List ℕ)
+  pub last : List ℕ
+  pub are : pieces ≡ before ++ last ∷ []
+  pub kept : PoolState
+  pub grew : GrewBy first kept before
+  pub left : FreeSectors
+  pub short : PieceIsShort (new_records (concat before) last) kept left need largest
 
 -- The last of the pieces found no room: those before it left the receive waiting, and a pool whose rows in memory stood for it then, by a body by
 -- which the image rests still; and by them fewer sectors were free than the last piece costs, by the records that it covers.
@@ -220,9 +237,9 @@ pub record Receiving (ask : RecvAsk) (here here' : DiskState) (input input' : So
       → ReceiveEnds tight ask pool pieces here' input input' answer
   pub opened : here'.honest → SaysOfOpening (OnlyReads here here' × (input' ≡ input)) here (ReceiveRan ask pieces here here' answer) answer
   pub text : SaysOfText pieces input input' answer
-  -- whatever the image: E24 comes only where fewer sectors were free, by the body and the directory that were opened, than all pieces cost that were read
+  -- whatever the image: E24 comes only where fewer sectors were free, by the body and the directory that were opened, than all pieces cost that were read, and the last of them found no room
   pub cost : here'.honest → (need largest : ℕ) → answer ≡ Err (refusals.Full need largest)
-      → (uber : Uber) × (rows : Rows) × Opens here uber rows × CostMore (record { body = uber; dir = kept_rows rows }) pieces
+      → (uber : Uber) × (rows : Rows) × Opens here uber rows × PiecesFindNoRoom (record { body = uber; dir = kept_rows rows }) pieces need largest
   pub refused : IfErr answer (IsReceiveRefusal here here' input input')
   pub later : here.faults ≤ here'.faults
   pub input_later : input.faults ≤ input'.faults

@@ -1,3 +1,4 @@
 pub mod FirstFit
 pub mod TakenExtentLemmas
 pub mod FreeSectorsLaws
+pub mod ExtentsInTurn

@@ -1,6 +1,6 @@
 -- An extent is taken from the sectors that are free.
 use Rattle.std.specs.Prelude.{◌≡◌, ◌⊎◌, ℕ, zero, suc, ◌+◌, ◌-◌, ◌==◌, ◌≤◌, nat_le, if◌then◌else◌, List, [], ◌∷◌, ◌++◌}
-use Rattle.zst_space.specs.FreeSectors.{FreeSectors, IsWithin, IsFree, room}
+use Rattle.zst_space.specs.FreeSectors.{FreeSectors, IsWithin, IsFree, largest_of, room}
 use Rattle.zst_space.specs.declared.space.Extent.{Extent}
 
 -- an extent without its first sectors, and none where no sector is left
@@ -42,6 +42,22 @@ without space count = record {
 unfoldable pub without_blocks : ℕ → FreeSectors → FreeSectors
 without_blocks zero space = space
 without_blocks (suc count) space = without (without_blocks count space) 16
+
+-- what is free once extents of so many sectors each are taken in turn
+abbrev pub without_each : List ℕ → FreeSectors → FreeSectors
+without_each [] space = space
+without_each (count ∷ counts) space = without_each counts (without space count)
+
+-- each of these extents is of such a size, and finds room in what those before it leave
+abbrev pub FitInTurn : (ℕ → Type 0) → List ℕ → FreeSectors → Type 0
+FitInTurn IsSize [] space = Unit {0}
+FitInTurn IsSize (count ∷ counts) space = IsSize count × (count ≤ largest_of space) × FitInTurn IsSize counts (without space count)
+
+-- What is free now is what was free before less extents of such sizes, which were taken in turn, each where it first fits.
+pub record TakenInTurn (IsSize : ℕ → Type 0) (old new : FreeSectors) : Type 0 where
+  pub counts : List ℕ
+  pub fit : FitInTurn IsSize counts old
+  pub left : new ≡ without_each counts old
 
 -- An extent was free and isn't free any more, and all other sectors are as before.
 pub record Takes (old new : FreeSectors) (first count : ℕ) : Type 0 where

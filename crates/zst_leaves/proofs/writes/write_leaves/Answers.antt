@@ -1,10 +1,11 @@
-use Rattle.std.proofs.Common.{length, refl, arith}
+use Rattle.std.proofs.Common.{◌*◌, ℕ, length, refl, subst, arith}
 use Rattle.std.proofs.lemmas.Result.{err_from_is_err_and}
 use Rattle.zst_block.proofs.IoCallLemmas.{Works-more}
-use Rattle.zst_block.specs.IoStates.{blocks_of}
-use Rattle.zst_leaves.specs.Leaves.{HasLeaves, Numbered}
+use Rattle.zst_block.specs.IoCalls.{Works, stop_of}
+use Rattle.zst_block.specs.IoStates.{blocks_of, io_of}
+use Rattle.zst_leaves.specs.Leaves.{HasLeaves, Numbered, blocks_for}
 use Rattle.zst_leaves.proofs.BlockCounts.{most_blocks, most_two_levels}
-use Rattle.zst_leaves.proofs.LevelCounts.{one_level, two_levels}
+use Rattle.zst_leaves.proofs.LevelCounts.{IsLeast-only, one_level, two_levels}
 use Rattle.zst_leaves.proofs.LeavesLaws.{HasLeaves-grows}
 use Rattle.zst_leaves.proofs.writes.write_leaves.Goals as goal
 
@@ -23,6 +24,13 @@ returns-in_err-root-clause-two_levels g c = λ small.
     let p = err_from_is_err_and c.from_residual.result c.from_residual.ensures.1 in
     rw (p.1, p.2) (Works-more (omega (arith, le)) c.in_err-root.ensures.written.works)
 
+pub returns-in_err-root-clause-exact : goal.returns-in_err-root-clause-exact
+returns-in_err-root-clause-exact g c = λ levels least.
+    let size = length c.args.bytes.now in
+    let same = IsLeast-only size c.levels_for-levels.result levels c.levels_for-levels.ensures least in
+    let p = err_from_is_err_and c.from_residual.result c.from_residual.ensures.1 in
+    rw (p.1, p.2, ← same) c.in_err-root.ensures.written.works
+
 pub returns-in_err-root-clause-calls : goal.returns-in_err-root-clause-calls
 returns-in_err-root-clause-calls g c =
     let least = c.levels_for-levels.ensures in
@@ -40,6 +48,11 @@ returns-clause-two_levels g c = λ small.
     let two = two_levels (length c.args.bytes.now) c.levels_for-levels.result least small in
     let le = most_two_levels c.levels_for-levels.result (length c.args.bytes.now) two c.requires.some least.enough small in
     Works-more (omega (arith, le)) c.in_ok-root.ensures.written.works
+
+pub returns-clause-exact : goal.returns-clause-exact
+returns-clause-exact g c = λ levels least.
+    let same = IsLeast-only (length c.args.bytes.now) c.levels_for-levels.result levels c.levels_for-levels.ensures least in
+    rw (← same) c.in_ok-root.ensures.written.works
 
 pub returns-clause-calls : goal.returns-clause-calls
 returns-clause-calls g c =

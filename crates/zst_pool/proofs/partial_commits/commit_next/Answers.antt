@@ -19,7 +19,7 @@ use Rattle.zst_pool.proofs.CallLemmas.{call_did, call_fell, number_after}
 use Rattle.zst_pool.proofs.CommitAnswers.{answers_ends, answers_follows, answers_full, answers_known, answers_ok, answers_spares, ends_idle}
 use Rattle.zst_pool.proofs.NamedPools.{rows_named}
 use Rattle.zst_pool.proofs.PoolsAtRest.{few_guids, kept_is_next, next_lawful, rests_next, rests_unless, way_runs}
-use Rattle.zst_pool.proofs.TakenSectors.{taken_none}
+use Rattle.zst_block.proofs.TakenSectors.{takes_none}
 use Rattle.zst_pool.proofs.partial_commits.commit_next.Goals as goal
 
 pub returns-in_err-check_limits-clause-did : goal.returns-in_err-check_limits-clause-did
@@ -37,7 +37,7 @@ returns-in_err-check_limits-clause-commits g c =
     ends_idle c.args.kept.now (io_of c.args.io.now) (Plan c.in_err-check_limits.field-0.0) c.from_residual.result (err_is c.from_residual.result (Plan c.in_err-check_limits.field-0.0) c.from_residual.ensures.1) refl c.requires.works.ready
 
 pub returns-in_err-check_limits-clause-takes : goal.returns-in_err-check_limits-clause-takes
-returns-in_err-check_limits-clause-takes g c = taken_none (dir_sectors (length (dir_bytes c.args.dir))) c.args.io.now.space
+returns-in_err-check_limits-clause-takes g c = takes_none c.args.io.now.space
 
 pub returns-clause-did : goal.returns-clause-did
 returns-clause-did g c = λ tight start running next told way anew runs.
