@@ -1,9 +1,12 @@
 -- The words of a block, one after another.
-use Rattle.std.proofs.Common.{◌≡◌, ℕ, zero, suc, ◌+◌, ◌*◌, ◌<◌, List, [], ◌++◌, length, take, flat_map, refl, sym, ap, ◌∙◌, arith, length-append}
+use Rattle.std.proofs.Common.{◌≡◌, ℕ, zero, suc, ◌+◌, ◌*◌, ◌^◌, ◌<◌, List, [], ◌++◌, length, take, flat_map, refl, sym, ap, ◌∙◌, arith, length-append}
 use Rattle.std.specs.List.{range_with_len}
 use Rattle.std.proofs.lemmas.List.{append-nil, append_assoc, take_all}
+use Rattle.std.proofs.lemmas.List.Elements.{All-append, All-nil}
 use Rattle.zst_bytes.specs.Bytes.{number_bytes, written}
 use Rattle.zst_bytes.proofs.BytesLaws.{length-number_bytes, written_front}
+use Rattle.zst_model.specs.states.State.{AreBytes}
+use Rattle.zst_model.proofs.LowBytes.{lowest_are_bytes}
 use Rattle.zst_gen.specs.Generated.{block_bytes, block_word, block_words}
 
 -- one number more
@@ -34,6 +37,19 @@ words-long k i n = flat_long (λ j. number_bytes 4 (block_word k i j)) (λ j. le
 pub words-none : (k i : ℕ) → block_words k i 0 ≡ []
 unfolding block_words
 words-none k i = refl
+
+-- words are of bytes
+pub number_are_bytes : (width value : ℕ) → AreBytes (number_bytes width value)
+unfolding number_bytes
+number_are_bytes width value = lowest_are_bytes 0 width value
+
+flat_are_bytes : (f : ℕ → List ℕ) → ((j : ℕ) → AreBytes (f j)) → (a n : ℕ) → AreBytes (flat_map f (range_with_len a n))
+flat_are_bytes f each a zero = All-nil (λ byte. byte < 2 ^ 8)
+flat_are_bytes f each a (suc n) = All-append (λ byte. byte < 2 ^ 8) (f a) (flat_map f (range_with_len (a + 1) n)) (each a) (flat_are_bytes f each (a + 1) n)
+
+pub words_are_bytes : (k i n : ℕ) → AreBytes (block_words k i n)
+unfolding block_words
+words_are_bytes k i n = flat_are_bytes (λ j. number_bytes 4 (block_word k i j)) (λ j. number_are_bytes 4 (block_word k i j)) 0 n
 
 -- a word that is written behind those before it
 pub word_written : (k i n value : ℕ) (old new : List ℕ) → length old ≡ 131072 → n < 32768 → take (n * 4) old ≡ block_words k i n → value ≡ block_word k i n

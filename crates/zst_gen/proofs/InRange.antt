@@ -6,7 +6,7 @@ use Rattle.zst_model.specs.declared.pools.command.Command.TheVariants as command
 use Rattle.zst_model.specs.pools.Step.{IsCommand}
 use Rattle.zst_model.specs.states.State.{IsHead, is_block_size, largest_block}
 use Rattle.zst_gen.specs.Generated.{nth_block, nth_command, nth_of_object, snapshot_name}
-use Rattle.zst_gen.proofs.BlockWords.{words-long}
+use Rattle.zst_gen.proofs.BlockWords.{number_are_bytes, words-long, words_are_bytes}
 use Rattle.zst_gen.proofs.NamesFit.{fs_fits, snapshot_fits}
 
 head_fits : IsHead (record { type_ = 19; bonus_type = 0; block_size = 131072 })
@@ -14,10 +14,10 @@ unfolding is_block_size largest_block
 head_fits = record { some_type = omega arith; type_fits = omega arith; bonus_type_fits = omega arith; size = refl }
 
 of_object_fits : (n k r : ℕ) → 1 ≤ n → n ≤ 64 → 0 < k → IsCommand (nth_of_object n k r)
-of_object_fits n k zero low high some = (fs_fits n low high, some, head_fits, omega (arith, length-number_bytes 8 k), tt)
+of_object_fits n k zero low high some = (fs_fits n low high, some, head_fits, (omega (arith, length-number_bytes 8 k), number_are_bytes 8 k), tt)
 of_object_fits n k (suc w) low high some =
     let long = words-long k (nth_block w) 32768 in
-    (fs_fits n low high, some, omega (arith, long), omega (arith, long))
+    (fs_fits n low high, some, omega (arith, long), omega (arith, long), words_are_bytes k (nth_block w) 32768)
 
 pub nth_fits : (n i : ℕ) → 1 ≤ n → n ≤ 64 → IfSome (nth_command n i) IsCommand
 nth_fits n zero low high = fs_fits n low high

@@ -4,7 +4,7 @@ use Rattle.zst_model.specs.declared.states.item.Change.{Change}
 use Rattle.zst_model.specs.declared.states.item.Change.TheVariants.{Put, Spill, FreeFrom, Free, Redact, Write}
 use Rattle.zst_model.specs.declared.states.item.Item.{Item}
 use Rattle.zst_model.specs.declared.states.item.Item.TheVariants.{FreeObjects, At}
-use Rattle.zst_model.specs.states.State.{State, Object, IsState, IsHead, IsBonus, IsSpill, attr_at, content_at, is_number, number_bound, index_bound}
+use Rattle.zst_model.specs.states.State.{State, Object, IsState, AreBytes, IsHead, IsBonus, IsSpill, attr_at, content_at, is_number, number_bound, index_bound}
 use Rattle.zst_model.specs.states.AppliedItems.{apply, within}
 use Rattle.zst_model.specs.states.DatedState.{DatedState, touches_number, touches_index, size_at, apply_dated, apply_all_dated}
 use Rattle.zst_model.specs.sends.Target.{Remembers}
@@ -76,14 +76,14 @@ RemembersOn =
     → IsState snap.state → number < next → Remembers snap number state → apply_dated next item snap ≡ Ok after
     → Remembers after number state
 
--- a change that is lawful where it comes: an OBJECT has a head and a bonus that an object may have, a SPILL such a spill, and a REDACT or WRITE takes no index from the bound on
+-- a change that is lawful where it comes: an OBJECT has a head and a bonus that an object may have, a SPILL such a spill, a WRITE bytes, and a REDACT or WRITE takes no index from the bound on
 abbrev pub IsLawfulChange : Change → Option Object → Type 0
 IsLawfulChange (Put head bonus keep_spill max_block) object = IsHead head × IsBonus bonus
 IsLawfulChange (Spill bytes) object = IsSpill bytes
 IsLawfulChange (FreeFrom offset) object = Unit {0}
 IsLawfulChange (Free offset length) object = Unit {0}
 IsLawfulChange (Redact offset length) object = (i : ℕ) → index_bound ≤ i → within offset length (i * size_at object) ≡ false
-IsLawfulChange (Write offset type bytes) object = (i : ℕ) → index_bound ≤ i → (i * size_at object == offset) ≡ false
+IsLawfulChange (Write offset type bytes) object = AreBytes bytes × ((i : ℕ) → index_bound ≤ i → (i * size_at object == offset) ≡ false)
 
 -- an item that is lawful where it comes: its number is one that an object may have, and its change is lawful
 abbrev pub IsLawfulItem : Item → State → Type 0

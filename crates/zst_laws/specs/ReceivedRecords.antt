@@ -10,7 +10,7 @@ use Rattle.zst_model.specs.declared.states.attr.ObjectHead.{ObjectHead}
 use Rattle.zst_model.specs.declared.states.item.Change.TheVariants.{Put, Spill, FreeFrom, Free, Redact, Write}
 use Rattle.zst_model.specs.declared.states.item.Item.{Item}
 use Rattle.zst_model.specs.declared.states.item.Item.TheVariants.{FreeObjects, At}
-use Rattle.zst_model.specs.states.State.{Hole, State, IsState, IsHead, IsBonus, IsSpill, is_number}
+use Rattle.zst_model.specs.states.State.{Hole, State, IsState, IsHead, AreBytes, IsBonus, IsSpill, is_number}
 use Rattle.zst_model.specs.states.AppliedItems.{apply_all}
 use Rattle.zst_model.specs.states.DatedState.{DatedState, apply_dated}
 use Rattle.zst_model.specs.pools.Pool.{Partial, untouched}
@@ -93,7 +93,7 @@ ReceivedIsApplied =
     (number index : ℕ) (item : Item) (snap after : DatedState)
     → received number index item snap ≡ Ok after → apply_dated number item snap ≡ Ok after
 
--- a record whose numbers and lengths are ones that objects may have
+-- a record whose numbers and lengths are ones that objects may have, and whose blocks are bytes
 abbrev pub IsRanged : Item → Type 0
 IsRanged (FreeObjects first count) = Unit {0}
 IsRanged (At k (Put head bonus keep_spill max_block)) = (is_number k ≡ true) × IsHead head × IsBonus bonus
@@ -101,7 +101,7 @@ IsRanged (At k (Spill bytes)) = (is_number k ≡ true) × IsSpill bytes
 IsRanged (At k (FreeFrom offset)) = is_number k ≡ true
 IsRanged (At k (Free offset length)) = is_number k ≡ true
 IsRanged (At k (Redact offset length)) = is_number k ≡ true
-IsRanged (At k (Write offset type bytes)) = is_number k ≡ true
+IsRanged (At k (Write offset type bytes)) = (is_number k ≡ true) × AreBytes bytes
 
 -- so what an accepted record makes of a lawful state is lawful, wherever its range stands
 abbrev pub ReceivedIsState : Type 0

@@ -27,3 +27,4 @@ pub mod Results
 pub mod UniqueElements
 pub mod EmptyLists
 pub mod ListTests
+pub mod LowBytes

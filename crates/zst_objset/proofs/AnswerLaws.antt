@@ -65,7 +65,7 @@ module _ (has : Blocks) (ptr : Ptr) (k i : ℕ) (read : List ℕ) (less : i < 2 
   pub data_read : (block : Block) (size : ℕ) (result : Result Cell ObjFault) → ptr.kind ≡ 1 → BlockIs has ptr block → BlockFits size block → ((bytes : List ℕ) → has ptr bytes → length bytes ≡ size → ReadsData bytes read result) → ReadsBlock (block_found k i block) read result
   data_read Hole size result kind is fits told = absurd (omega (arith, kind, is))
   data_read Redacted size result kind is fits told = absurd (omega (arith, kind, is))
-  data_read (Data bytes) size result kind is fits told = data_result bytes result (told bytes is.1 fits)
+  data_read (Data bytes) size result kind is fits told = data_result bytes result (told bytes is.1 fits.0)
 
 -- where no object is there, what the definition refuses is refused
 pub none_refused : {A : Type 0} (definition : Result A Refusal) (has : Blocks) (snap : DatedState) (k : ℕ) (fault : ObjFault) → (snap.state k ≡ None → definition ≡ Err (refusals.CannotApply 0 NoObject)) → FindsThere has snap k (Err fault) → Refuses definition fault

@@ -17,7 +17,7 @@ use Rattle.zst_model.specs.declared.states.item.Change.TheVariants.{Put}
 use Rattle.zst_model.specs.pools.Step.{filled, in_numbers}
 use Rattle.zst_model.specs.states.AppliedItems.{apply_change, attr_with}
 use Rattle.zst_model.specs.states.DatedState.{DatedState, makes_anew}
-use Rattle.zst_model.specs.states.State.{Block, Hole, Object, IsBonus, IsHead, index_bound, is_number, is_odd_size, number_bound, past_last}
+use Rattle.zst_model.specs.states.State.{Block, Hole, Object, IsBonus, IsHead, index_bound, largest_bonus, is_number, is_odd_size, number_bound, past_last}
 use Rattle.zst_tree.specs.Indices.{Blocks, Map, TreeIs}
 use Rattle.zst_objset.specs.KeptBlocks.{kept_blocks, kept_spill, no_blocks}
 use Rattle.zst_objset.specs.Dnodes.{BlockIs, DnodeAt, DnodeIs, ObjectIs, SpillIs, tree_of}
@@ -131,7 +131,7 @@ module _ (size number : ℕ) (small : number < 2 ^ 64) where
   spill_fits false (Some dnode) fits = no_spill_fits
 
 -- a bonus and zeros behind it
-bonus_fits : (bonus : List ℕ) → IsBonus bonus → IsBonusField (length bonus) (filled 320 bonus)
+bonus_fits : (bonus : List ℕ) → length bonus ≤ largest_bonus → IsBonusField (length bonus) (filled 320 bonus)
 bonus_fits bonus few = record {
   size = omega (arith, length-append bonus (replicate (320 - length bonus) 0), length-replicate {A = ℕ} (320 - length bonus) 0);
   inside = few;
@@ -154,7 +154,7 @@ dnode_with head bonus kept spill number = record {
   bonus = filled 320 bonus;
 }
 
-dnode_fits : (head : ObjectHead) (bonus : List ℕ) (kept : BlockTree) (spill : Ptr) (number : ℕ) → IsHead head → IsBonus bonus → number < 2 ^ 64 → BlocksFit head.block_size kept → SpillFits spill → DnodeFits (dnode_with head bonus kept spill number)
+dnode_fits : (head : ObjectHead) (bonus : List ℕ) (kept : BlockTree) (spill : Ptr) (number : ℕ) → IsHead head → length bonus ≤ largest_bonus → number < 2 ^ 64 → BlocksFit head.block_size kept → SpillFits spill → DnodeFits (dnode_with head bonus kept spill number)
 dnode_fits head bonus kept spill number is_head few small blocks fits = record {
   head = is_head;
   bonus = bonus_fits bonus few;
@@ -171,7 +171,7 @@ dnode_fits head bonus kept spill number is_head few small blocks fits = record {
   spill = fits.kind;
 }
 
-pub put_fits : (number : ℕ) (head : ObjectHead) (bonus : List ℕ) (keep_spill : Bool) (found : Option Dnode) → IsHead head → IsBonus bonus → number < 2 ^ 64 → IfSome found DnodeFits
+pub put_fits : (number : ℕ) (head : ObjectHead) (bonus : List ℕ) (keep_spill : Bool) (found : Option Dnode) → IsHead head → length bonus ≤ largest_bonus → number < 2 ^ 64 → IfSome found DnodeFits
     → DnodeFits (dnode_with head bonus (kept_blocks head.block_size number found) (kept_spill keep_spill number found) number)
 put_fits number head bonus keep_spill found is_head few small fits =
     dnode_fits head bonus _ _ number is_head few small (blocks_fit head.block_size number small found fits) (spill_fits head.block_size number small keep_spill found fits)
@@ -186,7 +186,7 @@ put_makes_dnode has number k head bonus keep_spill state found is_one is_head fe
       object = object_with head bonus keep_spill (state.state k);
       made = put_makes head bonus keep_spill (state.state k);
       lawful = (is_one, (is_head, few));
-      fits = put_fits number head bonus keep_spill found is_head few small fits;
+      fits = put_fits number head bonus keep_spill found is_head few.0 small fits;
       map = kept.map;
       is = record {
         type_is = refl;

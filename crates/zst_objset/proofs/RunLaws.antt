@@ -3,6 +3,7 @@ use Rattle.std.proofs.Common.{◌≡◌, ◌⊎◌, inr, ℕ, ◌+◌, ◌*◌, 
 use Rattle.std.proofs.lemmas.List.{get_or-set_other, get_or-set_same, take_all}
 use Rattle.std.proofs.lemmas.Bool.{cases_lt, true≢false}
 use Rattle.std.proofs.lemmas.Bool.Decides.{nat_tests}
+use Rattle.std.proofs.lemmas.List.Elements.{All-drop, All-take}
 use Rattle.zst_block.specs.declared.ptr.Ptr.{Ptr}
 use Rattle.zst_block.specs.Ptr.{PtrFits}
 use Rattle.zst_block.specs.declared.fault.BlockFault.TheVariants as blocks
@@ -14,7 +15,7 @@ use Rattle.zst_model.specs.declared.states.item.Item.TheVariants.{At}
 use Rattle.zst_model.specs.declared.refusals.refusal.Refusal.{Refusal}
 use Rattle.zst_model.specs.states.AppliedItems.{◌>>=◌, apply_change}
 use Rattle.zst_model.specs.states.DatedState.{DatedState}
-use Rattle.zst_model.specs.states.State.{Data, IsState, Object, end_of, index_bound, is_hole, is_number, is_odd_size}
+use Rattle.zst_model.specs.states.State.{AreBytes, Data, IsState, Object, end_of, index_bound, is_hole, is_number, is_odd_size}
 use Rattle.zst_model.specs.pools.Step.{of_applying}
 use Rattle.zst_model.specs.declared.refusals.apply_fault.ApplyFault.TheVariants.{SizeDiffers}
 use Rattle.zst_model.specs.declared.refusals.refusal.Refusal.TheVariants as refusals
@@ -104,7 +105,7 @@ abbrev pub with_end : Dnode → ℕ → Dnode
 with_end dnode end = record dnode { end = end }
 
 -- one block more is written
-module _ (has : Blocks) (number k i : ℕ) (bytes : List ℕ) (before snap : DatedState) (dnode : Dnode) (map : Map) (run : IsRun has before snap k dnode map) (is_one : is_number k ≡ true) (may : IsWritable dnode.block_size i (length bytes)) where
+module _ (has : Blocks) (number k i : ℕ) (bytes : List ℕ) (before snap : DatedState) (dnode : Dnode) (map : Map) (run : IsRun has before snap k dnode map) (is_one : is_number k ≡ true) (may : IsWritable dnode.block_size i (length bytes)) (all : AreBytes bytes) where
   size_over : 0 < run.due.object.attr.block_size
   size_over = block_some run.due.object.attr.block_size (object_of (snap.state k) run.due.object run.due.there (run.lawful.objects k)).attr.head.size
 
@@ -126,7 +127,7 @@ module _ (has : Blocks) (number k i : ℕ) (bytes : List ℕ) (before snap : Dat
 
   lawful_item : IsLawfulItem (At k (write_at i bytes (snap.state k))) snap.state
   unfolding index_bound
-  lawful_item = (is_one, λ j over. rw run.due.there (let is : (j == i) ≡ false = grind (arith, nat_tests, may.inside) in rw (same_place run.due.object.attr.block_size i j size_over, is) refl))
+  lawful_item = (is_one, (all, λ j over. rw run.due.there (let is : (j == i) ≡ false = grind (arith, nat_tests, may.inside) in rw (same_place run.due.object.attr.block_size i j size_over, is) refl)))
 
   module _ (block : Ptr) (is : BlockIs has block (Data bytes)) (dated : block.number ≡ number) where
     at : (j : ℕ) → (j == i) ≡ true → with_leaf map (record { index = i; ptr = block }) j ≡ block
@@ -209,17 +210,18 @@ run_ends has before now k dnode map tree run stands = record {
       };
     }
 
--- an object may be written neighbouring whole blocks
+-- an object may be written neighbouring whole blocks, which are bytes
 pub record MayWrite (size i count : ℕ) (bytes : List ℕ) : Type 0 where
   pub whole : length bytes ≡ count * size
   pub alone : is_odd_size size ≡ true → i + count ≤ 1
   pub inside : i + count ≤ 2 ^ 43
+  pub all : AreBytes bytes
 
-pub may_write : (size i count : ℕ) (bytes : List ℕ) → length bytes ≡ count * size → is_odd_size size ≡ false → i + count ≤ 2 ^ 43 → MayWrite size i count bytes
-may_write size i count bytes whole even inside = record { whole = whole; alone = λ odd. absurd (true≢false (sym odd ∙ even)); inside = inside }
+pub may_write : (size i count : ℕ) (bytes : List ℕ) → length bytes ≡ count * size → is_odd_size size ≡ false → i + count ≤ 2 ^ 43 → AreBytes bytes → MayWrite size i count bytes
+may_write size i count bytes whole even inside all = record { whole = whole; alone = λ odd. absurd (true≢false (sym odd ∙ even)); inside = inside; all = all }
 
-pub may_write_one : (size i : ℕ) (bytes : List ℕ) → IsWritable size i (length bytes) → MayWrite size i 1 bytes
-may_write_one size i bytes may = record { whole = may.whole ∙ omega arith; alone = λ odd. omega (arith, may.alone odd); inside = omega (arith, may.inside) }
+pub may_write_one : (size i : ℕ) (bytes : List ℕ) → IsWritable size i (length bytes) → AreBytes bytes → MayWrite size i 1 bytes
+may_write_one size i bytes may all = record { whole = may.whole ∙ omega arith; alone = λ odd. omega (arith, may.alone odd); inside = omega (arith, may.inside); all = all }
 
 pub may_one : (size i count : ℕ) (bytes : List ℕ) → MayWrite size i (suc count) bytes → IsWritable size i (length (take size bytes))
 may_one size i count bytes may = record {
@@ -233,6 +235,7 @@ may_rest size i count bytes may = record {
   whole = length-drop size bytes ∙ omega (arith, may.whole);
   alone = λ odd. omega (arith, may.alone odd);
   inside = omega (arith, may.inside);
+  all = All-drop (λ byte. byte < 2 ^ 8) size bytes may.all;
 }
 
 -- what neighbouring blocks make of a state, and what is due then
@@ -254,12 +257,13 @@ pub step : (has : Blocks) (number k size count i : ℕ) (bytes : List ℕ) (befo
     → IsRun has before snap k dnode map → MayWrite size i (suc count) bytes → IsWritten has number i (take size bytes) leaf → Step has number k size i bytes before snap dnode map leaf
 step has number k size count i bytes before snap dnode map leaf law is_one size_is run may written =
     let may_be : IsWritable dnode.block_size i (length (take size bytes)) = subst (λ (n : ℕ). IsWritable n i (length (take size bytes))) (sym size_is) (may_one size i count bytes may) in
+    let first_bytes : AreBytes (take size bytes) = All-take (λ byte. byte < 2 ^ 8) size bytes may.all in
     let same : record { index = i; ptr = leaf.ptr } ≡ leaf = ap (λ (n : ℕ). record { index = n; ptr = leaf.ptr }) (sym written.index_is) in
     record {
-      mid = after has number k i (take size bytes) before snap dnode map run is_one may_be;
-      is = accepted has number k i (take size bytes) before snap dnode map run is_one may_be;
-      run = subst (λ (l : Leaf). IsRun has before (after has number k i (take size bytes) before snap dnode map run is_one may_be) k (with_end dnode (max dnode.end (i + 1))) (with_leaf map l)) same
-          (run_goes_on has number k i (take size bytes) before snap dnode map run is_one may_be leaf.ptr written.block written.dated law);
+      mid = after has number k i (take size bytes) before snap dnode map run is_one may_be first_bytes;
+      is = accepted has number k i (take size bytes) before snap dnode map run is_one may_be first_bytes;
+      run = subst (λ (l : Leaf). IsRun has before (after has number k i (take size bytes) before snap dnode map run is_one may_be first_bytes) k (with_end dnode (max dnode.end (i + 1))) (with_leaf map l)) same
+          (run_goes_on has number k i (take size bytes) before snap dnode map run is_one may_be first_bytes leaf.ptr written.block written.dated law);
     }
 
 pub all_run : (has : Blocks) (number k size count i : ℕ) (bytes : List ℕ) (before snap : DatedState) (dnode : Dnode) (map : Map) (leaves : List Leaf) → AppliedIsState → is_number k ≡ true → dnode.block_size ≡ size → length leaves ≡ suc count

@@ -1,5 +1,5 @@
 //! The call that allocates an object, or gives it other attributes.
-ghost use Rattle.std.specs.Prelude.{◌≡◌, ◌<◌, ◌≤◌, ℕ, true, List, IfSome, OnOk, ◌+◌};
+ghost use Rattle.std.specs.Prelude.{◌≡◌, ◌<◌, ◌≤◌, ℕ, true, List, length, IfSome, OnOk, ◌+◌};
 ghost use Rattle.zst_space.specs.FreeSectors.{FreeSectors};
 ghost use Rattle.zst_block.specs.Blocks.{Has};
 ghost use Rattle.zst_block.specs.IoStates.{IsHonest, disk_of, io_of, IsSparedBy};
@@ -9,7 +9,7 @@ ghost use Rattle.zst_model.specs.declared.refusals.faults.Quantity.TheVariants a
 ghost use Rattle.zst_model.specs.declared.states.item.Change.TheVariants.{Put};
 ghost use Rattle.zst_model.specs.pools.Step.{filled};
 ghost use Rattle.zst_model.specs.states.DatedState.{DatedState};
-ghost use Rattle.zst_model.specs.states.State.{IsBonus, IsHead, is_number, number_bound};
+ghost use Rattle.zst_model.specs.states.State.{IsHead, is_number, largest_bonus, number_bound};
 ghost use Rattle.zst_tree.specs.Sets.{SetFits};
 ghost use Rattle.zst_objset.specs.KeptBlocks.{KeepsTree, kept_blocks, kept_spill, no_blocks};
 ghost use Rattle.zst_objset.specs.Answers.{LimitOnly};
@@ -80,7 +80,7 @@ fn kept_spill(was: &Option<Dnode>, keep_spill: bool, number: u64) -> Ptr
 
 // A bonus, and zeros behind it.
 fn bonus_field(bonus: &[u8]) -> [u8; 320]
-    requires { IsBonus bonus.now }
+    requires { length bonus.now ≤ largest_bonus }
     ensures { result ≡ filled 320 bonus.now }
 {
     let mut field = [0; 320];
@@ -97,7 +97,7 @@ fn made_dnode(
     number: u64,
 ) -> Dnode
     requires head { IsHead head }
-    requires bonus { IsBonus bonus.now }
+    requires bonus { length bonus.now ≤ largest_bonus }
     requires ranges { IfSome was.now DnodeFits }
     ensures fits { DnodeFits result }
     ensures tree { KeepsTree was.now result }
@@ -135,7 +135,7 @@ pub(crate) fn put_object<D: Disk>(
 ) -> Result<(), ObjFault>
     requires object { 0 < object }
     requires head { IsHead head }
-    requires bonus { IsBonus bonus.now }
+    requires bonus { length bonus.now ≤ largest_bonus }
     ensures changes { ChangesTightSet SetHas SetHasTight SetFits number (object_put number object head bonus.now keep_spill) (LimitOnly quantities.Object number_bound (object + 1))
         (IsDamagedSet (IsSparedBy io.old) (disk_of io.old).size set.old) 640 16 (io_of io.old) (io_of io.new) set.old set.new result }
     ensures within { IsHonest io.new → OnOk result (IsSetWithin (IsSparedBy io.old) (disk_of io.old).size set.old (IsSparedBy io.new) set.new) }

@@ -1,5 +1,5 @@
 //! The calls that change a set.
-ghost use Rattle.std.specs.Prelude.{◌≡◌, ◌+◌, ◌/◌, ◌<◌, ◌^◌, ℕ, Ok, OnOk, length};
+ghost use Rattle.std.specs.Prelude.{◌≡◌, ◌+◌, ◌/◌, ◌<◌, ◌^◌, ℕ, true, Ok, OnOk, length};
 ghost use Rattle.zst_block.specs.Ptr.{PtrFits};
 ghost use Rattle.zst_block.specs.IoStates.{IsHonest, blocks_of, disk_of, io_of, IsSparedBy};
 ghost use Rattle.zst_dnode.specs.Dnode.{DnodeFits};
@@ -8,7 +8,7 @@ ghost use Rattle.zst_model.specs.declared.states.item.Change.{Change};
 ghost use Rattle.zst_model.specs.declared.states.item.Item.TheVariants.{At};
 ghost use Rattle.zst_model.specs.pools.Soundness.{DatedUpTo};
 ghost use Rattle.zst_model.specs.states.DatedState.{DatedState};
-ghost use Rattle.zst_model.specs.states.State.{IsSpill};
+ghost use Rattle.zst_model.specs.states.State.{is_spill_size};
 ghost use Rattle.zst_tree.specs.Sets.{SetFits};
 ghost use Rattle.zst_objset.specs.Answers.{Changes, NotLimit};
 ghost use Rattle.zst_objset.specs.Changes.{changed, spill_put};
@@ -112,7 +112,7 @@ pub(crate) fn put_spill<D: Disk>(
     number: u64,
 ) -> Result<(), ObjFault>
     requires object { 0 < object }
-    requires spill { IsSpill bytes.now }
+    requires spill { is_spill_size (length bytes.now) ≡ true }
     ensures changes { ChangesTightSet SetHas SetHasTight SetFits number (spill_put number object bytes.now) NotLimit
         (IsDamagedSet (IsSparedBy io.old) (disk_of io.old).size set.old) (640 + length bytes.now / 512) (length bytes.now / 512) (io_of io.old) (io_of io.new) set.old set.new result }
     ensures trees { IsHonest io.new → OnOk result (AreTreesWithin (IsSparedBy io.old) (disk_of io.old).size set.old (IsSparedBy io.new) set.new) }

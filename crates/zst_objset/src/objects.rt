@@ -1,4 +1,4 @@
-ghost use Rattle.std.specs.Prelude.{◌≡◌, ◌/◌, ◌+◌, ◌<◌, ◌≤◌, ℕ, List, length, IfErr, IfOk, IfSome, OnOk, Some};
+ghost use Rattle.std.specs.Prelude.{◌≡◌, ◌/◌, ◌+◌, ◌<◌, ◌≤◌, ℕ, true, List, length, IfErr, IfOk, IfSome, OnOk, Some};
 ghost use Rattle.zst_space.specs.FreeSectors.{FreeSectors};
 ghost use Rattle.zst_block.specs.Blocks.{Has};
 ghost use Rattle.zst_block.specs.IoStates.{IsHonest, blocks_of, disk_of, io_of, IsSparedBy};
@@ -10,7 +10,7 @@ ghost use Rattle.zst_model.specs.pools.Pool.{untouched};
 ghost use Rattle.zst_model.specs.pools.Soundness.{DatedUpTo};
 ghost use Rattle.zst_model.specs.states.DatedState.{DatedState};
 ghost use Rattle.zst_model.specs.declared.refusals.faults.Quantity.TheVariants as quantities;
-ghost use Rattle.zst_model.specs.states.State.{Object, IsBonus, IsHead, IsSpill, index_bound, number_bound};
+ghost use Rattle.zst_model.specs.states.State.{Object, IsHead, index_bound, is_spill_size, largest_bonus, number_bound};
 ghost use Rattle.zst_tree.specs.Damage.{IsSeen, NamesNode, SumsUp};
 ghost use Rattle.zst_tree.specs.Indices.{Blocks};
 ghost use Rattle.zst_tree.specs.Steps.{LooksAtMost};
@@ -120,7 +120,7 @@ pub trait Objects<D: Disk> {
     ) -> Result<(), ObjFault>
         requires object { 0 < object }
         requires head { IsHead head }
-        requires bonus { IsBonus bonus.now }
+        requires bonus { length bonus.now ≤ largest_bonus }
         ensures changes { ChangesTightSet holds tight fits number (object_put number object head bonus.now keep_spill) (LimitOnly quantities.Object number_bound (object + 1))
             (slot_damage (IsSparedBy io.old) (disk_of io.old).size self.old) 640 16 (io_of io.old) (io_of io.new) self.old self.new result }
         ensures within { IsHonest io.new → OnOk result ((sector : ℕ) (stated found : List ℕ) → slot_damage (IsSparedBy io.new) (disk_of io.old).size self.new sector stated found
@@ -136,7 +136,7 @@ pub trait Objects<D: Disk> {
         number: u64,
     ) -> Result<(), ObjFault>
         requires object { 0 < object }
-        requires spill { IsSpill bytes.now }
+        requires spill { is_spill_size (length bytes.now) ≡ true }
         ensures changes { ChangesTightSet holds tight fits number (spill_put number object bytes.now) NotLimit
             (slot_damage (IsSparedBy io.old) (disk_of io.old).size self.old) (640 + length bytes.now / 512) (length bytes.now / 512) (io_of io.old) (io_of io.new) self.old self.new result }
         ensures trees { IsHonest io.new → OnOk result (TellsWithin (tree_damage (IsSparedBy io.new) (disk_of io.old).size (SumsUp (IsSparedBy io.new)) self.new) (tree_damage (IsSparedBy io.old) (disk_of io.old).size (SumsUp (IsSparedBy io.old)) self.old)) };

@@ -18,3 +18,4 @@ mod AcceptedTokens
 mod RefusedStreams
 mod SentTokens
 pub mod AlikeAnswers
+pub mod FoundTokens

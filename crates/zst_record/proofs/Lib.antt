@@ -10,3 +10,4 @@ pub mod PayloadNumbers
 pub mod PayloadFields
 pub mod PayloadWrites
 pub mod PayloadLaws
+pub mod HeadBytes

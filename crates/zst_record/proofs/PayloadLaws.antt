@@ -11,9 +11,9 @@ use Rattle.zst_bytes.proofs.WordLists.{length-words}
 use Rattle.zst_model.specs.declared.sends.header.Header.{Header}
 use Rattle.zst_model.specs.declared.sends.header.Point.{Point}
 use Rattle.zst_model.specs.sends.Features.{redacts, resuming}
-use Rattle.zst_model.specs.states.State.{number_bound}
+use Rattle.zst_model.specs.states.State.{AreBytes, number_bound}
 use Rattle.zst_record.specs.Decoding.{is_payload_len, needs_payload}
-use Rattle.zst_record.specs.Laws.{AreBytes, HasPayload, PayloadFits}
+use Rattle.zst_record.specs.Laws.{HasPayload, PayloadFits}
 use Rattle.zst_record.specs.Payload.{StatesPayload, StatesResume, bare, begin_payload, behind_magic, content_of, content_with, foreign, goes_with_redacted, goes_with_resuming, goes_with_source, has_magic, has_payload, numbers_in, opened, payload_bytes, payload_fields, payload_magic, said_beside, stated_point, wrong}
 use Rattle.zst_record.proofs.PayloadFields.{IsRight, content_found, content_right, require-ok, require-true}
 use Rattle.zst_record.proofs.PayloadNumbers.{numbers-read, numbers-small, words-back}

@@ -9,14 +9,14 @@ use Rattle.std.specs.List.{position_or_len}
 use Rattle.std.specs.Prelude.{bit_and}
 use Rattle.byteorder.specs.Endian.{little_from}
 use Rattle.zst_bytes.specs.Bytes.{bytes_at, number_at}
-use Rattle.zst_model.specs.states.State.{is_block_size, is_spill_size}
+use Rattle.zst_model.specs.states.State.{AreBytes, is_block_size, is_spill_size}
 use Rattle.zst_model.specs.sends.Features.{redacts}
 use Rattle.zst_model.proofs.Booleans.{right_fails}
 use Rattle.zst_record.specs.declared.head.Head.{Head}
 use Rattle.zst_record.specs.declared.head.Head.TheVariants as heads
 use Rattle.zst_record.specs.Formats.{stream_magic, reversed_magic, large_blocks}
 use Rattle.zst_record.specs.Decoding.{Decoded, is_object, is_range, is_payload_len, needs_payload, others_of, decoded, begin_of, begin_with, snapshot_with, header_with, name_in, features_in, sums_at, typed, object_with, write_with, free_with, spill_with, redact_with}
-use Rattle.zst_record.specs.Laws.{AreBytes, Begins, Follows}
+use Rattle.zst_record.specs.Laws.{Begins, Follows}
 use Rattle.zst_record.proofs.CheckedHeads.{Gives, gives-err, gives-ok, gives-check, gives-if, gives-named}
 
 -- ---- numbers of bytes

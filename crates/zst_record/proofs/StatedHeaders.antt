@@ -12,9 +12,9 @@ use Rattle.zst_model.specs.declared.sends.header.Point.{Point}
 use Rattle.zst_model.specs.fields.Guids.{IsGuidSet}
 use Rattle.zst_model.specs.pools.Pool.{IsKind, IsStated}
 use Rattle.zst_model.specs.sends.Features.{redacts, resuming}
+use Rattle.zst_model.specs.states.State.{AreBytes}
 use Rattle.zst_record.specs.Decoding.{needs_payload}
 use Rattle.zst_record.specs.RecordValues.{BeginFits}
-use Rattle.zst_record.specs.Laws.{AreBytes}
 use Rattle.zst_record.specs.Payload.{StatesPayload, StatesResume, bare}
 
 kind-is : (kind : ℕ) → ((kind == 2) || (kind == 3)) ≡ true → IsKind kind

@@ -1,7 +1,8 @@
 -- What is written is read again, and what passes its checks is in its table's ranges.
-use Rattle.std.specs.Prelude.{ℕ, ◌≡◌, ◌⊎◌, ◌==◌, ◌^◌, ◌<◌, ◌≤◌, ◌%◌, true, false, not, List, length, Ok, All}
+use Rattle.std.specs.Prelude.{ℕ, ◌≡◌, ◌⊎◌, ◌==◌, ◌<◌, ◌≤◌, ◌%◌, true, false, not, List, length, Ok}
 use Rattle.zst_model.specs.declared.sends.header.Header.{Header}
 use Rattle.zst_model.specs.pools.Pool.{IsStated}
+use Rattle.zst_model.specs.states.State.{AreBytes}
 use Rattle.zst_record.specs.declared.head.Head.{Head}
 use Rattle.zst_record.specs.declared.head.Head.TheVariants as heads
 use Rattle.zst_record.specs.Formats.{begin_type, compound_stream, compressed_bit, dedup_bit, dedup_props_bit, embed_data_bit, end_type, free_objects_type, free_type, large_blocks, longest_payload, lz4_bit, object_range_type, object_type, other_features, raw_bit, record_len, redact_type, reversed_magic, spill_type, stream_magic, substream, summed_len, write_by_reference_type, write_embedded_type, write_type}
@@ -34,10 +35,6 @@ IsBounded head = (payload_len head % 4 ≡ 0) × (payload_len head ≤ longest_p
 abbrev pub PayloadIsBounded : Type 0
 PayloadIsBounded =
     (at features : ℕ) (bytes : List ℕ) (head : Head) → decoded at features bytes ≡ Ok head → IsBounded head
-
--- numbers that are bytes
-abbrev pub AreBytes : List ℕ → Type 0
-AreBytes bytes = All (λ byte. byte < 2 ^ 8) bytes
 
 -- a BEGIN of a stream with these features that fits, and whose name is bytes
 abbrev pub Begins : ℕ → Head → Type 0

@@ -14,13 +14,13 @@ use Rattle.zst_image.specs.Reads.{free_by}
 use Rattle.zst_image.specs.declared.pool_state.PoolState.{PoolState}
 use Rattle.zst_model.specs.declared.refusals.refusal.Refusal.{Refusal}
 use Rattle.zst_model.specs.pools.Pool.{Pool}
+use Rattle.zst_model.specs.states.State.{AreBytes}
 use Rattle.zst_plan.specs.declared.receive.RecvAsk.{RecvAsk}
 use Rattle.zst_pool.specs.Calls.{IsUnderWay}
 use Rattle.zst_reader.specs.StandsFor.{StandsFor, HandsOut, handed_of}
 use Rattle.zst_reader.specs.declared.reader.Reader.{Reader}
 use Rattle.zst_record.specs.Decoding.{features_in}
 use Rattle.zst_record.specs.Heads.{Covered}
-use Rattle.zst_record.specs.Laws.{AreBytes}
 use Rattle.zst_stream.specs.PassedRecords.{HasPassed}
 use Rattle.zst_stream.specs.Reading.{Outcome, reading}
 use Rattle.zst_stream.proofs.PassedRecords.{passed}

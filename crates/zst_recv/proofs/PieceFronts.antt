@@ -9,12 +9,12 @@ use Rattle.zst_model.specs.declared.refusals.refusal.Refusal.TheVariants as refu
 use Rattle.zst_model.specs.declared.refusals.stream_fault.StreamFault.{StreamFault}
 use Rattle.zst_model.specs.pools.Pool.{Pool}
 use Rattle.zst_model.specs.refusals.Refusal.{refusal_of}
+use Rattle.zst_model.specs.states.State.{AreBytes}
 use Rattle.zst_plan.specs.declared.receive.RecvAsk.{RecvAsk}
 use Rattle.zst_pool.specs.declared.fault.PoolFault.TheVariants as pools
 use Rattle.zst_reader.specs.StandsFor.{StandsFor, HandsOut}
 use Rattle.zst_reader.specs.declared.reader.Reader.{Reader}
 use Rattle.zst_record.specs.Heads.{Covered}
-use Rattle.zst_record.specs.Laws.{AreBytes}
 use Rattle.zst_stream.specs.Reading.{FrontOf, Outcome, Reading, waiting, faulty, complete, reading}
 use Rattle.zst_stream.proofs.Growth.{front}
 use Rattle.zst_recv.specs.Feeds.{fault_of, new_records}

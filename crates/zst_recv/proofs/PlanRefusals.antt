@@ -6,6 +6,7 @@ use Rattle.zst_model.specs.declared.refusals.plan_fault.PlanFault.TheVariants as
 use Rattle.zst_model.specs.declared.refusals.stream_fault.StreamFault.{StreamFault}
 use Rattle.zst_model.specs.declared.sends.header.Header.{Header}
 use Rattle.zst_model.proofs.EmptyLists.{nothing_left}
+use Rattle.zst_model.specs.states.State.{AreBytes}
 use Rattle.zst_objset.specs.declared.fault.ObjFault.{ObjFault}
 use Rattle.zst_objset.specs.declared.fault.ObjFault.TheVariants as sets
 use Rattle.zst_block.specs.declared.fault.BlockFault.TheVariants as blocks
@@ -20,7 +21,6 @@ use Rattle.zst_reader.specs.StandsFor.{HandsOut, StandsFor}
 use Rattle.zst_reader.specs.declared.reader.Reader.{Reader}
 use Rattle.zst_record.specs.Heads.{Covered}
 use Rattle.zst_record.specs.declared.head.Head.TheVariants as heads
-use Rattle.zst_record.specs.Laws.{AreBytes}
 use Rattle.zst_stream.specs.Reading.{FrontOf, Outcome, Reading, faulty, reading, waiting}
 use Rattle.zst_stream.proofs.Growth.{front}
 use Rattle.zst_recv.specs.Faults.{of_record}

@@ -7,6 +7,7 @@ use Rattle.zst_image.specs.declared.pool_state.PoolState.{PoolState}
 use Rattle.zst_model.specs.declared.sends.header.Point.{Point}
 use Rattle.zst_model.specs.sends.Items.{origin}
 use Rattle.zst_model.specs.pools.Pool.{Pool, dataset_named}
+use Rattle.zst_model.specs.states.State.{AreBytes}
 use Rattle.zst_plan.specs.Receipts.{TellsDates}
 use Rattle.zst_plan.specs.declared.receive.RecvAsk.{RecvAsk}
 use Rattle.zst_pool.specs.PartialRows.{CanPut}
@@ -15,7 +16,6 @@ use Rattle.zst_reader.specs.declared.reader.Reader.{Reader}
 use Rattle.zst_record.specs.Heads.{Covered}
 use Rattle.zst_record.specs.declared.head.Head.{Head}
 use Rattle.zst_record.specs.declared.head.Head.TheVariants as heads
-use Rattle.zst_record.specs.Laws.{AreBytes}
 use Rattle.zst_stream.specs.Reading.{waiting}
 use Rattle.zst_tree.specs.Indices.{Blocks}
 use Rattle.zst_recv.specs.ReceiveSteps.{Stage, Waits, Lives, Ends, Batch}

@@ -1,8 +1,8 @@
 -- How many records of a stream a receive has applied.
 use Rattle.std.specs.Prelude.{ℕ, ◌+◌, ◌≡◌, false, List, [], ◌++◌, length}
 use Rattle.zst_model.specs.pools.Pool.{Pool}
+use Rattle.zst_model.specs.states.State.{AreBytes}
 use Rattle.zst_plan.specs.declared.receive.RecvAsk.{RecvAsk}
-use Rattle.zst_record.specs.Laws.{AreBytes}
 use Rattle.zst_stream.specs.Reading.{reading}
 use Rattle.zst_recv.specs.Answers.{applied_of, is_done}
 use Rattle.zst_recv.specs.Feeds.{fed_piece}

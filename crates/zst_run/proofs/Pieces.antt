@@ -4,7 +4,7 @@ use Rattle.std.specs.List.{All, concat}
 use Rattle.std.proofs.lemmas.List.{append-nil}
 use Rattle.std.proofs.lemmas.List.Elements.{All-append, All-cons, All-head, All-nil, All-tail}
 use Rattle.std.proofs.lemmas.List.Folds.{concat-append}
-use Rattle.zst_record.specs.Laws.{AreBytes}
+use Rattle.zst_model.specs.states.State.{AreBytes}
 use Rattle.zst_run.specs.Receives.{ArePieces, piece_size}
 use Rattle.zst_run.specs.ReceiveTurns.{with_piece}
 

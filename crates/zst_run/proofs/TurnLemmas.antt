@@ -17,6 +17,7 @@ use Rattle.zst_model.specs.declared.refusals.stream_fault.StreamFault.{StreamFau
 use Rattle.zst_model.specs.declared.refusals.stream_fault.StreamFault.TheVariants as stream
 use Rattle.zst_model.specs.pools.KeptPool.{kept_of}
 use Rattle.zst_model.specs.pools.Pool.{Pool}
+use Rattle.zst_model.specs.states.State.{AreBytes}
 use Rattle.zst_plan.specs.declared.receive.RecvAsk.{RecvAsk}
 use Rattle.zst_pool.specs.Calls.{IsAtRest}
 use Rattle.zst_pool.specs.Faults.{pool_refusal}
@@ -24,7 +25,6 @@ use Rattle.zst_pool.specs.declared.fault.PoolFault.{PoolFault}
 use Rattle.zst_pool.specs.declared.fault.PoolFault.TheVariants as pools
 use Rattle.zst_reader.specs.InputReads.{stream_limit}
 use Rattle.zst_record.specs.Heads.{Covered, size_of}
-use Rattle.zst_record.specs.Laws.{AreBytes}
 use Rattle.zst_record.specs.declared.head.Head.{Head}
 use Rattle.zst_stream.specs.Findings.{IsFound}
 use Rattle.zst_stream.specs.Reading.{Reading, Ruling, after, last, more, reading, reading_from, refuse, ruling, wait}

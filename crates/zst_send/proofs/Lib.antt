@@ -19,3 +19,4 @@ mod SetsBut
 mod ListReads
 mod SourceLists
 pub mod StandingRows
+mod SentTexts

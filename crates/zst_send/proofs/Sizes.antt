@@ -41,13 +41,13 @@ object_lawful snap k object lawful there = subst IsObjectOrNone there (lawful.ob
 -- the bytes of a block of a lawful object, and of its spill block, are no more than the most
 pub data_most : (object : Object) (i : ℕ) (bytes : List ℕ) → IsObject object → object.blocks i ≡ Data bytes → length bytes ≤ 131072
 data_most object i bytes lawful is =
-    let long : length bytes ≡ object.attr.block_size = subst (BlockFits object.attr.block_size) is (lawful.fits i) in
+    let long : length bytes ≡ object.attr.block_size = (subst (BlockFits object.attr.block_size) is (lawful.fits i)).0 in
     let most : object.attr.block_size ≤ 131072 = size_most object.attr.block_size lawful.attr.head.size in
     omega (arith, long, most)
 
 spills_most : (spill : Option (List ℕ)) → IfSome spill IsSpill → IfSome spill (λ bytes. length bytes ≤ 131072)
 spills_most None is = tt
-spills_most (Some bytes) is = size_most (length bytes) (spill_is_block (length bytes) is)
+spills_most (Some bytes) is = size_most (length bytes) (spill_is_block (length bytes) is.0)
 
 pub spill_most : (object : Object) → IsObject object → IfSome object.attr.spill (λ bytes. length bytes ≤ 131072)
 spill_most object lawful = spills_most object.attr.spill lawful.attr.spill

@@ -14,3 +14,4 @@ pub mod Subjects
 pub mod Takes
 pub mod WalkPositions
 pub mod WalkReads
+pub mod SentBytes

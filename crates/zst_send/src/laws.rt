@@ -7,9 +7,12 @@ ghost use Rattle.zst_image.specs.Reads.{RunsBy};
 ghost use Rattle.zst_model.specs.pools.Pool.{Pool};
 ghost use Rattle.zst_plan.specs.Receipts.{TellsDates};
 ghost use Rattle.zst_send.specs.Openings.{RowsStandForSends};
+ghost use Rattle.zst_send.specs.SentBytes.{RestsAreBytes, SentAreBytes};
 ghost use Rattle.zst_send.specs.Sends.{EqualViewsAreSentAlike, SameViewsSameRest, SendsGoOn};
 
+use zst_laws::plans_are_of_pool;
 use zst_objset::sets_hold_states;
+use zst_stream::text_is_bytes;
 
 /// What others do between two takes doesn't matter, as long as the send's blocks stay.
 pub fn sends_go_on()
@@ -23,6 +26,15 @@ pub fn equal_views_are_sent_alike()
     ensures alike { EqualViewsAreSentAlike }
     ensures rest { SameViewsSameRest }
 {}
+
+/// What is sent of a lawful pool is bytes, from its beginning and from a token's point.
+pub fn sent_are_bytes()
+    ensures sent { SentAreBytes }
+    ensures rest { RestsAreBytes }
+{
+    plans_are_of_pool();
+    text_is_bytes();
+}
 
 /// Tight sets tell the dates of a pool's heads to a plan of a receive.
 pub fn tight_sets_tell_dates()

@@ -11,7 +11,7 @@ use Rattle.zst_model.specs.declared.states.item.Change.{Change}
 use Rattle.zst_model.specs.declared.states.item.Change.TheVariants.{Put, Spill, FreeFrom, Free, Redact, Write}
 use Rattle.zst_model.specs.declared.states.item.Item.{Item}
 use Rattle.zst_model.specs.declared.states.item.Item.TheVariants.{FreeObjects, At}
-use Rattle.zst_model.specs.states.State.{Block, Hole, Redacted, Data, Object, BlockFits, IsHead, IsBonus, IsSpill, IsAttr, IsObject, IsObjectOrNone, IsState, end_of, end_at, is_number, number_bound, index_bound, is_block_size, largest_block}
+use Rattle.zst_model.specs.states.State.{Block, Hole, Redacted, Data, Object, AreBytes, BlockFits, IsHead, IsBonus, IsSpill, IsAttr, IsObject, IsObjectOrNone, IsState, end_of, end_at, is_number, number_bound, index_bound, is_block_size, largest_block}
 use Rattle.zst_model.specs.states.DatedState.{DatedState}
 use Rattle.zst_model.specs.sends.Inclusion.{Choice, includes_pair, includes_number}
 use Rattle.zst_model.specs.sends.View.{View, ObjectView, Shown, Left, Gone, There, object_view, shown_object, view_of}
@@ -21,14 +21,14 @@ use Rattle.zst_record.specs.Decoding.{is_object, is_range}
 use Rattle.zst_record.specs.RecordValues.{Fits}
 use Rattle.zst_stream.specs.Records.{item_head, Allows, ItemsFit}
 
--- a change whose values a record can state, and whose range stays so where it is joined with others
+-- a change whose values a record can state, whose payload is bytes, and whose range stays so where it is joined with others
 abbrev pub IsCarriedChange : Change → Type 0
 IsCarriedChange (Put head bonus keep_spill max_block) = IsHead head × IsBonus bonus × (max_block < 2 ^ 64) × (keep_spill ≡ false)
 IsCarriedChange (Spill bytes) = IsSpill bytes
 IsCarriedChange (FreeFrom offset) = offset < 2 ^ 64
 IsCarriedChange (Free offset count) = offset + count ≤ 2 ^ 60
 IsCarriedChange (Redact offset count) = offset + count ≤ 2 ^ 60
-IsCarriedChange (Write offset type bytes) = (offset < 2 ^ 64) × (type < 2 ^ 32) × (is_block_size (length bytes) ≡ true)
+IsCarriedChange (Write offset type bytes) = (offset < 2 ^ 64) × (type < 2 ^ 32) × (is_block_size (length bytes) ≡ true) × AreBytes bytes
 
 -- an item of which that is so
 abbrev pub IsCarried : Item → Type 0
@@ -45,18 +45,18 @@ carried_fits features to (At k (Put head bonus keep_spill max_block)) small (num
   kind_there = ne_eqb head.type_ 0 (λ e. omega (arith, e, of_head.some_type));
   bonus_kind_fits = of_head.bonus_type_fits;
   size = of_head.size;
-  bonus_len_fits = few;
+  bonus_len_fits = few.0;
   max_block_fits = below;
   to_fits = small;
 }
-carried_fits features to (At k (Spill bytes)) small (number, is) allows = record { object_fits = number; size_fits = is; to_fits = small }
+carried_fits features to (At k (Spill bytes)) small (number, is) allows = record { object_fits = number; size_fits = is.0; to_fits = small }
 carried_fits features to (At k (FreeFrom offset)) small (number, below) allows =
     record { object_fits = number; offset_fits = below; size_fits = omega arith; range = or_right (nat_lt (offset + (2 ^ 64 - 1)) (2 ^ 64)) _ refl; to_fits = small }
 carried_fits features to (At k (Free offset count)) small (number, past) allows =
     record { object_fits = number; offset_fits = omega (arith, past); size_fits = omega (arith, past); range = or_left (nat_lt (offset + count) (2 ^ 64)) _ (lt-ltb _ _ (omega (arith, past))); to_fits = small }
 carried_fits features to (At k (Redact offset count)) small (number, past) allows =
     record { redacted = allows; object_fits = number; range = lt-ltb _ _ (omega (arith, past)); to_fits = small }
-carried_fits features to (At k (Write offset type bytes)) small (number, (below, kind, size)) allows =
+carried_fits features to (At k (Write offset type bytes)) small (number, (below, kind, size, bytes_are)) allows =
     record { object_fits = number; kind_fits = kind; offset_fits = below; size_fits = size; to_fits = small }
 
 -- what is joined of two changes is carried
@@ -145,7 +145,7 @@ block_carried attr i (Some Redacted) is fits =
 block_carried attr i (Some (Data bytes)) is fits =
     let place = place_bounded i attr.block_size (omega (arith, fits.0)) is.head.size in
     All-cons IsCarriedChange (Write (i * attr.block_size) attr.type_ bytes) []
-    (omega (arith, place), is.head.type_fits, subst (λ n. is_block_size n ≡ true) (sym fits.1) is.head.size) (All-nil IsCarriedChange)
+    (omega (arith, place), is.head.type_fits, subst (λ n. is_block_size n ≡ true) (sym fits.1.0) is.head.size, fits.1.1) (All-nil IsCarriedChange)
 
 -- what a view shows of an object is in its ranges
 pub record IsShownObject (object : ObjectView) : Type 0 where

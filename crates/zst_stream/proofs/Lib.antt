@@ -9,3 +9,4 @@ pub mod ImageReadings
 pub mod ItemStreams
 mod NearItems
 pub mod PassedRecords
+mod TextBytes

@@ -114,7 +114,7 @@ block_inside attr i (Some Redacted) fits =
     All-cons (IsInside attr.block_size) (Redact (i * attr.block_size) attr.block_size) [] (ends_near i attr.block_size fits.0) (All-nil (IsInside attr.block_size))
 block_inside attr i (Some (Data bytes)) fits =
     All-cons (IsInside attr.block_size) (Write (i * attr.block_size) attr.type_ bytes) []
-    (subst (λ (n : ℕ). i * n + length bytes ≤ index_bound * length bytes) fits.1 (ends_near i (length bytes) fits.0)) (All-nil (IsInside attr.block_size))
+    (subst (λ (n : ℕ). i * n + length bytes ≤ index_bound * length bytes) fits.1.0 (ends_near i (length bytes) fits.0)) (All-nil (IsInside attr.block_size))
 
 blocks_inside : (object : ObjectView) (offset : ℕ) → ((i : ℕ) → IfSome (object.blocks i) (λ b. (i < index_bound) × BlockFits object.attr.block_size b))
     → All (IsInside object.attr.block_size) (block_changes object offset)

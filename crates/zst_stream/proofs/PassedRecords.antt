@@ -8,6 +8,7 @@ use Rattle.std.proofs.lemmas.List.Elements.{All-nil, All-cons, All-take, All-dro
 use Rattle.zst_bytes.specs.Bytes.{number_at}
 use Rattle.zst_model.specs.declared.refusals.stream_fault.StreamFault.{StreamFault}
 use Rattle.zst_model.specs.declared.sends.header.Header.{Header}
+use Rattle.zst_model.specs.states.State.{AreBytes}
 use Rattle.zst_record.specs.Payload as payloads
 use Rattle.zst_record.specs.Payload.{bare}
 use Rattle.zst_record.proofs.PayloadLaws.{bare-same, payload-written}
@@ -16,7 +17,7 @@ use Rattle.zst_record.specs.declared.head.Head.TheVariants as heads
 use Rattle.zst_record.specs.Decoding.{Decoded, decoded, features_in}
 use Rattle.zst_record.specs.RecordValues.{Fits, IsLater, BeginFits}
 use Rattle.zst_record.specs.Heads.{Covered, payload_len, size_of}
-use Rattle.zst_record.specs.Laws.{AreBytes, Begins, Follows}
+use Rattle.zst_record.specs.Laws.{Begins, Follows}
 use Rattle.zst_record.proofs.RecordValueLaws.{begins, follows}
 use Rattle.zst_record.proofs.StatedHeaders.{said-stated}
 use Rattle.zst_stream.specs.Reading.{Reading, Ruling, Closing, wait, refuse, last, more, unless, sum_fault, begun, next_by, opened, other_guid, sealed_next, cover, finish, rule_by, closing, judged, ruling, covered_at, covered_last, after, reading_from, reading}
@@ -217,7 +218,7 @@ module _ (features index : ℕ) (before rest : List ℕ) (all : AreBytes rest) (
       let s = sound head f.0 in
       let end = final head f.1.0 f.1.1 in
       record {
-        passed = record { fits = subst (Fits features) (sym end.0) s.fits; len = last-empty head f.1.0 f.1.1; stated = end.1 };
+        passed = record { fits = subst (Fits features) (sym end.0) s.fits; len = last-empty head f.1.0 f.1.1; bytes = All-nil (λ byte. byte < 2 ^ 8); stated = end.1 };
         in_place = record { index = sym at; first = λ none. s.first (omega arith); later = λ some. s.later (omega arith); last = inr (omega arith) };
       }
 
@@ -234,6 +235,7 @@ module _ (features index : ℕ) (before rest : List ℕ) (all : AreBytes rest) (
         passed = record {
           fits = s.fits;
           len = length-take-le (payload_len head) (drop 312 rest) (omega (arith, length-drop 312 rest));
+          bytes = All-take (λ byte. byte < 2 ^ 8) (payload_len head) (drop 312 rest) (All-drop (λ byte. byte < 2 ^ 8) 312 rest all);
           stated = s.stated;
         };
         in_place = record { index = sym at; first = λ none. s.first (omega arith); later = λ some. s.later (omega arith); last = inl s.middle };

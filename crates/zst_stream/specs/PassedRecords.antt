@@ -3,12 +3,12 @@ use Rattle.std.specs.Prelude.{ℕ, ◌+◌, ◌≡◌, ◌⊎◌, ◌<◌, List,
 use Rattle.zst_model.specs.declared.sends.header.Header.{Header}
 use Rattle.zst_model.specs.pools.Pool.{IsStated}
 use Rattle.zst_model.specs.sends.Features.{resuming}
+use Rattle.zst_model.specs.states.State.{AreBytes}
 use Rattle.zst_record.specs.declared.head.Head.{Head}
 use Rattle.zst_record.specs.declared.head.Head.TheVariants as heads
 use Rattle.zst_record.specs.Decoding.{features_in}
 use Rattle.zst_record.specs.RecordValues.{Fits, IsLater}
 use Rattle.zst_record.specs.Heads.{Covered, payload_len}
-use Rattle.zst_record.specs.Laws.{AreBytes}
 use Rattle.zst_record.specs.Payload.{StatesPayload, bare}
 use Rattle.zst_stream.specs.Reading.{reading, closing}
 
@@ -27,10 +27,11 @@ abbrev pub bare_head : Head → Head
 bare_head (heads.Begin header len) = heads.Begin (bare header) len
 bare_head head = head
 
--- a record that fits a stream with these features (a BEGIN has these) by its 312 bytes, with a payload as long as it says
+-- a record that fits a stream with these features (a BEGIN has these) by its 312 bytes, with a payload of bytes that is as long as it says
 pub record HasPassed (features : ℕ) (c : Covered) : Type 0 where
   pub fits : Fits features (bare_head c.head)
   pub len : length c.payload ≡ payload_len c.head
+  pub bytes : AreBytes c.payload
   pub stated : StatesHeader c.head
 
 -- BEGIN, and no other record

@@ -6,7 +6,7 @@ use Rattle.zst_model.specs.declared.states.item.Change.{Change}
 use Rattle.zst_model.specs.declared.states.item.Change.TheVariants.{Put, Spill, FreeFrom, Free, Redact, Write}
 use Rattle.zst_model.specs.declared.states.item.Item.{Item}
 use Rattle.zst_model.specs.declared.states.item.Item.TheVariants.{FreeObjects, At}
-use Rattle.zst_model.specs.states.State.{IsState}
+use Rattle.zst_model.specs.states.State.{AreBytes, IsState}
 use Rattle.zst_model.specs.states.DatedState.{DatedState}
 use Rattle.zst_model.specs.sends.Features.{redacts}
 use Rattle.zst_model.specs.sends.Inclusion.{Choice}
@@ -77,3 +77,9 @@ abbrev pub ItemsFit : Type 0
 ItemsFit =
     (header : Header) (snap : DatedState) (choice : Choice) (point : Point) → IsState snap.state → header.to < 2 ^ 64
     → All (λ item. Allows header.features item → Fits header.features (item_head header.to item)) (items (view_of header snap choice) point)
+
+-- The text of the view of a lawful snapshot is bytes, whatever is chosen and wherever it begins, where the header's name is bytes.
+abbrev pub TextIsBytes : Type 0
+TextIsBytes =
+    (header : Header) (snap : DatedState) (choice : Choice) (point : Point) → IsState snap.state → AreBytes header.name
+    → AreBytes (view_text header (view_of header snap choice) point)

@@ -4,7 +4,7 @@ ghost use Rattle.zst_model.specs.declared.states.item.Item.TheVariants.{At};
 ghost use Rattle.zst_record.specs.declared.head.Head.TheVariants.{Free};
 ghost use Rattle.zst_stream.specs.FoundItems.{HasBonus, found_item};
 ghost use Rattle.zst_stream.specs.Records.{item_head, padded_bonus};
-ghost use Rattle.zst_model.specs.states.State.{IsBonus, largest_bonus};
+ghost use Rattle.zst_model.specs.states.State.{largest_bonus};
 
 use zst_bytes::{pad8, put_bytes};
 use zst_model::ObjectHead;
@@ -68,7 +68,7 @@ fn free(object: u64, offset: u64, length: u64, to: u64) -> Head
 }
 
 fn object_head(object: u64, head: &ObjectHead, bonus: &[u8], end: u64, to: u64) -> Head
-    requires { IsBonus bonus.now }
+    requires { length bonus.now ≤ largest_bonus }
     ensures { result ≡ item_head to (At object (Put head.now bonus.now false (pred end))) }
 {
     Head::Object {
@@ -134,7 +134,7 @@ pub fn head_of(item: &ItemRef<'_>, to: u64) -> Head
 /// What follows the record of an object: its bonus, padded in the room. The payload of a spill block or of a block is its
 /// own bytes, and no other item has one.
 pub fn pad_bonus<'a>(bonus: &[u8], room: &'a mut [u8]) -> &'a [u8]
-    requires bonus { IsBonus bonus.now }
+    requires bonus { length bonus.now ≤ largest_bonus }
     requires room { largest_bonus ≤ length room.old }
     ensures padded { result.now ≡ padded_bonus bonus.now }
     ensures len { length result.now ≡ (length bonus.now + 7) / 8 * 8 }

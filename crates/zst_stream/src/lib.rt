@@ -2,7 +2,7 @@
 #![tactic(auto)]
 
 ghost use Rattle.zst_stream.specs.Example.{ExampleCanBeSent, ExampleIsStream};
-ghost use Rattle.zst_stream.specs.Records.{ItemsFit};
+ghost use Rattle.zst_stream.specs.Records.{ItemsFit, TextIsBytes};
 ghost use Rattle.zst_stream.specs.Items.{ItemsAreRead, PayloadsFit, SentIsAllowed, ViewIsStream, ViewIsRead, FirstItems};
 ghost use Rattle.zst_stream.specs.NearItems.{ItemsAreNear};
 ghost use Rattle.zst_stream.specs.Laws.{FrontsAgree, FaultsAreFound, ImageIsRead, FrontIsRead, CoversArePieces, FirstPieces, PieceGoesOn};
@@ -77,6 +77,11 @@ pub fn example_can_be_sent()
 /// Each item of a lawful snapshot's view fits a record, whatever is chosen, as far as the features allow it.
 pub fn items_fit()
     ensures { ItemsFit }
+{}
+
+/// The text of a lawful snapshot's view is bytes, where its header's name is.
+pub fn text_is_bytes()
+    ensures { TextIsBytes }
 {}
 
 /// What is written of items is read as these items.

@@ -238,7 +238,7 @@ cell_there : (image : List ℕ) (space : FreeSectors) (ptr : Ptr) (size : ℕ) (
 cell_there image space ptr size Hole fits kind none = (no_cell ptr size none).0 kind
 cell_there image space ptr size Redacted fits kind none = (no_cell ptr size none).2 kind
 cell_there image space ptr size (Data bytes) fits (kind, there) none =
-    let e : cell_of ptr size ≡ Some cells.Data = named_data ptr size kind (sym (IsBlock-length image ptr bytes there.block) ∙ fits) in absurd (cc)
+    let e : cell_of ptr size ≡ Some cells.Data = named_data ptr size kind (sym (IsBlock-length image ptr bytes there.block) ∙ fits.0) in absurd (cc)
 
 pub run_has_cell : (image : List ℕ) (space : FreeSectors) (dnode : Dnode) (object : Object) (date : ℕ) (dates : ℕ → ℕ) (map : Map) → IsObject object → (withheld : ℕ → Bool) → ObjectIn (Has image space) (outside_indices withheld (Has image space)) dnode object date dates map → (index : ℕ) → withheld index ≡ false → index < dnode.end → dnode.end ≤ index_bound → (ptr : Ptr) (alike : ℕ)
     → Shows map index (ptr, alike) → cell_of ptr dnode.block_size ≡ None → ⊥

@@ -257,13 +257,13 @@ change_lawful (Write offset type bytes) (Some object) p s l h =
     let size = object.attr.block_size in
     let given = write_gives offset type bytes object p h in
     subst IsObjectOrNone given.2
-    (set_lawful object (λ i. i * size == offset) (Data bytes) s (eqb-true (length bytes) size (not-false _ given.0))
+    (set_lawful object (λ i. i * size == offset) (Data bytes) s (eqb-true (length bytes) size (not-false _ given.0), l.0)
     (λ i m t w.
     let first : size ≤ i * size = past_first size i m in
     let place : i * size ≡ offset = eqb-true (i * size) offset w in
     let some : 0 < offset = subst (λ n. 0 < n) place (over_none size (i * size) (size_of_lawful object s) first) in
     absurd (true≢false (sym (lt-ltb 0 offset some) ∙ right_fails (is_odd_size size) (nat_lt 0 offset) given.1 t)))
-    (λ i m w. absurd (true≢false (sym w ∙ l i m))))
+    (λ i m w. absurd (true≢false (sym w ∙ l.1 i m))))
   where
     over_none : (size place : ℕ) → 0 < size → size ≤ place → 0 < place
     over_none size place a b = omega arith

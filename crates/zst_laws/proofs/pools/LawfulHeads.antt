@@ -1,12 +1,13 @@
 -- The items of a command that is accepted leave a lawful head.
-use Rattle.std.proofs.Common.{subst, ◌≡◌, ℕ, ◌+◌, ◌*◌, ◌<◌, ◌≤◌, true, false, List, [], ◌∷◌, map, Option, Some, None, IfSome, Ok, refl, sym, arith, ◌==◌, mul-le-mul_right, ne_eqb}
+use Rattle.std.proofs.Common.{subst, ◌≡◌, ℕ, ◌+◌, ◌-◌, ◌*◌, ◌^◌, ◌<◌, ◌≤◌, true, false, List, [], ◌∷◌, length, map, replicate, Option, Some, None, IfSome, Ok, refl, sym, arith, ◌==◌, mul-le-mul_right, ne_eqb}
+use Rattle.std.proofs.lemmas.List.Elements.{All-append, All-replicate}
 use Rattle.zst_model.specs.declared.states.attr.ObjectHead.{ObjectHead}
 use Rattle.zst_model.specs.declared.refusals.faults.Quantity.TheVariants as quantities
 use Rattle.zst_model.specs.declared.states.item.Change.{Change}
 use Rattle.zst_model.specs.declared.states.item.Change.TheVariants.{Put, Free, Write}
 use Rattle.zst_model.specs.declared.states.item.Item.{Item}
 use Rattle.zst_model.specs.declared.states.item.Item.TheVariants.{FreeObjects, At}
-use Rattle.zst_model.specs.states.State.{State, Object, IsObject, IsObjectOrNone, IsState, is_number, number_bound, index_bound, IsHead, IsBonus, IsSpill}
+use Rattle.zst_model.specs.states.State.{State, Object, IsObject, IsObjectOrNone, IsState, is_number, number_bound, index_bound, AreBytes, IsHead, IsBonus, IsSpill}
 use Rattle.zst_model.specs.states.AppliedItems.{apply, apply_change, put_at}
 use Rattle.zst_model.specs.states.DatedState.{DatedState, size_at, apply_dated, apply_all_dated}
 use Rattle.zst_model.specs.sends.Items.{spill_change}
@@ -70,10 +71,15 @@ object_is_lawful pool k object bonus spill head after s some is_head few is_spil
     applied_is_lawful pool (object_items k object bonus spill) head after s
     (object_items_are_lawful k object bonus spill head.state number is_head few is_spill) below.1
 
+-- bytes are filled up with bytes
+filled_are_bytes : (size : ℕ) (bytes : List ℕ) → AreBytes bytes → AreBytes (filled size bytes)
+filled_are_bytes size bytes all =
+    All-append (λ byte. byte < 2 ^ 8) bytes (replicate (size - length bytes) 0) all (All-replicate (λ byte. byte < 2 ^ 8) (size - length bytes) 0 (omega arith))
+
 -- write
 pub write_is_lawful : (pool : Pool) (k i : ℕ) (bytes : List ℕ) (head after : DatedState)
-    → IsState head.state → 0 < k → written pool k i bytes head ≡ Ok after → IsState after.state
-write_is_lawful pool k i bytes head after s some h =
+    → IsState head.state → 0 < k → AreBytes bytes → written pool k i bytes head ≡ Ok after → IsState after.state
+write_is_lawful pool k i bytes head after s some all h =
     let size = size_at (head.state k) in
     let items = At k (Write (i * size) 0 (filled size bytes)) ∷ [] in
     let made = bind_ok (applied pool items head) _ after h in
@@ -81,7 +87,7 @@ write_is_lawful pool k i bytes head after s some h =
     let there = object_there (pool.number + 1) k _ head made.0 (write_needs _ _ _) (of_applying_ok _ made.0 made.1) in
     let object : IsObject there.0 = subst IsObjectOrNone there.1 (s.objects k) in
     let sized : 0 < size = subst (λ o. 0 < size_at o) (sym there.1) (size_of_lawful there.0 object) in
-    let lawful : AreLawfulItems items head.state = ((number_there head.state s k there.0 there.1, λ j past. place_differs size i j sized (omega (arith, below.0))), λ later e. tt) in
+    let lawful : AreLawfulItems items head.state = ((number_there head.state s k there.0 there.1, (filled_are_bytes size bytes all, λ j past. place_differs size i j sized (omega (arith, below.0)))), λ later e. tt) in
     subst (λ d. IsState d.state) (ok_parts made.0 after below.1) (applied_is_lawful pool items head made.0 s lawful made.1)
 
 -- punch

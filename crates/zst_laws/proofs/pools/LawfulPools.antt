@@ -317,7 +317,7 @@ steps_keep_lawful held now (commands.Volume name) pool after c fits p h = datase
 steps_keep_lawful held now (commands.Object name k head bonus spill) pool after c fits p h =
     head_steps name pool _ after p (λ old new s made. object_is_lawful pool k head bonus spill old new s c.1 c.2 c.3 c.4 made) h
 steps_keep_lawful held now (commands.Write name k i bytes) pool after c fits p h =
-    head_steps name pool _ after p (λ old new s made. write_is_lawful pool k i bytes old new s c.1 made) h
+    head_steps name pool _ after p (λ old new s made. write_is_lawful pool k i bytes old new s c.1 c.4 made) h
 steps_keep_lawful held now (commands.Punch name k first count) pool after c fits p h =
     head_steps name pool _ after p (λ old new s made. punch_is_lawful pool k first count old new s c.1 made) h
 steps_keep_lawful held now (commands.Free name first count) pool after c fits p h =

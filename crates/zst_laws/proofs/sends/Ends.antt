@@ -40,7 +40,7 @@ same_content size size' Redacted Redacted e f g = (refl, inr cc)
 same_content size size' Redacted (Data b) e f g = absurd (cc)
 same_content size size' (Data a) Hole e f g = absurd (cc)
 same_content size size' (Data a) Redacted e f g = absurd (cc)
-same_content size size' (Data a) (Data b) e f g = let same : a ≡ b = cc in (cc, inr (sym f ∙ ap length same ∙ g))
+same_content size size' (Data a) (Data b) e f g = let same : a ≡ b = cc in (cc, inr (sym f.0 ∙ ap length same ∙ g.0))
 
 no_content : (size : ℕ) (y : Block) → Empty ≡ block_content size y → y ≡ Hole
 no_content size Hole e = refl

@@ -156,7 +156,7 @@ module _ (snap : DatedState) (choice : Choice) (k : ℕ) (object : Object) (stan
   may_show_block i Hole e = tt
   may_show_block i Redacted e = (may.redacted i e, λ l. false_from_ne_true _ (λ t. let both : Redacted ≡ Hole = sym e ∙ lawful.odd i l t in absurd (cc)))
   may_show_block i (Data bytes) e = (
-    subst (BlockFits object.attr.block_size) e (lawful.fits i),
+    (subst (BlockFits object.attr.block_size) e (lawful.fits i)).0,
     λ l. false_from_ne_true _ (λ t. let both : Data bytes ≡ Hole = sym e ∙ lawful.odd i l t in absurd (cc)),
   )
 

@@ -108,7 +108,7 @@ lawful_item number index (At k (Redact offset count)) snap after s is h past =
     (is, λ i far. ends_before offset count (size_at (snap.state k)) i (ltb-false _ _ past) far)
 lawful_item number index (At k (Write offset type bytes)) snap after s is h past =
     let made = change_made number k (Write offset type bytes) snap after h in
-    (is, written_before offset type bytes (snap.state k) made.0 (s.objects k) made.1 past)
+    (is.0, (is.1, written_before offset type bytes (snap.state k) made.0 (s.objects k) made.1 past))
 
 pub received_state : ReceivedIsState
 received_state number index item snap after s is h =

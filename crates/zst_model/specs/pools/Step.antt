@@ -20,7 +20,7 @@ use Rattle.zst_model.specs.declared.refusals.subjects.Holder.TheVariants as hold
 use Rattle.zst_model.specs.declared.refusals.plan_fault.PlanFault.TheVariants as plans
 use Rattle.zst_model.specs.declared.refusals.refusal.Refusal.{Refusal}
 use Rattle.zst_model.specs.declared.refusals.refusal.Refusal.TheVariants as refusals
-use Rattle.zst_model.specs.states.State.{Block, Hole, Redacted, Data, number_bound, index_bound, IsHead, IsBonus, IsSpill}
+use Rattle.zst_model.specs.states.State.{Block, Hole, Redacted, Data, number_bound, index_bound, AreBytes, IsHead, IsBonus, IsSpill}
 use Rattle.zst_model.specs.states.AppliedItems.{unless, ◌>>=◌}
 use Rattle.zst_model.specs.fields.RunsOf.{runs_of}
 use Rattle.zst_model.specs.sends.Items.{spill_change}
@@ -56,7 +56,7 @@ IsCommand (commands.Fs dataset) = IsDataset dataset
 IsCommand (commands.Volume dataset) = IsDataset dataset
 IsCommand (commands.Object dataset k head bonus spill) =
     IsDataset dataset × (0 < k) × IsHead head × IsBonus bonus × IfSome spill IsSpill
-IsCommand (commands.Write dataset k i bytes) = IsDataset dataset × (0 < k) × (0 < length bytes) × (length bytes ≤ largest_write)
+IsCommand (commands.Write dataset k i bytes) = IsDataset dataset × (0 < k) × (0 < length bytes) × (length bytes ≤ largest_write) × AreBytes bytes
 IsCommand (commands.Punch dataset k first count) = IsDataset dataset × (0 < k) × (0 < count)
 IsCommand (commands.Free dataset first count) = IsDataset dataset × (0 < first) × (0 < count)
 IsCommand (commands.Snapshot name) = IsSnapshot name

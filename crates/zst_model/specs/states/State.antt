@@ -1,5 +1,5 @@
 -- What a snapshot, a head or a partial state has, without any date.
-use Rattle.std.specs.Prelude.{◌≡◌, ℕ, zero, suc, ◌^◌, ◌%◌, ◌≤◌, ◌<◌, Bool, true, false, not, List, length, count_ones, Option, Some, None, IfSome, if◌then◌else◌, nat_lt, nat_le, ◌==◌, ◌||◌, ◌&&◌}
+use Rattle.std.specs.Prelude.{◌≡◌, ℕ, zero, suc, ◌^◌, ◌%◌, ◌≤◌, ◌<◌, Bool, true, false, not, List, length, All, count_ones, Option, Some, None, IfSome, if◌then◌else◌, nat_lt, nat_le, ◌==◌, ◌||◌, ◌&&◌}
 use Rattle.zst_model.specs.declared.states.attr.Attr.{Attr}
 use Rattle.zst_model.specs.declared.states.attr.ObjectHead.{ObjectHead}
 
@@ -115,13 +115,17 @@ pub record IsHead (head : ObjectHead) : Type 0 where
   pub bonus_type_fits : head.bonus_type < 2 ^ 32
   pub size : is_block_size head.block_size ≡ true
 
+-- numbers that are bytes
+abbrev pub AreBytes : List ℕ → Type 0
+AreBytes bytes = All (λ byte. byte < 2 ^ 8) bytes
+
 -- a bonus that an object may have
 abbrev pub IsBonus : List ℕ → Type 0
-IsBonus bytes = length bytes ≤ largest_bonus
+IsBonus bytes = (length bytes ≤ largest_bonus) × AreBytes bytes
 
 -- a spill block that an object may have
 abbrev pub IsSpill : List ℕ → Type 0
-IsSpill bytes = is_spill_size (length bytes) ≡ true
+IsSpill bytes = (is_spill_size (length bytes) ≡ true) × AreBytes bytes
 
 -- attributes that an object may have
 pub record IsAttr (attr : Attr) : Type 0 where
@@ -129,11 +133,11 @@ pub record IsAttr (attr : Attr) : Type 0 where
   pub bonus : IsBonus attr.bonus
   pub spill : IfSome attr.spill IsSpill
 
--- data fills its block
+-- data is bytes that fill their block
 abbrev pub BlockFits : ℕ → Block → Type 0
 BlockFits size Hole = Unit {0}
 BlockFits size Redacted = Unit {0}
-BlockFits size (Data bytes) = length bytes ≡ size
+BlockFits size (Data bytes) = (length bytes ≡ size) × AreBytes bytes
 
 -- a lawful object: its attributes are ones that it may have, its data fills its blocks, an odd size has index 0 alone, and each index is below the bound
 pub record IsObject (object : Object) : Type 0 where

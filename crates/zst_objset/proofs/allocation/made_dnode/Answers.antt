@@ -1,10 +1,10 @@
-use Rattle.std.proofs.Common.{arith}
+use Rattle.std.proofs.Common.{◌^◌, ◌<◌, arith}
+use Rattle.std.proofs.lemmas.List.Elements.{All-from_get_or}
 use Rattle.zst_block.specs.Blocks.{Has}
 use Rattle.zst_objset.proofs.ObjectLaws.{put_fits, put_makes_dnode}
 use Rattle.zst_objset.proofs.ObjectLaws.{put_dated}
-use Rattle.std.proofs.Common.{◌≡◌, ◌==◌, ◌⊎◌, inl, inr, ℕ, Bool, true, false, if◌then◌else◌, refl}
+use Rattle.std.proofs.Common.{◌≡◌, ◌==◌, inl, inr, ℕ, Bool, true, false, if◌then◌else◌, refl}
 use Rattle.std.specs.Prelude.{Option, Some, None}
-use Rattle.zst_block.specs.declared.ptr.Ptr.{Ptr}
 use Rattle.zst_dnode.specs.declared.dnode.Dnode.{Dnode}
 use Rattle.zst_objset.specs.Dnodes.{tree_of}
 use Rattle.zst_objset.specs.KeptBlocks.{KeepsTree, kept_blocks, no_blocks}
@@ -27,7 +27,7 @@ kept_tree size number (Some dnode) made levels root = kept_by number dnode made 
 pub returns-clause-made : goal.returns-clause-made
 returns-clause-made c = λ image space object state is_one is.
     rw (c.kept_blocks-blocks.ensures, c.kept_spill.ensures, c.bonus_field.ensures)
-    (put_makes_dnode (Has image space) c.args.number object c.args.head c.args.bonus.now c.args.keep_spill state c.args.was.now is_one c.requires.head c.requires.bonus (omega arith) c.requires.ranges is)
+    (put_makes_dnode (Has image space) c.args.number object c.args.head c.args.bonus.now c.args.keep_spill state c.args.was.now is_one c.requires.head (c.requires.bonus, All-from_get_or (λ byte. byte < 2 ^ 8) c.args.bonus.now 0 (λ k within. (c.type_inv.bonus k).fits)) (omega arith) c.requires.ranges is)
 
 pub returns-clause-fits : goal.returns-clause-fits
 returns-clause-fits c =

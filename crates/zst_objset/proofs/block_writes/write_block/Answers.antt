@@ -1,4 +1,5 @@
-use Rattle.std.proofs.Common.{◌∙◌, ◌+◌, Err, arith, ap, refl, subst, sym, Result}
+use Rattle.std.proofs.Common.{◌^◌, ◌<◌, ◌∙◌, ◌+◌, Err, arith, ap, refl, subst, sym, Result}
+use Rattle.std.proofs.lemmas.List.Elements.{All-from_get_or}
 use Rattle.zst_block.specs.Blocks.{KeepsBlocks}
 use Rattle.zst_block.specs.IoStates.{blocks_of}
 use Rattle.zst_block.proofs.BlocksLaws.{KeepsBlocks-fills}
@@ -58,7 +59,7 @@ returns-in-Err-put_data g c = record {
       let there = c.in-Ok.ensures.found state (c.in-Err-put_data.ensures.works.fills.honest honest) holds in
       let may = judged _ _ _ c.in_default.ensures.judged in
       let made = all_accepted has c.args.number c.args.object c.in-Ok.dnode.block_size 1 c.args.index c.args.bytes.now state c.in-Ok.dnode c.applied_is_state.ensures (is_number_at c.args.object c.requires.object c.in-Ok.ensures.bound) refl
-      (omega arith) holds.lawful holds.bounded there (may_write_one c.in-Ok.dnode.block_size c.args.index c.args.bytes.now may) in
+      (omega arith) holds.lawful holds.bounded there (may_write_one c.in-Ok.dnode.block_size c.args.index c.args.bytes.now may (All-from_get_or (λ byte. byte < 2 ^ 8) c.args.bytes.now 0 (λ k within. (c.type_inv.bytes k).fits))) in
       stops _ _ c.in-Err-put_data.fault (sym (one_written c.args.number c.args.object c.in-Ok.dnode.block_size c.args.index c.args.bytes.now state may.whole) ∙ made.1)
       (c.in-Err-put_data.ensures.puts there.map honest (subst (λ (tree : Tree). TreeIs has tree there.map) (sym c.tree_of.ensures) there.is.tree)))
       tt tt
@@ -87,7 +88,7 @@ returns g c = record {
           let grown = SetHolds-grows (blocks_of c.args.io.now) (blocks_of c.put_data.new.io) (keeps_on c.in-Ok.ensures.looks.looks c.in-Ok-put_data.ensures.works.fills) c.args.set.now state holds in
           let ends = blocks_end (blocks_of c.put_data.new.io) c.args.number c.args.object c.in-Ok.dnode.block_size 1 c.args.index c.args.bytes.now state c.in-Ok.dnode _ there.map c.in-Ok-put_data.tree c.applied_is_state.ensures
           (is_number_at c.args.object c.requires.object c.in-Ok.ensures.bound) refl (omega arith) (run_begins_over (blocks_of c.object_there.new.io) (blocks_of c.put_data.new.io) putting state c.args.object c.in-Ok.dnode holds.lawful holds.bounded there)
-          (may_write_one c.in-Ok.dnode.block_size c.args.index c.args.bytes.now may) (puts_one (blocks_of c.put_data.new.io) there.map c.args.number c.in-Ok.dnode.block_size c.args.index c.args.bytes.now c.in-Ok-put_data.tree may.whole (c.in-Ok-put_data.ensures.puts there.map was_put had))
+          (may_write_one c.in-Ok.dnode.block_size c.args.index c.args.bytes.now may (All-from_get_or (λ byte. byte < 2 ^ 8) c.args.bytes.now 0 (λ k within. (c.type_inv.bytes k).fits))) (puts_one (blocks_of c.put_data.new.io) there.map c.args.number c.in-Ok.dnode.block_size c.args.index c.args.bytes.now c.in-Ok-put_data.tree may.whole (c.in-Ok-put_data.ensures.puts there.map was_put had))
           (c.with_tree.ensures.made ∙ ap (with_tree c.in-Ok.dnode c.in-Ok-put_data.tree) c.max-end.ensures) in
           let is = sym (one_written c.args.number c.args.object c.in-Ok.dnode.block_size c.args.index c.args.bytes.now state may.whole) ∙ ends.is in
           subst (λ (definition : Result DatedState Refusal). Changes (SetHolds (blocks_of c.put_there.new.io) c.put_there.new.set) definition c.put_there.result) (sym is)
@@ -116,7 +117,7 @@ returns g c = record {
         let early = c.in-Ok-put_data.ensures.dated there.map was_put had (rw c.tree_of.ensures (tree_early c.args.number c.args.object state c.in-Ok.dnode dated was)) in
         let ends = blocks_end (blocks_of c.put_data.new.io) c.args.number c.args.object c.in-Ok.dnode.block_size 1 c.args.index c.args.bytes.now state c.in-Ok.dnode _ there.map c.in-Ok-put_data.tree c.applied_is_state.ensures
         (is_number_at c.args.object c.requires.object c.in-Ok.ensures.bound) refl (omega arith) (run_begins_over (blocks_of c.object_there.new.io) (blocks_of c.put_data.new.io) putting state c.args.object c.in-Ok.dnode tight.holds.lawful tight.holds.bounded there)
-        (may_write_one c.in-Ok.dnode.block_size c.args.index c.args.bytes.now may) (puts_one (blocks_of c.put_data.new.io) there.map c.args.number c.in-Ok.dnode.block_size c.args.index c.args.bytes.now c.in-Ok-put_data.tree may.whole (c.in-Ok-put_data.ensures.puts there.map was_put had))
+        (may_write_one c.in-Ok.dnode.block_size c.args.index c.args.bytes.now may (All-from_get_or (λ byte. byte < 2 ^ 8) c.args.bytes.now 0 (λ k within. (c.type_inv.bytes k).fits))) (puts_one (blocks_of c.put_data.new.io) there.map c.args.number c.in-Ok.dnode.block_size c.args.index c.args.bytes.now c.in-Ok-put_data.tree may.whole (c.in-Ok-put_data.ensures.puts there.map was_put had))
         (c.with_tree.ensures.made ∙ ap (with_tree c.in-Ok.dnode c.in-Ok-put_data.tree) c.max-end.ensures) in
         let is = sym (one_written c.args.number c.args.object c.in-Ok.dnode.block_size c.args.index c.args.bytes.now state may.whole) ∙ ends.is in
         subst (λ (definition : Result DatedState Refusal). Changes (SetIsTight (blocks_of c.put_there.new.io) c.put_there.new.set) definition c.put_there.result) (sym is)

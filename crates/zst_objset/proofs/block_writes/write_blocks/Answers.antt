@@ -1,4 +1,5 @@
-use Rattle.std.proofs.Common.{◌≡◌, ◌≢◌, ◌∙◌, Err, Result, arith, ap, sym, subst}
+use Rattle.std.proofs.Common.{◌^◌, ◌<◌, ◌≡◌, ◌≢◌, ◌∙◌, Err, Result, arith, ap, sym, subst}
+use Rattle.std.proofs.lemmas.List.Elements.{All-from_get_or}
 use Rattle.zst_block.specs.Blocks.{KeepsBlocks}
 use Rattle.zst_block.specs.IoStates.{blocks_of}
 use Rattle.zst_block.proofs.BlocksLaws.{KeepsBlocks-fills}
@@ -48,7 +49,7 @@ returns-in-Err-outcome g c = record {
       let has = blocks_of c.object_there.new.io in
       let there = c.in-Ok.ensures.found state (c.in-Err-outcome.ensures.works.fills.honest honest) holds in
       let made = all_accepted has c.args.number c.args.object c.args.size c.args.count c.args.index c.args.bytes.now state c.in-Ok.dnode c.applied_is_state.ensures (is_number_at c.args.object c.requires.object c.in-Ok.ensures.bound) (omega (arith, c.if-dnode-size.false))
-      c.requires.some holds.lawful holds.bounded there (may_write c.args.size c.args.index c.args.count c.args.bytes.now c.requires.run.long_is c.requires.even c.requires.run.inside) in
+      c.requires.some holds.lawful holds.bounded there (may_write c.args.size c.args.index c.args.count c.args.bytes.now c.requires.run.long_is c.requires.even c.requires.run.inside (All-from_get_or (λ byte. byte < 2 ^ 8) c.args.bytes.now 0 (λ k within. (c.type_inv.bytes k).fits))) in
       stops _ _ c.in-Err-outcome.fault made.1 (c.in-Err-outcome.ensures.puts there.map honest (subst (λ (tree : Tree). TreeIs has tree there.map) (sym c.tree_of.ensures) there.is.tree)))
       tt tt
       (λ honest.
@@ -74,7 +75,7 @@ returns g c = record {
           let grown = SetHolds-grows (blocks_of c.args.io.now) (blocks_of c.put_blocks-outcome.new.io) (keeps_on c.in-Ok.ensures.looks.looks c.in-Ok-outcome.ensures.works.fills) c.args.set.now state holds in
           let ends = blocks_end (blocks_of c.put_blocks-outcome.new.io) c.args.number c.args.object c.args.size c.args.count c.args.index c.args.bytes.now state c.in-Ok.dnode _ there.map c.in-Ok-outcome.tree c.applied_is_state.ensures
           (is_number_at c.args.object c.requires.object c.in-Ok.ensures.bound) (omega (arith, c.if-dnode-size.false)) c.requires.some (run_begins_over (blocks_of c.object_there.new.io) (blocks_of c.put_blocks-outcome.new.io) putting state c.args.object c.in-Ok.dnode holds.lawful holds.bounded there)
-          (may_write c.args.size c.args.index c.args.count c.args.bytes.now c.requires.run.long_is c.requires.even c.requires.run.inside) (c.in-Ok-outcome.ensures.puts there.map was_put had) (c.with_tree.ensures.made ∙ ap (with_tree c.in-Ok.dnode c.in-Ok-outcome.tree) c.max-end.ensures) in
+          (may_write c.args.size c.args.index c.args.count c.args.bytes.now c.requires.run.long_is c.requires.even c.requires.run.inside (All-from_get_or (λ byte. byte < 2 ^ 8) c.args.bytes.now 0 (λ k within. (c.type_inv.bytes k).fits))) (c.in-Ok-outcome.ensures.puts there.map was_put had) (c.with_tree.ensures.made ∙ ap (with_tree c.in-Ok.dnode c.in-Ok-outcome.tree) c.max-end.ensures) in
           subst (λ (definition : Result DatedState Refusal). Changes (SetHolds (blocks_of c.put_there.new.io) c.put_there.new.set) definition c.put_there.result) (sym ends.is)
           (c.put_there.ensures.changed state ends.now honest grown ends.puts);
       keeps = record {
@@ -100,7 +101,7 @@ returns g c = record {
         let early = c.in-Ok-outcome.ensures.dated there.map was_put had (rw c.tree_of.ensures (tree_early c.args.number c.args.object state c.in-Ok.dnode dated was)) in
         let ends = blocks_end (blocks_of c.put_blocks-outcome.new.io) c.args.number c.args.object c.args.size c.args.count c.args.index c.args.bytes.now state c.in-Ok.dnode _ there.map c.in-Ok-outcome.tree c.applied_is_state.ensures
         (is_number_at c.args.object c.requires.object c.in-Ok.ensures.bound) (omega (arith, c.if-dnode-size.false)) c.requires.some (run_begins_over (blocks_of c.object_there.new.io) (blocks_of c.put_blocks-outcome.new.io) putting state c.args.object c.in-Ok.dnode tight.holds.lawful tight.holds.bounded there)
-        (may_write c.args.size c.args.index c.args.count c.args.bytes.now c.requires.run.long_is c.requires.even c.requires.run.inside) (c.in-Ok-outcome.ensures.puts there.map was_put had) (c.with_tree.ensures.made ∙ ap (with_tree c.in-Ok.dnode c.in-Ok-outcome.tree) c.max-end.ensures) in
+        (may_write c.args.size c.args.index c.args.count c.args.bytes.now c.requires.run.long_is c.requires.even c.requires.run.inside (All-from_get_or (λ byte. byte < 2 ^ 8) c.args.bytes.now 0 (λ k within. (c.type_inv.bytes k).fits))) (c.in-Ok-outcome.ensures.puts there.map was_put had) (c.with_tree.ensures.made ∙ ap (with_tree c.in-Ok.dnode c.in-Ok-outcome.tree) c.max-end.ensures) in
         subst (λ (definition : Result DatedState Refusal). Changes (SetIsTight (blocks_of c.put_there.new.io) c.put_there.new.set) definition c.put_there.result) (sym ends.is)
         (c.put_there.ensures.tight state ends.now honest grown ends.puts (ends.tight dated was early) (ends.rises dated));
     levels = c.put_there.ensures.puts.levels;

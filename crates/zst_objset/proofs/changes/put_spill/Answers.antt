@@ -1,4 +1,5 @@
-use Rattle.std.proofs.Common.{◌≡◌, arith, ap, subst, sym, ◌∙◌, true}
+use Rattle.std.proofs.Common.{◌≡◌, ◌^◌, ◌<◌, arith, ap, subst, sym, ◌∙◌, true}
+use Rattle.std.proofs.lemmas.List.Elements.{All-from_get_or}
 use Rattle.zst_block.specs.Blocks.{KeepsBlocks}
 use Rattle.zst_block.specs.IoStates.{blocks_of}
 use Rattle.zst_block.specs.declared.ptr.Ptr.{Ptr}
@@ -56,7 +57,7 @@ returns g c = record {
           let size : is_spill_size c.in-Ok-write.ptr.length ≡ true = ap (λ (ptr : Ptr). is_spill_size ptr.length) wrote.pointer ∙ c.requires.spill in
           let made = c.with_spill.ensures in
           let number = is_number_at c.args.object (omega arith) (omega (arith, c.in-Ok.ensures.bound)) in
-          let makes = spill_makes_dnode has c.args.number c.args.object c.args.bytes.now state c.in-Ok.dnode c.with_spill.result c.in-Ok-write.ptr here number c.requires.spill kind wrote.wrote made.made
+          let makes = spill_makes_dnode has c.args.number c.args.object c.args.bytes.now state c.in-Ok.dnode c.with_spill.result c.in-Ok-write.ptr here number (c.requires.spill, All-from_get_or (λ byte. byte < 2 ^ 8) c.args.bytes.now 0 (λ k within. (c.type_inv.bytes k).fits)) kind wrote.wrote made.made
           (spill_fits c.in-Ok.dnode c.in-Ok-write.ptr c.args.number c.in-Ok.ensures.ranges made.fits made.date kind size) in
           c.put_dnode.ensures.changed c.args.number (Spill c.args.bytes.now) state honest grown makes;
       keeps = record {
@@ -84,7 +85,7 @@ returns g c = record {
         let size : is_spill_size c.in-Ok-write.ptr.length ≡ true = ap (λ (ptr : Ptr). is_spill_size ptr.length) wrote.pointer ∙ c.requires.spill in
         let made = c.with_spill.ensures in
         let number = is_number_at c.args.object (omega arith) (omega (arith, c.in-Ok.ensures.bound)) in
-        let makes = spill_makes_dnode has c.args.number c.args.object c.args.bytes.now state c.in-Ok.dnode c.with_spill.result c.in-Ok-write.ptr here number c.requires.spill kind wrote.wrote made.made
+        let makes = spill_makes_dnode has c.args.number c.args.object c.args.bytes.now state c.in-Ok.dnode c.with_spill.result c.in-Ok-write.ptr here number (c.requires.spill, All-from_get_or (λ byte. byte < 2 ^ 8) c.args.bytes.now 0 (λ k within. (c.type_inv.bytes k).fits)) kind wrote.wrote made.made
         (spill_fits c.in-Ok.dnode c.in-Ok-write.ptr c.args.number c.in-Ok.ensures.ranges made.fits made.date kind size) in
         let was = tight_dated c.args.number state c.args.object (There c.in-Ok.dnode) dated (c.in-Ok.ensures.tight state (wrote.works.fills.honest was_written) tight) in
         let early = subst (λ (dnode : Dnode). date_in (There dnode) ≤ c.args.number) (sym made.made) (omega (arith, was)) in

@@ -4,10 +4,10 @@ use Rattle.zst_block.specs.IoStates.{IsHonest, IsSparedBy, blocks_of, disk_of, i
 use Rattle.zst_image.specs.Reads.{bound_of}
 use Rattle.zst_model.specs.declared.refusals.plan_fault.PlanFault.{PlanFault}
 use Rattle.zst_model.specs.pools.Pool.{Pool}
+use Rattle.zst_model.specs.states.State.{AreBytes}
 use Rattle.zst_pool.specs.Calls.{IsUnderWay}
 use Rattle.zst_reader.specs.StandsFor.{HandsOut, StandsFor, pushed_of, room_of}
 use Rattle.zst_record.specs.Heads.{Covered}
-use Rattle.zst_record.specs.Laws.{AreBytes}
 use Rattle.zst_stream.specs.Reading.{complete, reading, waiting}
 use Rattle.zst_recv.specs.Costs.{Spends}
 use Rattle.zst_recv.specs.Damage.{ComesFrom}

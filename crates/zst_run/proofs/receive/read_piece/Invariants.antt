@@ -1,6 +1,6 @@
 use Rattle.std.proofs.Common.{◌≡◌, ◌≤◌, ◌-◌, length, take}
+use Rattle.zst_model.specs.states.State.{AreBytes}
 use Rattle.zst_outside.specs.States.{Gave}
-use Rattle.zst_record.specs.Laws.{AreBytes}
 use Rattle.zst_run.proofs.receive.read_piece.Given as goal
 
 -- what was given so far stands at the front of the room, and no fault was counted
