@@ -12,3 +12,4 @@ pub mod RedactionWords
 pub mod SameLine
 pub mod Sizes
 pub mod Spills
+pub mod WordCounts

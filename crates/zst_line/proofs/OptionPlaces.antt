@@ -97,7 +97,7 @@ pub record TakesName (kind : Kind) (option : List ℕ) (names : Names) : Type 0 
   pub others : (count : ℕ) → AllRefuse (named kind count)
 
 -- an option that the line has is taken unless it stands before
-abbrev chosen : Option OptionValue → Bool → Option OptionValue
+abbrev pub chosen : Option OptionValue → Bool → Option OptionValue
 chosen taken stands = elim taken [
   | None ↦ None
   | Some taking ↦ if stands then None else Some taking

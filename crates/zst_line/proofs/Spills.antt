@@ -1,13 +1,14 @@
 -- The halves of a spill block's word.
-use Rattle.std.proofs.Common.{IsSome, ◌≡◌, ◌≢◌, ℕ, ◌^◌, ◌<◌, ◌≤◌, List, length, get_or, ◌++◌, ◌-◌, take, replicate, true, Ok, Option, Some, None, Bor, sym, ◌∙◌, ap, decimal, arith, lit<, refl}
+use Rattle.std.proofs.Common.{IsSome, ◌≡◌, ◌≢◌, ℕ, ◌^◌, ◌<◌, ◌≤◌, List, length, get_or, ◌++◌, ◌-◌, take, replicate, true, Ok, Option, Some, None, Bor, sym, ◌∙◌, ap, decimal, arith, lit<, refl, subst}
 use Rattle.std.proofs.lemmas.Fmt.{decimal_is_IsNumeral}
 use Rattle.std.proofs.lemmas.Str.Parse.{digit_at}
 use Rattle.std.proofs.lemmas.Str.Pattern.{IsSplitOnceResult, split_after}
 use Rattle.std.proofs.lemmas.Fmt.{decimal_injective}
 use Rattle.std.proofs.lemmas.List.{take_all, length-append, length-replicate}
+use Rattle.std.proofs.lemmas.List.Elements.{All-append, All-from_get_or, All-replicate}
 use Rattle.hex.specs.Hex.{decode_of}
 use Rattle.hex.proofs.HexLemmas.{decode_of-ok}
-use Rattle.zst_model.specs.states.State.{is_spill_size}
+use Rattle.zst_model.specs.states.State.{AreBytes, is_spill_size}
 use Rattle.zst_line.specs.Line.{IsBlockOf}
 use Rattle.zst_line.specs.Words.{IsSpill}
 use Rattle.zst_line.proofs.Sizes.{spill_size_below}
@@ -35,10 +36,15 @@ pub halves_of : (word : List ℕ) (halves : Option (Bor (List ℕ) × Bor (List 
     → (x.0.now ≡ decimal s.size) × (x.1.now ≡ s.bytes)
 halves_of word halves x h e s = spill_halves word x (rw e at h) s
 
+-- what is decoded is bytes
+pub decoded_bytes : (word bytes : List ℕ) → decode_of word ≡ Ok bytes → AreBytes bytes
+decoded_bytes word bytes decoded = All-from_get_or (λ byte. byte < 2 ^ 8) bytes 0 (λ k within. (decode_of-ok word bytes decoded).3 k)
+
 -- a spill block in its whole length, of what its word has
 pub record Filled (word block : List ℕ) : Type 0 where
   pub is : IsBlockOf block word
   pub size : is_spill_size (length block) ≡ true
+  pub bytes : AreBytes block
 
 pub block_filled : (word : List ℕ) (s : IsSpill word) (n : ℕ) (front digits bytes block : List ℕ) → front ≡ decimal s.size → digits ≡ s.bytes → front ≡ decimal n → n < 2 ^ 64 → decode_of digits ≡ Ok bytes
     → block ≡ take n bytes ++ replicate (n - length bytes) 0 → Filled word block
@@ -63,4 +69,6 @@ block_filled word s n front digits bytes block of_size of_bytes of_n fit decoded
         small = omega arith;
       };
       size = rw (size, same) s.block;
+      bytes = subst AreBytes (sym whole)
+          (All-append (λ byte. byte < 2 ^ 8) bytes (replicate (n - length bytes) 0) (decoded_bytes digits bytes decoded) (All-replicate (λ byte. byte < 2 ^ 8) (n - length bytes) 0 (omega arith)));
     }

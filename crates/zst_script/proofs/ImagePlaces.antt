@@ -1,5 +1,5 @@
 -- The image among the words of a line of a pool.
-use Rattle.std.proofs.Common.{◌≡◌, ℕ, zero, suc, ◌-◌, ◌<◌, max, true, false, if◌then◌else◌, bytes_eq, String, Global, string_bytes, List, ◌∷◌, ◌++◌, [], length, map, drop, insert, codes, refl, sym, ap, ◌∙◌, arith, length-append}
+use Rattle.std.proofs.Common.{◌≡◌, ℕ, zero, suc, ◌-◌, ◌<◌, ◌≤◌, max, true, false, if◌then◌else◌, bytes_eq, String, Global, string_bytes, List, ◌∷◌, ◌++◌, [], length, map, drop, insert, codes, refl, sym, ap, ◌∙◌, arith, length-append}
 use Rattle.std.proofs.lemmas.List.{length-map}
 use Rattle.zst_line.specs.Grammar.{word_at}
 use Rattle.zst_line.specs.Line.{Says}
@@ -10,10 +10,20 @@ use Rattle.zst_script.specs.Lines.{before_last, with_image}
 
 -- ---- where it is put
 
-length_with : (image : List ℕ) (rest : List (List ℕ)) → length (before_last image rest) ≡ suc (length rest)
+pub length_with : (image : List ℕ) (rest : List (List ℕ)) → length (before_last image rest) ≡ suc (length rest)
 length_with image [] = refl
 length_with image (word ∷ []) = refl
 length_with image (word ∷ next ∷ rest) = ap suc (length_with image (next ∷ rest))
+
+-- no word is lost
+pub with_image_long : (image : List ℕ) (rest : List (List ℕ)) → length rest ≤ length (with_image image rest)
+with_image_long image [] = omega arith
+with_image_long image (command ∷ rest) =
+    let put = length_with image rest in
+    elim (bytes_eq command (codes "rollback")) as (λ t. length (command ∷ rest) ≤ length (if t then command ∷ before_last image rest else command ∷ image ∷ rest)) [
+      | true ↦ omega (arith, put)
+      | false ↦ omega arith
+    ]
 
 -- before the last of words that one stands before
 pub put_before_last : (image first : List ℕ) (rest : List (List ℕ)) → insert (first ∷ rest) (max 1 (length rest)) image ≡ first ∷ before_last image rest

@@ -11,5 +11,6 @@ mod LineEnds
 mod Pendings
 mod ReadingSteps
 mod ReadScripts
+pub mod WordCounts
 pub mod WordLists
 pub mod WordsOfLines

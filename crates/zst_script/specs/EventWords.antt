@@ -10,6 +10,10 @@ use Rattle.zst_script.specs.declared.event.Side.{Side}
 use Rattle.zst_script.specs.declared.words.Verb.{Verb}
 use Rattle.zst_script.specs.declared.words.Verb.TheVariants as verbs
 
+-- a line that says an event has at most so many words: the most has a redaction to sixteen snapshots, which is of 20
+abbrev pub most_words : ℕ
+most_words = 32
+
 -- the event that words are, or that they are none
 abbrev pub WordsSay : List (List ℕ) → Option Event → Type 0
 WordsSay words None = (event : Event) → ¬ (EventIs event words)

@@ -48,8 +48,10 @@ fn event_of_words(alloc: Global, mut words: Vec<String>) -> Result<Option<Event>
 fn event_of_text(alloc: Global, text: &str) -> Result<Option<Event>, AllocError>
     ensures { IfOk result (WordsSay (words_of text.now)) }
 {
-    let words = words_of(alloc, text)?;
-    event_of_words(alloc, words)
+    match words_of(alloc, text)? {
+        Some(words) => event_of_words(alloc, words),
+        None => Ok(None),
+    }
 }
 
 /// The event that a line says; none where it says none (E1). Single blanks part its words, so that two blanks have an

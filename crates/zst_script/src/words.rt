@@ -1,7 +1,7 @@
 //! The words of a line, and what single ones say.
-ghost use Rattle.std.specs.Prelude.{◌≡◌, ◌≢◌, map, string_bytes, IfOk, MatchOption};
+ghost use Rattle.std.specs.Prelude.{◌≡◌, ◌≢◌, ◌<◌, length, map, string_bytes, IfOk, MatchOption};
 ghost use Rattle.zst_names.specs.Names.{IsDataset};
-ghost use Rattle.zst_script.specs.EventWords.{BeginWith, Spells, TakesId, verb_word};
+ghost use Rattle.zst_script.specs.EventWords.{BeginWith, Spells, TakesId, most_words, verb_word};
 ghost use Rattle.zst_script.specs.Lines.{IsCount, IsId, word_for, words_of};
 ghost use Rattle.zst_script.specs.declared.event.Side.{Side};
 ghost use Rattle.zst_script.specs.declared.words.Verb.{Verb};
@@ -14,6 +14,9 @@ use zst_names::DatasetName;
 /// The most bytes that are taken at once.
 const MOST_BYTES: u64 = 1 << 20;
 
+/// The most words that are kept of a line. No event has as many: a redaction to sixteen snapshots has 20.
+const MOST_WORDS: usize = 32;
+
 /// What stands behind the word for a pool where no command does.
 #[derive(Clone, Copy)]
 pub enum Verb {
@@ -23,15 +26,20 @@ pub enum Verb {
     Reopen,
 }
 
-/// The words of a text, which single blanks part.
-pub fn words_of(alloc: Global, text: &str) -> Result<Vec<String>, AllocError>
-    ensures { IfOk result (λ words. map string_bytes words.items ≡ words_of text.now) }
+/// The words of a text, which single blanks part; none where they are more than any event has.
+pub fn words_of(alloc: Global, text: &str) -> Result<Option<Vec<String>>, AllocError>
+    ensures { IfOk result (λ kept. MatchOption kept
+        (most_words < length (words_of text.now))
+        (λ words. map string_bytes words.items ≡ words_of text.now)) }
 {
     let mut words = Vec::new(alloc);
     for word in text.split(' ') {
+        if words.len() == MOST_WORDS {
+            return Ok(None);
+        }
         words.push(String::from_str(alloc, word)?)?;
     }
-    Ok(words)
+    Ok(Some(words))
 }
 
 /// The pool that a word stands for.

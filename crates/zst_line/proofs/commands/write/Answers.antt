@@ -3,6 +3,7 @@ use Rattle.std.proofs.lemmas.Grind.{common_steps}
 use Rattle.zst_line.specs.declared.kind.Kind.TheVariants as kinds
 use Rattle.zst_line.specs.Grammar.{front}
 use Rattle.zst_line.proofs.Numbers.{number_at, takes_at, number_taken}
+use Rattle.zst_line.proofs.Spills.{decoded_bytes}
 use Rattle.hex.proofs.HexLemmas.{decode_of-ok}
 use Rattle.zst_line.proofs.commands.write.Goals as goal
 
@@ -26,6 +27,6 @@ returns c =
     let enough = digits.0.enough in
     let room = digits.0.room in (
       (c.as_str-5.result.now, (c.in_ok-bytes.ensures, grind (arith, common_steps))),
-      (c.dataset.ensures.name, omega (arith, object.0), omega (arith, enough, twice), omega (arith, room, twice)),
+      (c.dataset.ensures.name, omega (arith, object.0), omega (arith, enough, twice), omega (arith, room, twice), decoded_bytes c.as_str-5.result.now c.in_ok-bytes.field-0 c.in_ok-bytes.ensures),
       (c.number.type_inv, c.number-2.type_inv),
     )

@@ -20,4 +20,4 @@ returns c =
     let is = c.new.ensures in
     let made : c.new.result ≡ take c.number.result c.in_ok-bytes.field-0 ++ replicate (c.number.result - length c.in_ok-bytes.field-0) 0 = cc in
     let filled = block_filled c.args.word.now c.requires c.number.result c.unwrap.result.0.now c.unwrap.result.1.now c.in_ok-bytes.field-0 c.new.result halves.0 halves.1 c.number.ensures c.number.type_inv c.in_ok-bytes.ensures made in
-    record { same = filled.is; size = filled.size }
+    record { same = filled.is; size = (filled.size, filled.bytes) }

@@ -5,10 +5,11 @@ use Rattle.hex.specs.Hex.{decode_of}
 use Rattle.hex.proofs.HexLemmas.{decode_of-ok}
 use Rattle.zst_model.specs.states.State.{IsBonus, largest_bonus}
 use Rattle.zst_line.specs.Words.{IsHex}
+use Rattle.zst_line.proofs.Spills.{decoded_bytes}
 use Rattle.zst_line.proofs.word_values.bonus.Goals as goal
 
 short : {E : Type 0} (word : List ℕ) → IsHex 1 largest_bonus word → (result : Result (List ℕ) E) → IfOk result (λ bytes. decode_of word ≡ Ok bytes) → IfOk result IsBonus
-short word is (Ok bytes) decoded = let twice = (decode_of-ok word bytes decoded).2 in let room = is.room in omega arith
+short word is (Ok bytes) decoded = let twice = (decode_of-ok word bytes decoded).2 in let room = is.room in (omega arith, decoded_bytes word bytes decoded)
 short word is (Err fault) decoded = tt
 
 pub returns-clause-most : goal.returns-clause-most
