@@ -1,4 +1,9 @@
-pub mod Spelled
+pub mod ApartExtents
+pub mod ExtentGrowth
 pub mod FewerSectors
+pub mod OneSet
+pub mod ReadRefusals
+pub mod Spelled
 pub mod Stored
 pub mod TakenWorks
+pub mod TreeBlocks

@@ -1,5 +1,5 @@
 -- What was written stands over fewer free sectors too.
-use Rattle.std.proofs.Common.{◌≡◌, ℕ, zero, suc, ◌+◌, refl, ◌*◌, ◌/◌, ◌<◌, ◌≤◌, List, [], ◌∷◌, length, ◌∙◌, ap, arith}
+use Rattle.std.proofs.Common.{◌≡◌, ℕ, ◌*◌, ◌/◌, List, [], ◌∷◌, length, ◌∙◌, ap, arith}
 use Rattle.std.proofs.lemmas.List.{length-append}
 use Rattle.zst_outside.specs.Images.{DiskState}
 use Rattle.zst_space.specs.FreeSectors.{FreeSectors, IsFree}
@@ -8,10 +8,9 @@ use Rattle.zst_bytes.specs.Words.{word}
 use Rattle.zst_bytes.proofs.BytesLaws.{length-number_bytes}
 use Rattle.zst_block.specs.Blocks.{FillsFree, Has}
 use Rattle.zst_block.specs.declared.ptr.Ptr.{Ptr}
-use Rattle.zst_leaves.specs.Leaves.{HasLeaves, IsLeast, Numbered, blocks_for, leaves_for}
-use Rattle.zst_leaves.proofs.BlockCounts.{most_blocks}
+use Rattle.zst_leaves.specs.Leaves.{HasLeaves, Numbered}
 use Rattle.zst_leaves.proofs.LeavesLaws.{HasLeaves-grows}
-use Rattle.zst_extents.specs.StoredExtents.{extent_blocks, extent_bytes}
+use Rattle.zst_extents.specs.StoredExtents.{extent_bytes}
 use Rattle.zst_extents.proofs.Spelled.{bytes_cons, bytes_none}
 
 word_length : (n : ℕ) → length (word n) ≡ 8
@@ -42,16 +41,3 @@ pub HasLeaves-less : (number : ℕ) (image : List ℕ) (mid less : FreeSectors) 
     → HasLeaves (Numbered number (Has image mid)) levels root text → HasLeaves (Numbered number (Has image less)) levels root text
 HasLeaves-less number image mid less fewer levels root text is =
     HasLeaves-grows (Numbered number (Has image mid)) (Numbered number (Has image less)) (λ ptr bytes has. (Has-less image mid less fewer ptr bytes has.0, has.1)) levels root text is
-
-pub some_blocks : (count : ℕ) → 0 < count → extent_blocks count ≡ leaves_for (16 * count) + leaves_for (16 * count) / 127 + 3
-some_blocks zero some = absurd (omega arith)
-some_blocks (suc count) some = refl
-
--- fewer extents take no more blocks than that
-pub few_leaves : (long count fewer : ℕ) → 0 < long → long ≡ 16 * fewer → fewer ≤ count → leaves_for long + leaves_for long / 127 + 3 ≤ extent_blocks count
-few_leaves long count fewer some is le =
-    let leaves : leaves_for long ≤ leaves_for (16 * count) = omega (arith, is, le) in
-    omega (arith, some_blocks count (omega (arith, some, is, le)), leaves)
-
-pub few_blocks : (levels long count fewer : ℕ) → IsLeast levels long → 0 < long → long ≡ 16 * fewer → fewer ≤ count → blocks_for levels long ≤ extent_blocks count
-few_blocks levels long count fewer least some is le = omega (arith, most_blocks levels long least.few some least.enough, few_leaves long count fewer some is le)

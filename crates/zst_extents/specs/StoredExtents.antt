@@ -1,5 +1,5 @@
 -- The free extents of a pool, as they stand in the leaves of a tree: 512 in each.
-use Rattle.std.specs.Prelude.{◌≡◌, ℕ, zero, suc, ◌+◌, ◌*◌, ◌/◌, ◌<◌, List, [], ◌∷◌, ◌++◌, length}
+use Rattle.std.specs.Prelude.{◌≡◌, ℕ, ◌+◌, ◌*◌, ◌/◌, ◌<◌, nat_le, if◌then◌else◌, List, [], ◌∷◌, ◌++◌, length}
 use Rattle.zst_bytes.specs.Words.{word}
 use Rattle.zst_space.specs.declared.space.Extent.{Extent}
 use Rattle.zst_block.specs.Ptr.{hole_of}
@@ -18,7 +18,14 @@ pub record HasExtents (has : Blocks) (levels : ℕ) (root : Ptr) (count : ℕ) (
   pub none : count ≡ 0 → (levels ≡ 0) × (root ≡ hole_of 0)
   pub leaves : 0 < count → HasLeaves has levels root (extent_bytes extents)
 
--- so many blocks so many extents take at most
+-- how many blocks a tree of so many leaves has, up to 2,097,152: of one leaf none above it, and else a node above each 128 leaves, one above each 128 of these, and so on up to the root
+abbrev pub tree_blocks : ℕ → ℕ
+tree_blocks leaves =
+    if nat_le leaves 1 then leaves else
+    (if nat_le leaves 128 then leaves + 1 else
+    (if nat_le leaves 16384 then leaves + (leaves + 127) / 128 + 1 else
+    leaves + (leaves + 127) / 128 + (leaves + 16383) / 16384 + 1))
+
+-- so many blocks so many extents take
 abbrev pub extent_blocks : ℕ → ℕ
-extent_blocks zero = 0
-extent_blocks (suc count) = leaves_for (16 * suc count) + leaves_for (16 * suc count) / 127 + 3
+extent_blocks count = tree_blocks (leaves_for (16 * count))

@@ -2,12 +2,15 @@
 ghost use Rattle.std.specs.Prelude.{◌≡◌, ◌+◌, ◌*◌, ◌/◌, ◌^◌, ◌<◌, ℕ, IfErr, IfOk, OnOk, length};
 ghost use Rattle.zst_space.specs.FreeSectors.{IsFree, IsSpaceFrom};
 ghost use Rattle.zst_space.specs.TakenExtents.{without_blocks};
-ghost use Rattle.zst_block.specs.IoCalls.{IsFull, TakesAtMost, Works};
+ghost use Rattle.zst_marks.specs.Marks.{Apart};
+ghost use Rattle.zst_block.specs.IoCalls.{IsBlockLength, IsFull, TakesAtMost, Works};
 ghost use Rattle.zst_block.specs.IoStates.{blocks_of, io_of};
 ghost use Rattle.zst_leaves.specs.Leaves.{Numbered, TellsNone};
 ghost use Rattle.zst_tree.specs.Faults.{fault_of};
 ghost use Rattle.zst_extents.specs.StoredExtents.{HasExtents, extent_blocks};
 
+use crate::order::are_apart;
+use crate::reads::MOST_EXTENTS;
 use crate::spelling::spell;
 use std::alloc::Global;
 use zst_block::{BlockFault, Io, Ptr};
@@ -27,23 +30,25 @@ pub struct StoredExtents {
     pub count: u64,
 }
 
-// So many blocks so many extents take at most.
+// So many blocks so many extents take.
 fn blocks_for(count: usize) -> u64
     requires { count < 2 ^ 59 }
     ensures { result ≡ extent_blocks count }
 {
-    if count == 0 {
-        return 0;
-    }
     let leaves = (16 * count as u64 + 8191) / 8192;
-    leaves + leaves / 127 + 3
+    match leaves {
+        0..=1 => leaves,
+        2..=128 => leaves + 1,
+        129..=16384 => leaves + (leaves + 127) / 128 + 1,
+        _ => leaves + (leaves + 127) / 128 + (leaves + 16383) / 16384 + 1,
+    }
 }
 
 // Takes so many blocks of a tree in turn.
 fn take_blocks(space: &mut Space, blocks: u64) -> Result<(), SpaceFault>
     requires { IsSpaceFrom 8 space.old }
     ensures after { OnOk result (space.new ≡ without_blocks blocks space.old) }
-    ensures takes { TakesAtMost (16 * blocks) space.old space.new }
+    ensures takes { TakesAtMost (16 * blocks) (IsBlockLength 16) space.old space.new }
     ensures fewer { (sector : ℕ) → IsFree space.new sector → IsFree space.old sector }
     ensures full { IfErr result (λ full. IsFull (16 * blocks) 16 space.old space.new full.need full.largest) }
     ensures kept { IsSpaceFrom 8 space.new }
@@ -59,23 +64,26 @@ fn take_blocks(space: &mut Space, blocks: u64) -> Result<(), SpaceFault>
 
 /// Writes the free extents that are left once they are written themselves, and leaves them free.
 ///
-/// Their blocks are taken in turn, as many as the extents before may need. One of these that isn't
-/// written is neither free nor reached.
+/// Their blocks are taken in turn, as many as the extents before would take. One of these that isn't
+/// written is neither free nor reached. Extents that have no place in an image find no memory: more
+/// than 2^30, and ones that touch, which are never left where none touched before.
 pub fn write_extents<D: Disk>(
     io: &mut Io<'_, D>,
     alloc: Global,
     number: u64,
 ) -> Result<StoredExtents, OrMemory<BlockFault>>
-    requires few { length io.old.space.free < 2 ^ 30 }
-
     // What stands there afterwards, by pointers with the number, are the extents that are left once so
     // many blocks were taken in turn.
     ensures there { IfOk result (λ stored. HasExtents (Numbered number (blocks_of io.new)) stored.levels stored.root stored.count io.new.space.free) }
     ensures after { OnOk result (io.new.space ≡ without_blocks (extent_blocks (length io.old.space.free)) io.old.space) }
+    ensures apart { OnOk result (Apart 8 io.new.space.free io.new.space.end) }
     // Free sectors alone are written: those of these blocks.
     ensures works { Works (16 * extent_blocks (length io.old.space.free)) 16 (io_of io.old) (io_of io.new) (fault_of result) }
     ensures never_damaged { TellsNone result }
 {
+    if io.space.extents().len() as u64 > MOST_EXTENTS {
+        return Err(OrMemory::Memory);
+    }
     let blocks = blocks_for(io.space.extents().len());
     let mut left = io.space.copy(alloc)?;
     match take_blocks(&mut left, blocks) {
@@ -84,6 +92,9 @@ pub fn write_extents<D: Disk>(
             io.space = left;
             return Err(OrMemory::Fault(BlockFault::from(full)));
         }
+    }
+    if !are_apart(left.extents(), left.end()) {
+        return Err(OrMemory::Memory);
     }
     let bytes = spell(alloc, left.extents())?;
     let count = left.extents().len() as u64;

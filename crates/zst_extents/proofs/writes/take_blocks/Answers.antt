@@ -2,7 +2,8 @@ use Rattle.std.proofs.Common.{rules, ◌+◌, ◌*◌, ◌<◌, ◌≤◌, inl, 
 use Rattle.zst_space.specs.FreeSectors.{largest_of}
 use Rattle.zst_space.proofs.FreeSectorsLaws.{IsSpaceFrom-earlier}
 use Rattle.zst_leaves.proofs.TakenBlocks.{blocks_last, blocks_none_taken}
-use Rattle.zst_extents.proofs.TakenWorks.{TakesAtMost-full, TakesAtMost-more, TakesAtMost-none}
+use Rattle.zst_block.proofs.TakenSectors.{takes_more, takes_none}
+use Rattle.zst_extents.proofs.TakenWorks.{TakesAtMost-more}
 use Rattle.zst_extents.proofs.writes.take_blocks.Goals as goal
 
 pub take-requires : goal.take-requires
@@ -11,7 +12,7 @@ take-requires c = IsSpaceFrom-earlier 8 0 c.loop-k.space (omega arith) c.loop-k.
 pub loop-k-init : goal.loop-k-init
 loop-k-init c = record {
   after = sym (blocks_none_taken c.args.space.now);
-  takes = TakesAtMost-none c.args.space.now;
+  takes = takes_none c.args.space.now;
   fewer = λ sector free. free;
   kept = c.requires;
 }
@@ -30,7 +31,7 @@ loop-k-preserved c =
 pub returns-in-Err-clause-takes : goal.returns-in-Err-clause-takes
 returns-in-Err-clause-takes c =
     let inv = c.loop-k.invariant in
-    rw c.in-Err.ensures.unchanged (TakesAtMost-full (16 * c.loop-k.k) (16 * c.args.blocks) _ c.loop-k.space inv.takes (omega arith))
+    rw c.in-Err.ensures.unchanged (takes_more (16 * c.loop-k.k) (16 * c.args.blocks) _ c.loop-k.space (omega arith) inv.takes)
 
 pub returns-in-Err-clause-full : goal.returns-in-Err-clause-full
 returns-in-Err-clause-full c =
