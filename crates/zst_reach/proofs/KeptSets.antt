@@ -12,20 +12,18 @@ use Rattle.zst_dnode.specs.declared.slot.Slot.{Slot}
 use Rattle.zst_dnode.specs.declared.slot.Slot.TheVariants.{Absent, There}
 use Rattle.zst_model.specs.states.State.{Block, Hole, Redacted, Data, Object}
 use Rattle.zst_model.specs.states.DatedState.{DatedState}
-use Rattle.zst_tree.specs.Damage.{HangsBelow}
 use Rattle.zst_tree.specs.Indices.{Map, Subtree, TreeIs, child, span}
 use Rattle.zst_tree.specs.declared.tree.Tree.{Tree}
 use Rattle.zst_tree.specs.declared.tree.ObjSet.{ObjSet}
 use Rattle.zst_tree.proofs.Span.{span-pos, span-suc, span_zero}
 use Rattle.zst_tree.proofs.SubtreeCases.{flat_kind, node_flat}
-use Rattle.zst_objset.specs.Damage.{HasSlot}
 use Rattle.zst_objset.specs.Dnodes.{BlockIs, ObjectIs, SlotIs, SpillIs, tree_of}
 use Rattle.zst_objset.specs.Sets.{LeafIs, SetHolds}
 use Rattle.zst_objset.specs.TightSets.{SetIsTight}
 use Rattle.zst_objset.proofs.OneState.{under_bound}
 use Rattle.zst_objset.proofs.TightLaws.{SetIsTight-of, TreeIs-lawful, no_block}
 use Rattle.zst_reach.specs.Reached.{IsOf, ReachesBlock, ReachesSector}
-use Rattle.zst_reach.specs.ReachedSets.{ReachesInDnode, ReachesInSet}
+use Rattle.zst_reach.specs.ReachedSets.{ReachesInDnode, ReachesInSet, ReachesInSlot, StandsAt}
 use Rattle.zst_reach.proofs.ReachedLaws.{reach_child, reach_here}
 
 -- the child below which an index stands
@@ -85,17 +83,17 @@ module _ (image : List ℕ) (space more : FreeSectors) where
     agrees = is.agrees;
   }
 
-  -- the leaf of an index, where it isn't flat, is reached, and hangs below
-  record Leaf (level : ℕ) (ptr leaf : Ptr) : Type 0 where
+  -- the leaf of an index, where it isn't flat, is reached, and stands there
+  record Leaf (level : ℕ) (ptr : Ptr) (base index : ℕ) (leaf : Ptr) : Type 0 where
     pub reached : ReachesBlock (IsBlock image) level ptr leaf
-    pub hangs : HangsBelow (IsBlock image) level ptr leaf
+    pub stands : StandsAt (IsBlock image) level ptr base index leaf
 
-  leaf_reached : (level : ℕ) (ptr : Ptr) (base : ℕ) (map : Map) (index : ℕ) → Subtree (Has image space) level ptr base map → base ≤ index → index < base + span level → is_flat (map index) ≡ false → Leaf level ptr (map index)
-  unfolding Subtree ReachesBlock HangsBelow
+  leaf_reached : (level : ℕ) (ptr : Ptr) (base : ℕ) (map : Map) (index : ℕ) → Subtree (Has image space) level ptr base map → base ≤ index → index < base + span level → is_flat (map index) ≡ false → Leaf level ptr base index (map index)
+  unfolding Subtree ReachesBlock StandsAt
   leaf_reached zero ptr base map index is from under some =
       let here : index ≡ base = omega (arith, from, under, span_zero) in
       let same : map index ≡ ptr = ap map here ∙ is.1 in
-      record { reached = (subst (λ (p : Ptr). is_flat p ≡ false) same some, same); hangs = same }
+      record { reached = (subst (λ (p : Ptr). is_flat p ≡ false) same some, same); stands = (here, same) }
   leaf_reached (suc level) ptr base map index (inl flat) from under some =
       absurd (false≢true (sym some ∙ ap is_flat (flat.2.is index from under) ∙ flat.1))
   leaf_reached (suc level) ptr base map index (inr (bytes, node, below)) from under some =
@@ -106,16 +104,16 @@ module _ (image : List ℕ) (space more : FreeSectors) where
       let low = at.low in
       let high = at.high in
       let lower = leaf_reached level (child bytes k) (base + k * span level) map index (below k less) low high some in
-      record { reached = (inner, inr (bytes, node.there.block, k, less, lower.reached)); hangs = inr (inner, bytes, node.there.block, k, less, lower.hangs) }
+      record { reached = (inner, inr (bytes, node.there.block, k, less, lower.reached)); stands = (inner, (bytes, node.there.block, k, less, lower.stands)) }
 
   -- in a tree
-  tree_leaf : (tree : Tree) (map : Map) (index : ℕ) → TreeIs (Has image space) tree map → index < 2 ^ 44 → is_flat (map index) ≡ false → Leaf tree.levels tree.root (map index)
+  tree_leaf : (tree : Tree) (map : Map) (index : ℕ) → TreeIs (Has image space) tree map → index < 2 ^ 44 → is_flat (map index) ≡ false → Leaf tree.levels tree.root 0 index (map index)
   tree_leaf tree map index is small some = elim (cases_lt index (span tree.levels)) [
     | inl under ↦ rw (is.agrees index small) (leaf_reached tree.levels tree.root 0 is.whole index is.stands.below (omega arith) (omega (arith, under)) (subst (λ (p : Ptr). is_flat p ≡ false) (is.agrees index small) some))
     | inr past ↦ absurd (false≢true (sym some ∙ ap is_flat (is.agrees index small ∙ is.stands.past index past)))
   ]
 
-  kind_one : (ptr : Ptr) → ptr.kind ≡ 1 → is_flat ptr ≡ false
+  pub kind_one : (ptr : Ptr) → ptr.kind ≡ 1 → is_flat ptr ≡ false
   kind_one ptr is = rw is refl
 
   block_kept : (tree : Tree) (map : Map) (index : ℕ) (block : Block) → TreeIs (Has image space) tree map → index < 2 ^ 44 → ((sector : ℕ) → ReachesSector (IsBlock image) tree.levels tree.root sector → IsFree more sector → ⊥)
@@ -144,9 +142,9 @@ module _ (image : List ℕ) (space more : FreeSectors) where
     index_dates = is.index_dates;
   }
 
-  slot_kept : (snap : DatedState) (k : ℕ) (slot : Slot) → ((dnode : Dnode) → slot ≡ There dnode → (sector : ℕ) → ReachesInDnode (IsBlock image) dnode sector → IsFree more sector → ⊥) → SlotIs (Has image space) snap k slot → SlotIs (Has image more) snap k slot
+  slot_kept : (snap : DatedState) (k : ℕ) (slot : Slot) → ((sector : ℕ) → ReachesInSlot (IsBlock image) slot sector → IsFree more sector → ⊥) → SlotIs (Has image space) snap k slot → SlotIs (Has image more) snap k slot
   slot_kept snap k (Absent date) none is = is
-  slot_kept snap k (There dnode) none is = record { object = is.object; there = is.there; map = is.map; is = object_kept dnode is.object (snap.number_date k) (snap.index_date k) is.map (none dnode refl) is.is }
+  slot_kept snap k (There dnode) none is = record { object = is.object; there = is.there; map = is.map; is = object_kept dnode is.object (snap.number_date k) (snap.index_date k) is.map none is.is }
 
   leaf_flat : (ptr : Ptr) (there : Bool) → ptr.kind ≡ (if there then 3 else 4) → is_flat ptr ≡ false
   leaf_flat ptr true is = flat_kind ptr (inl is)
@@ -169,17 +167,21 @@ module _ (image : List ℕ) (space more : FreeSectors) where
         };
         slots_are = record {
           numbers = λ s less number. slot_kept snap (16 * j + s) (leaf.slots s)
-              (λ dnode is sector reached. none sector (inr (record {
+              (λ sector reached. none sector (inr (record {
                 leaf = map j;
-                hangs = at.hangs;
+                index = j;
+                small = small;
+                stands = at.stands;
                 some = some;
-                bytes = leaf.bytes;
-                there = leaf.names.there.block;
-                place = s;
-                under = less;
-                dnode = dnode;
-                slot = subst (λ (slot : Slot). HasSlot leaf.bytes s slot) is (record { fits = leaf.names.spells.fits s less; spelled = leaf.names.spells.spelled s less });
-                reached = reached;
+                inside = record {
+                  bytes = leaf.bytes;
+                  there = leaf.names.there.block;
+                  place = s;
+                  under = less;
+                  slot = leaf.slots s;
+                  stands = record { fits = leaf.names.spells.fits s less; spelled = leaf.names.spells.spelled s less };
+                  reached = reached;
+                };
               }))) (leaf.slots_are.numbers s less number);
           no_number = leaf.slots_are.no_number;
         };

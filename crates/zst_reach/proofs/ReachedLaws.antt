@@ -11,7 +11,7 @@ use Rattle.zst_tree.specs.Damage.{TellsNode}
 use Rattle.zst_tree.specs.Indices.{Blocks, IsNoDamage, child}
 use Rattle.zst_reach.specs.Reached.{AreMarked, IsOf, ReachesBlock, ReachesSector}
 
-one_block : (image : List ℕ) (ptr : Ptr) (bytes node : List ℕ) → IsBlock image ptr bytes → IsBlock image ptr node → bytes ≡ node
+pub one_block : (image : List ℕ) (ptr : Ptr) (bytes node : List ℕ) → IsBlock image ptr bytes → IsBlock image ptr node → bytes ≡ node
 one_block image ptr bytes node first second = sym first.bytes_are ∙ second.bytes_are
 
 -- nothing is reached below a pointer without a block

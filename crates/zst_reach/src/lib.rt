@@ -3,7 +3,14 @@
 
 mod blocks;
 mod laws;
+mod leaves;
+mod nodes;
+mod objects;
+mod sets;
+mod texts;
 mod trees;
 
-pub use laws::unreached_sectors_may_be_free;
+pub use laws::{unreached_sectors_may_be_free, unreached_sectors_of_texts_may_be_free};
+pub use sets::mark_set;
+pub use texts::mark_text;
 pub use trees::mark_below;
