@@ -1,5 +1,5 @@
--- What a feed leaves of its pool, whatever the image is.
-use Rattle.std.specs.Prelude.{◌≡◌, ◌≢◌, ◌||◌, ℕ, true, false, List, Result, Err, IfErr, find}
+-- What a feed leaves, whatever the image is: of its pool, of the rows and of the receive.
+use Rattle.std.specs.Prelude.{◌≡◌, ◌≢◌, ◌||◌, ◌+◌, ◌<◌, ℕ, true, false, List, length, Result, Err, IfErr, find}
 use Rattle.zst_outside.specs.declared.disk.Disk.{Ghosts}
 use Rattle.zst_block.specs.Blocks.{KeepsBlocks}
 use Rattle.zst_block.specs.IoCalls.{HasCause, fails, is_damage}
@@ -14,8 +14,9 @@ use Rattle.zst_pool.specs.declared.pool.Pool.{Pool}
 use Rattle.zst_reader.specs.InputReads.{stream_limit}
 use Rattle.zst_recv.specs.Answers.{goes_on}
 use Rattle.zst_recv.specs.Faults.{IsFeedFault, keeps_before, stop_of}
+use Rattle.zst_recv.specs.FedReceives.{LeavesKept, LeavesReceive}
 use Rattle.zst_recv.specs.GoingOn.{IsRow}
-use Rattle.zst_recv.specs.Stages.{stage_of}
+use Rattle.zst_recv.specs.Stages.{ask_of, fed_of, has_partial, is_waiting, stage_of}
 use Rattle.zst_recv.specs.declared.fault.RecvFault.{RecvFault}
 use Rattle.zst_recv.specs.declared.fault.RecvFault.TheVariants as faults
 use Rattle.zst_recv.specs.declared.recv.FeedReport as coded
@@ -57,3 +58,14 @@ module _ {D : Type 0} {g : Ghosts D} where
 pub record LeavesRows (target : List ℕ) (before : Stage) (old new : Rows) (recv : Recv) (result : Result coded.FeedReport RecvFault) : Type 0 where
   pub others : (other : List ℕ) → other ≢ target → find (is_for other) new.partials ≡ find (is_for other) old.partials
   pub own : IsRow old target before → goes_on result ≡ true → IsRow new target (stage_of recv)
+
+-- a receive was fed this piece, into a pool
+pub record LeavesFed {D : Type 0} {g : Ghosts D} (piece : List ℕ) (before after : Recv) (old new : Pool D g) (result : Result coded.FeedReport RecvFault) : Type 0 where
+  -- as long as BEGIN isn't covered nothing is committed; and what a refusal leaves of what is kept
+  pub kept : LeavesKept (is_waiting after) old.io.failed (has_partial (stage_of before)) (ask_of before).target old.kept new.kept result
+  pub pool : LeavesPool old new result
+  -- E23: a stream that would be longer than one may be is refused as that before all else
+  pub long : old.io.failed ≡ false → stream_limit < fed_of before + length piece → IsTooLong old new result
+  -- others' partial states stay as they were, and where the receive goes on its own stands among the rows
+  pub rows : LeavesRows (ask_of before).target (stage_of before) old.kept.dir new.kept.dir after result
+  pub receive : LeavesReceive new.kept.dir piece before after result

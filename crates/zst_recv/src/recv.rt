@@ -38,7 +38,7 @@ pub struct Recv {
 }
 
 impl Recv {
-    ghost use Rattle.std.specs.Prelude.{◌≡◌, ◌<◌, ◌+◌, ◌-◌, length, ℕ, Bool, List, Option, IfErr, IfOk, Err, false, true, not, sum_by, if◌then◌else◌, ◌++◌};
+    ghost use Rattle.std.specs.Prelude.{◌≡◌, ◌-◌, ℕ, Bool, List, Option, IfErr, IfOk, Err, false, true, not, sum_by, if◌then◌else◌, ◌++◌};
     ghost use Rattle.zst_block.specs.Blocks.{Has};
     ghost use Rattle.zst_block.specs.IoStates.{IsHonest, disk_of};
     ghost use Rattle.zst_image.specs.Commits.{Ready};
@@ -52,11 +52,11 @@ impl Recv {
     ghost use Rattle.zst_recv.specs.Answers.{Feeds};
     ghost use Rattle.zst_recv.specs.Costs.{CostsPiece, records_behind};
     ghost use Rattle.zst_recv.specs.Faults.{cut_of};
-    ghost use Rattle.zst_recv.specs.FedPools.{IsTooLong, LeavesPool, LeavesRows};
-    ghost use Rattle.zst_recv.specs.FedReceives.{IsFresh, LeavesKept, LeavesReceive, TracesSet};
+    ghost use Rattle.zst_recv.specs.FedPools.{LeavesFed};
+    ghost use Rattle.zst_recv.specs.FedReceives.{IsFresh, TracesSet};
     ghost use Rattle.zst_recv.specs.ReadTexts.{ReadsText};
     ghost use Rattle.zst_recv.specs.ReceiveSteps.{Stage as PlainStage, left_by};
-    ghost use Rattle.zst_recv.specs.Stages.{Receives, RecvFits, TellsBefore, ask_of, fed_of, has_partial, is_live, is_waiting, kept_without, point_in, reader_of, received_by, stage_behind, stage_of};
+    ghost use Rattle.zst_recv.specs.Stages.{Receives, RecvFits, TellsBefore, ask_of, fed_of, has_partial, is_live, kept_without, point_in, reader_of, received_by, stage_behind, stage_of};
 
     /// Begins a receive, and takes all of its memory. Nothing is read or committed.
     pub fn open<D: Disk>(
@@ -138,14 +138,8 @@ impl Recv {
         // its plan takes over the rows; and the set of a partial state that goes on was made of that one.
         ensures traces { (text : List ℕ) (handed : List Covered) → StandsFor (reader_of self.old) text handed → IsHonest pool.new.io
             → TracesSet (disk_of pool.old.io) (free_by pool.old.kept.body) pool.old.kept.dir (ask_of self.old) (text ++ piece.now) (stage_of self.old) pool.old.io.failed (disk_of pool.new.io).seen (free_by pool.new.kept.body) (stage_of self.new) result }
-        // As long as BEGIN isn't covered nothing is committed; and what a refusal leaves of what is kept.
-        ensures kept { LeavesKept (is_waiting self.new) pool.old.io.failed (has_partial (stage_of self.old)) (ask_of self.old).target pool.old.kept pool.new.kept result }
-        ensures pool { LeavesPool pool.old pool.new result }
-        // E23: a stream that would be longer than one may be is refused as that before all else.
-        ensures long { pool.old.io.failed ≡ false → stream_limit < fed_of self.old + length piece.now → IsTooLong pool.old pool.new result }
-        // Others' partial states stay as they were, and where the receive goes on its own stands among the rows.
-        ensures rows { LeavesRows (ask_of self.old).target (stage_of self.old) pool.old.kept.dir pool.new.kept.dir self.new result }
-        ensures receive { LeavesReceive pool.new.kept.dir piece.now self.old self.new result }
+        // Whatever the image, and whatever is answered: what it leaves of the pool, of the rows and of the receive.
+        ensures leaves { LeavesFed piece.now self.old self.new pool.old pool.new result }
     {
         if pool.io.failed {
             self.stage = Stage::Over;

@@ -33,18 +33,18 @@ returns-then-fed-clause-turns g c =
     let e = c.in-Ok.ensures in
     let bytes = All-take (λ (byte : ℕ). byte < 256) p.result.count p.new.room p.ensures.bytes in
     turns_received _ _ p.new.room p.result.count p.result.end p.ensures.within (p.ensures.room ∙ c.requires.room) p.ensures.gave p.ensures.fills c.records_are_counted.ensures (λ is. c.if-piece-eq0.false is) bytes
-    _ _ _ _ _ _ _ e.receive.ask c.in-Ok.fed _ (let adds = c.saturating_add.ensures in omega (arith, adds)) (λ tight running text stage honest rests tells fed. e.feeds tight running text stage honest c.requires.can_feed.works rests tells fed) c.if-fed.true
-    (λ text handed stands. (e.texts c.requires.can_feed.works text handed stands).whole c.requires.can_feed.live (e.receive.live ∙ ap not c.if-fed.true))
+    _ _ _ _ _ _ _ e.leaves.receive.ask c.in-Ok.fed _ (let adds = c.saturating_add.ensures in omega (arith, adds)) (λ tight running text stage honest rests tells fed. e.feeds tight running text stage honest c.requires.can_feed.works rests tells fed) c.if-fed.true
+    (λ text handed stands. (e.texts c.requires.can_feed.works text handed stands).whole c.requires.can_feed.live (e.leaves.receive.live ∙ ap not c.if-fed.true))
 
 pub returns-else-fed-clause-turns : goal.returns-else-fed-clause-turns
 returns-else-fed-clause-turns g c =
     let p = c.read_piece-piece in
     let e = c.in-Ok.ensures in
     let bytes = All-take (λ (byte : ℕ). byte < 256) p.result.count p.new.room p.ensures.bytes in
-    let live = e.receive.live ∙ ap not c.if-fed.false in
+    let live = e.leaves.receive.live ∙ ap not c.if-fed.false in
     rw c.turn_behind-in-Ok.ensures
     (turns_on _ _ p.new.room p.result.count p.result.end p.ensures.within (p.ensures.room ∙ c.requires.room) p.ensures.gave p.ensures.fills c.records_are_counted.ensures (λ is. c.if-piece-eq0.false is) bytes
-    _ _ _ _ _ _ _ e.receive.ask c.in-Ok.fed _ (let adds = c.saturating_add.ensures in omega (arith, adds)) (λ tight running text stage honest rests tells fed. e.feeds tight running text stage honest c.requires.can_feed.works rests tells fed) c.if-fed.false
+    _ _ _ _ _ _ _ e.leaves.receive.ask c.in-Ok.fed _ (let adds = c.saturating_add.ensures in omega (arith, adds)) (λ tight running text stage honest rests tells fed. e.feeds tight running text stage honest c.requires.can_feed.works rests tells fed) c.if-fed.false
     (λ text handed stands. (e.texts c.requires.can_feed.works text handed stands).stands live)
     (λ text has.
     ((e.texts c.requires.can_feed.works text has.0 has.1.stands).hands_out live has.1.whole, grows_behind c.args.recv.now text (take p.result.count p.new.room) _ _ has (e.costs text has.0 has.1.stands).grows)))
@@ -56,11 +56,11 @@ returns-in-Err-clause-turns g c =
     let bytes = All-take (λ (byte : ℕ). byte < 256) p.result.count p.new.room p.ensures.bytes in
     rw c.from.ensures
     (turns_refused _ _ p.new.room p.result.count p.result.end p.ensures.within (p.ensures.room ∙ c.requires.room) p.ensures.gave p.ensures.fills c.records_are_counted.ensures (λ is. c.if-piece-eq0.false is) bytes
-    _ _ _ _ _ _ _ e.receive.ask _ c.in-Err.fault (e.pool.known c.requires.can_feed.works) (λ tight running text stage honest rests tells fed. e.feeds tight running text stage honest c.requires.can_feed.works rests tells fed)
+    _ _ _ _ _ _ _ e.leaves.receive.ask _ c.in-Err.fault (e.leaves.pool.known c.requires.can_feed.works) (λ tight running text stage honest rests tells fed. e.feeds tight running text stage honest c.requires.can_feed.works rests tells fed)
     (λ text handed told stands is. (e.texts c.requires.can_feed.works text handed stands).stream told (ap (λ (f : RecvFault). Err f) is))
     (λ text handed need largest hands is.
     let full = ap (λ (f : RecvFault). Err f) is in
-    short_behind c.args.recv.now.reader text (take p.result.count p.new.room) handed _ _ _ need largest hands (e.pool.stays (faults.Pool (pools.Full need largest)) full refl) ((e.costs text handed hands.stands).short need largest full)))
+    short_behind c.args.recv.now.reader text (take p.result.count p.new.room) handed _ _ _ need largest hands (e.leaves.pool.stays (faults.Pool (pools.Full need largest)) full refl) ((e.costs text handed hands.stands).short need largest full)))
 
 pub returns-then-piece-eq0-clause-plans : goal.returns-then-piece-eq0-clause-plans
 returns-then-piece-eq0-clause-plans g c = λ rows text piece gave on.
@@ -85,7 +85,7 @@ returns-then-fed-clause-plans g c = λ rows text piece gave on.
     let one : piece ≡ given = gave_one old new piece given gave p.ensures.gave in
     let e = c.in-Ok.ensures in
     subst (λ (q : List ℕ). TurnPlans rows recv.ask c.feed.new.pool.kept c.feed.new.self (text ++ q) turns.Received) (sym one)
-    (ends_plans c.fronts_agree.ensures rows kept c.feed.new.pool.kept recv c.feed.new.self text given (Ok c.in-Ok.fed) on e.receive.ask (e.texts c.requires.can_feed.works text on.fed.0 on.fed.1).planned c.in-Ok.fed refl)
+    (ends_plans c.fronts_agree.ensures rows kept c.feed.new.pool.kept recv c.feed.new.self text given (Ok c.in-Ok.fed) on e.leaves.receive.ask (e.texts c.requires.can_feed.works text on.fed.0 on.fed.1).planned c.in-Ok.fed refl)
 
 pub returns-else-fed-clause-plans : goal.returns-else-fed-clause-plans
 returns-else-fed-clause-plans g c = λ rows text piece gave on.
@@ -101,8 +101,8 @@ returns-else-fed-clause-plans g c = λ rows text piece gave on.
     rw c.turn_behind-in-Ok.ensures
     (subst (λ (q : List ℕ). TurnPlans rows recv.ask c.feed.new.pool.kept c.feed.new.self (text ++ q) (turn_behind p.result.end)) (sym one)
     (turn_plans rows recv.ask c.feed.new.pool.kept c.feed.new.self (text ++ given) p.result.end
-    (goes_plans c.fronts_agree.ensures rows kept c.feed.new.pool.kept recv c.feed.new.self text given (Ok c.in-Ok.fed) on e.receive.ask t.planned c.in-Ok.fed refl
-    (t.stands (e.receive.live ∙ ap not c.if-fed.false)) e.kept.waits e.receive.waited t.uncovered t.still)))
+    (goes_plans c.fronts_agree.ensures rows kept c.feed.new.pool.kept recv c.feed.new.self text given (Ok c.in-Ok.fed) on e.leaves.receive.ask t.planned c.in-Ok.fed refl
+    (t.stands (e.leaves.receive.live ∙ ap not c.if-fed.false)) e.leaves.kept.waits e.leaves.receive.waited t.uncovered t.still)))
 
 pub returns-in-Err-clause-plans : goal.returns-in-Err-clause-plans
 returns-in-Err-clause-plans g c = λ rows text piece gave on.
@@ -117,7 +117,7 @@ returns-in-Err-clause-plans g c = λ rows text piece gave on.
     let t = e.texts c.requires.can_feed.works text on.fed.0 on.fed.1 in
     rw c.from.ensures
     (subst (λ (q : List ℕ). TurnPlans rows recv.ask c.feed.new.pool.kept c.feed.new.self (text ++ q) (turns.Refused (recv_refusal c.in-Err.fault))) (sym one)
-    (refused_plans c.fronts_agree.ensures rows kept c.feed.new.pool.kept recv c.feed.new.self text given (Err c.in-Err.fault) on e.receive.ask t.planned c.in-Err.fault refl t.because))
+    (refused_plans c.fronts_agree.ensures rows kept c.feed.new.pool.kept recv c.feed.new.self text given (Err c.in-Err.fault) on e.leaves.receive.ask t.planned c.in-Err.fault refl t.because))
 
 pub returns-then-piece-eq0-clause-leaves : goal.returns-then-piece-eq0-clause-leaves
 returns-then-piece-eq0-clause-leaves g c =
@@ -138,7 +138,7 @@ returns-then-piece-eq0-clause-leaves g c =
 
 pub returns-then-fed-clause-leaves : goal.returns-then-fed-clause-leaves
 returns-then-fed-clause-leaves g c =
-    let e = c.in-Ok.ensures in record { ends = e.receive.received c.if-fed.true; within = e.receive.within; ask = e.receive.ask; fits = e.receive.fits; ready = e.pool.ready; told = λ whole. e.pool.told refl }
+    let e = c.in-Ok.ensures in record { ends = e.leaves.receive.received c.if-fed.true; within = e.leaves.receive.within; ask = e.leaves.receive.ask; fits = e.leaves.receive.fits; ready = e.leaves.pool.ready; told = λ whole. e.leaves.pool.told refl }
 
 pub returns-else-fed-clause-leaves : goal.returns-else-fed-clause-leaves
 returns-else-fed-clause-leaves g c =
@@ -149,13 +149,13 @@ returns-else-fed-clause-leaves g c =
       ends =
           rw c.turn_behind-in-Ok.ensures
           (lives_on (g.D.Disk.state c.args.pool.now.io.disk.now) (g.D.Disk.state c.feed.new.pool.io.disk.now) c.args.recv.now c.feed.new.self c.feed.new.pool.io.failed (g.S.Source.state c.args.input.now)
-          (g.S.Source.state p.new.input) p.new.room p.result.count p.result.end p.ensures.within (p.ensures.room ∙ c.requires.room) p.ensures.fills (e.receive.live ∙ goes)
-          (e.pool.failed ∙ ap (λ (b : Bool). b || false) c.requires.can_feed.works) (e.receive.fed goes));
-      within = e.receive.within;
-      ask = e.receive.ask;
-      fits = e.receive.fits;
-      ready = e.pool.ready;
-      told = λ whole. e.pool.told refl;
+          (g.S.Source.state p.new.input) p.new.room p.result.count p.result.end p.ensures.within (p.ensures.room ∙ c.requires.room) p.ensures.fills (e.leaves.receive.live ∙ goes)
+          (e.leaves.pool.failed ∙ ap (λ (b : Bool). b || false) c.requires.can_feed.works) (e.leaves.receive.fed goes));
+      within = e.leaves.receive.within;
+      ask = e.leaves.receive.ask;
+      fits = e.leaves.receive.fits;
+      ready = e.leaves.pool.ready;
+      told = λ whole. e.leaves.pool.told refl;
     }
 
 pub returns-in-Err-clause-leaves : goal.returns-in-Err-clause-leaves
@@ -166,26 +166,26 @@ returns-in-Err-clause-leaves g c =
     record {
       ends =
           rw c.from.ensures
-          (feed_refused (g.D.Disk.state c.args.pool.now.io.disk.now) (g.D.Disk.state c.feed.new.pool.io.disk.now) c.in-Err.fault (e.pool.known can.works) e.pool.cause
+          (feed_refused (g.D.Disk.state c.args.pool.now.io.disk.now) (g.D.Disk.state c.feed.new.pool.io.disk.now) c.in-Err.fault (e.leaves.pool.known can.works) e.leaves.pool.cause
           (λ need largest is. ((e.costs has.text has.handed has.stands).short need largest (ap (λ (f : RecvFault). Err f) is)).shorter));
-      within = e.receive.within;
-      ask = e.receive.ask;
-      fits = e.receive.fits;
-      ready = e.pool.ready;
-      told = λ whole. e.pool.told (damage_refused c.in-Err.fault (ap is_damaged (sym c.from.ensures) ∙ whole));
+      within = e.leaves.receive.within;
+      ask = e.leaves.receive.ask;
+      fits = e.leaves.receive.fits;
+      ready = e.leaves.pool.ready;
+      told = λ whole. e.leaves.pool.told (damage_refused c.in-Err.fault (ap is_damaged (sym c.from.ensures) ∙ whole));
     }
 
 pub returns-then-piece-eq0-clause-later : goal.returns-then-piece-eq0-clause-later
 returns-then-piece-eq0-clause-later g c = later_none _
 
 pub returns-then-fed-clause-later : goal.returns-then-fed-clause-later
-returns-then-fed-clause-later g c = let e = c.in-Ok.ensures.pool in record { faults = e.cause.later; honest = e.honest; same = e.same }
+returns-then-fed-clause-later g c = let e = c.in-Ok.ensures.leaves.pool in record { faults = e.cause.later; honest = e.honest; same = e.same }
 
 pub returns-else-fed-clause-later : goal.returns-else-fed-clause-later
-returns-else-fed-clause-later g c = let e = c.in-Ok.ensures.pool in record { faults = e.cause.later; honest = e.honest; same = e.same }
+returns-else-fed-clause-later g c = let e = c.in-Ok.ensures.leaves.pool in record { faults = e.cause.later; honest = e.honest; same = e.same }
 
 pub returns-in-Err-clause-later : goal.returns-in-Err-clause-later
-returns-in-Err-clause-later g c = let e = c.in-Err.ensures.pool in record { faults = e.cause.later; honest = e.honest; same = e.same }
+returns-in-Err-clause-later g c = let e = c.in-Err.ensures.leaves.pool in record { faults = e.cause.later; honest = e.honest; same = e.same }
 
 pub returns-then-piece-eq0-clause-blocks : goal.returns-then-piece-eq0-clause-blocks
 returns-then-piece-eq0-clause-blocks g c =
@@ -196,19 +196,19 @@ returns-then-fed-clause-blocks g c =
     let e = c.in-Ok.ensures in
     record {
       blocks = λ more. absurd (cc more);
-      stood = λ apart. e.pool.stood (λ is. absurd (cc is));
-      size = e.pool.size;
-      waits = λ waits. (e.kept.waits waits, e.receive.waited waits);
+      stood = λ apart. e.leaves.pool.stood (λ is. absurd (cc is));
+      size = e.leaves.pool.size;
+      waits = λ waits. (e.leaves.kept.waits waits, e.leaves.receive.waited waits);
     }
 
 pub returns-else-fed-clause-blocks : goal.returns-else-fed-clause-blocks
 returns-else-fed-clause-blocks g c =
     let e = c.in-Ok.ensures in
     record {
-      blocks = λ more. e.pool.blocks (λ is. absurd (cc is));
-      stood = λ apart. e.pool.stood (λ is. absurd (cc is));
-      size = e.pool.size;
-      waits = λ waits. (e.kept.waits waits, e.receive.waited waits);
+      blocks = λ more. e.leaves.pool.blocks (λ is. absurd (cc is));
+      stood = λ apart. e.leaves.pool.stood (λ is. absurd (cc is));
+      size = e.leaves.pool.size;
+      waits = λ waits. (e.leaves.kept.waits waits, e.leaves.receive.waited waits);
     }
 
 pub returns-in-Err-clause-blocks : goal.returns-in-Err-clause-blocks
@@ -216,9 +216,9 @@ returns-in-Err-clause-blocks g c =
     let e = c.in-Err.ensures in
     record {
       blocks = λ more. absurd (cc more);
-      stood = λ apart. e.pool.stood (λ is. apart (ap (λ (r : Refusal). turns.Refused r) (c.from.ensures ∙ disk_refused c.in-Err.fault is)));
-      size = e.pool.size;
-      waits = λ waits. (e.kept.waits waits, e.receive.waited waits);
+      stood = λ apart. e.leaves.pool.stood (λ is. apart (ap (λ (r : Refusal). turns.Refused r) (c.from.ensures ∙ disk_refused c.in-Err.fault is)));
+      size = e.leaves.pool.size;
+      waits = λ waits. (e.leaves.kept.waits waits, e.leaves.receive.waited waits);
     }
 
 -- ---- what it makes of the set

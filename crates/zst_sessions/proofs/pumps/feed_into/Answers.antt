@@ -31,8 +31,8 @@ no_fault result works is = let lost : fails (stop_of result) ≡ true = ap (λ (
 
 pub returns-clause-fed : goal.returns-clause-fed
 returns-clause-fed g c =
-    let pool = c.feed-fed.ensures.pool in
-    let rows = c.feed-fed.ensures.rows in
+    let pool = c.feed-fed.ensures.leaves.pool in
+    let rows = c.feed-fed.ensures.leaves.rows in
     let old = g.D.Disk.state c.args.pool.now.io.disk.now in
     let result = c.feed-fed.result in
     record {
@@ -41,7 +41,7 @@ returns-clause-fed g c =
           (tells_before c.args.recv.now.ask stage c.args.pool.now.kept.dir running
           (c.tight_sets_tell_dates.ensures running.number old.seen (free_by c.args.pool.now.kept.body) c.args.pool.now.kept.dir running rests.runs_by)) receives;
       long = λ works more.
-          let is = c.feed-fed.ensures.long works more in
+          let is = c.feed-fed.ensures.leaves.long works more in
           (is.refused, subst (λ (d : g.row.D.Denot). Leaves old (g.D.Disk.state d) (λ bytes. ⊥)) (sym is.idle) (Leaves-none old (λ bytes. ⊥)));
       failed = pool.failed;
       cause = pool.cause;
@@ -55,5 +55,5 @@ returns-clause-fed g c =
         rows = rows.others;
       };
       own = λ on row. rows.own row on;
-      receive = c.feed-fed.ensures.receive;
+      receive = c.feed-fed.ensures.leaves.receive;
     }

@@ -1,6 +1,6 @@
 mod Pieces
 use Rattle.std.proofs.Common.{◌≡◌, ◌≢◌, ◌&&◌, ◌++◌, ◌||◌, Bool, true, false, cond, Some, None, Ok, Err, refl, sym, ap, ◌∙◌, subst, arith, ◌⊎◌}
-use Rattle.std.specs.Prelude.{◌+◌, ◌-◌, ◌≤◌, ℕ, IfSome, IsSome, List, [], Result, find, length, not, sum_by}
+use Rattle.std.specs.Prelude.{◌+◌, ◌-◌, ◌<◌, ◌≤◌, ℕ, IfSome, IsSome, List, [], Result, find, length, not, sum_by}
 use Rattle.std.proofs.lemmas.List.{length-append}
 use Rattle.std.proofs.lemmas.Bool.{false_from_ne_true, not-true, not-false}
 use Rattle.zst_space.specs.FreeSectors.{FreeSectors}
@@ -33,7 +33,7 @@ use Rattle.zst_recv.specs.Feeds.{new_records}
 use Rattle.zst_recv.specs.GoingOn.{IsRow}
 use Rattle.zst_recv.specs.Commits.{Puts}
 use Rattle.zst_recv.specs.Damage.{ComesFrom, MakesStage}
-use Rattle.zst_recv.specs.Stages.{HasRead, IsBatch, IsStage, Receives, StageFits, TellsBefore, has_partial, is_live, kept_without, received_at, waits_at}
+use Rattle.zst_recv.specs.Stages.{HasRead, IsBatch, IsStage, Receives, StageFits, TellsBefore, fed_of, has_partial, is_live, kept_without, received_at, waits_at}
 use Rattle.zst_recv.specs.TakenRecords.{Reads, TakesAll, fault_in, taken_of}
 use Rattle.zst_recv.specs.declared.batch.Batch as batches
 use Rattle.zst_recv.specs.declared.recv.FeedReport as coded_recv
@@ -280,6 +280,12 @@ short_by g c text handed need largest after last stands full same =
     subst (λ (s : FreeSectors). PieceIsShort records kept s need largest) (sym same)
     (short_put records kept c.read.new.io.space after (stop_of c.read.result) need largest spends (subst (λ (k : PoolState). IsCallFull c.read.new.io.space after k.dir need largest) c.renew.ensures.kept full))
 
+-- a piece that is read makes the stream no longer than one may be
+not_long : (g : Over) (c : After-read g) → stream_limit < fed_of c.args.self.now + length c.args.piece.now → ⊥
+not_long g c more =
+    let within = fits_within c.args.pool.now.kept.dir c.args.self.now c.requires.recv in
+    omega (arith, c.if-piece-started.false, c.pushed-started.ensures, within, more)
+
 -- where BEGIN is covered, and its plan refuses the pool, that is what the reading answers, and the batch still waits
 planned_so : (g : Over) (c : After-read g) (text : List ℕ) (handed : List Covered) (fault : PlanFault) → StandsFor c.args.self.now.reader text handed → waits_at c.args.self.now.stage ≡ true → (reading text).covered ≡ []
     → length (text ++ c.args.piece.now) ≤ stream_limit → RefusesOne c.args.pool.now.kept.dir c.args.self.now.ask (text ++ c.args.piece.now) fault
@@ -296,15 +302,6 @@ returns-then-pool-clause-texts g c = λ alive. absurd (let both : true ≡ false
 
 pub returns-then-pool-clause-costs : goal.returns-then-pool-clause-costs
 returns-then-pool-clause-costs g c = λ text handed stands. record { short = λ need largest is. absurd (cc is); grows = tt }
-
-pub returns-then-pool-clause-pool : goal.returns-then-pool-clause-pool
-returns-then-pool-clause-pool g c = leaves_failed c.args.pool.now c.if-pool.true
-
-pub returns-then-pool-clause-receive : goal.returns-then-pool-clause-receive
-returns-then-pool-clause-receive g c =
-    let recv = c.args.self.now in
-    let after : Recv = record recv { stage = stages.Over } in
-    receive_over c.args.pool.now.kept.dir c.args.piece.now recv after (faults.Pool pools.Failed) refl refl (over_fits _ after recv.reader refl refl (over_reads _ recv.stage c.requires.recv.reads))
 
 -- ---- the stream would be too long
 
@@ -326,22 +323,6 @@ pub returns-then-piece-started-clause-costs : goal.returns-then-piece-started-cl
 returns-then-piece-started-clause-costs g c = λ text handed stands.
     let told = c.give_up.ensures.fault ∙ c.too_long.ensures in
     record { short = λ need largest is. absurd (cc (told, is)); grows = tt }
-
-pub returns-then-piece-started-clause-pool : goal.returns-then-piece-started-clause-pool
-returns-then-piece-started-clause-pool g c =
-    let gave = c.give_up in
-    let pool = c.args.pool.now in
-    let fault = faults.Pool (pools.Plan (plans.Limit quantities.Stream stream_limit)) in
-    let last = c.give_up.ensures.io in
-    subst (λ (f : RecvFault). LeavesPool pool gave.new.pool (Err f)) (sym (gave.ensures.fault ∙ c.too_long.ensures))
-    (leaves_body pool gave.new.pool c.if-pool.false fault pool.io last tt gave.ensures.body
-    (λ alive. subst (Ready (g.D.Disk.state pool.io.disk.now)) (sym gave.ensures.body) (c.requires.ready c.if-pool.false)) (λ whole. refl) c.if-pool.false (record { later = omega arith; fault = λ is. absurd (cc is) }) (λ told. told) refl (λ apart ptr bytes has. has) refl)
-
-pub returns-then-piece-started-clause-receive : goal.returns-then-piece-started-clause-receive
-returns-then-piece-started-clause-receive g c =
-    let gave = c.give_up in
-    let recv = c.args.self.now in
-    receive_over gave.new.pool.kept.dir c.args.piece.now recv gave.new.self gave.result gave.ensures.ask gave.ensures.over (over_fits _ gave.new.self recv.reader gave.ensures.over gave.ensures.reader (over_reads _ recv.stage c.requires.recv.reads))
 
 -- ---- the piece wasn't read, and no record of it stays
 
@@ -380,25 +361,6 @@ returns-in-Err-2-clause-costs g c = λ text handed stands.
       grows = tt;
     }
 
-pub returns-in-Err-2-clause-pool : goal.returns-in-Err-2-clause-pool
-returns-in-Err-2-clause-pool g c =
-    let at = (goal.at.returns-in-Err-2-clause-pool g c).After-read in
-    let gave = c.give_up-in-Err-2 in
-    let pool = c.args.pool.now in
-    let fault = c.in-Err.fault in
-    let stop = ap (λ (r : Result (Unit {0}) RecvFault). stop_of r) c.in-Err.is in
-    let can = can_commit g at in
-    subst (λ (f : RecvFault). LeavesPool pool gave.new.pool (Err f)) (sym gave.ensures.fault)
-    (leaves_body pool gave.new.pool c.if-pool.false fault c.read.new.io gave.ensures.io c.in-Err.ensures.writes.known (gave.ensures.body ∙ ap (λ (k : PoolState). k.body) c.renew.ensures.kept)
-    (λ alive. subst (Ready (g.D.Disk.state c.read.new.io.disk.now)) (sym gave.ensures.body) can.ready) (λ whole. read_told g at (ap is_damage stop ∙ whole)) (read_failed g at ∙ ap fails stop)
-    (subst (HasCause (g.D.Disk.state pool.io.disk.now).faults (g.D.Disk.state c.read.new.io.disk.now).faults) stop (read_cause g at)) (read_honest g at) (read_same g at)
-    (λ apart. let fills = read_fills g at in keeps_spared (free_by pool.kept.body) (g.D.Disk.state pool.io.disk.now).seen (g.D.Disk.state c.read.new.io.disk.now).seen fills.seen) (let fills = read_fills g at in fills.size))
-
-pub returns-in-Err-2-clause-receive : goal.returns-in-Err-2-clause-receive
-returns-in-Err-2-clause-receive g c =
-    let gave = c.give_up-in-Err-2 in
-    receive_over gave.new.pool.kept.dir c.args.piece.now c.args.self.now gave.new.self gave.result gave.ensures.ask gave.ensures.over (over_fits _ gave.new.self c.read.new.reader gave.ensures.over gave.ensures.reader c.read.ensures.takes.reads)
-
 -- ---- its commit was refused
 
 pub returns-in-Err-put-clause-texts : goal.returns-in-Err-put-clause-texts
@@ -426,26 +388,6 @@ returns-in-Err-put-clause-costs g c = λ text handed stands.
           short_by g (goal.at.returns-in-Err-put-clause-costs g c).After-read text handed need largest c.put.new.pool.io.space gave.new.pool.io.space stands (c.in-Err-put.ensures.commits.short need largest full) (ap (λ (io : _). io.space) gave.ensures.io);
       grows = tt;
     }
-
-pub returns-in-Err-put-clause-pool : goal.returns-in-Err-put-clause-pool
-returns-in-Err-put-clause-pool g c =
-    let at = (goal.at.returns-in-Err-put-clause-pool g c).After-read in
-    let gave = c.give_up-in-Err-put in
-    let pool = c.args.pool.now in
-    let put = c.put.new.pool in
-    let fault = c.in-Err-put.fault in
-    let e = c.in-Err-put.ensures.commits in
-    let read = read_cause g at in
-    subst (λ (f : RecvFault). LeavesPool pool gave.new.pool (Err f)) (sym gave.ensures.fault)
-    (leaves_body pool gave.new.pool c.if-pool.false (faults.Pool fault) put.io gave.ensures.io (known_call fault e.known) (gave.ensures.body ∙ ap (λ (k : PoolState). k.body) (e.stays ∙ c.renew.ensures.kept))
-    (λ alive. subst (Ready (g.D.Disk.state put.io.disk.now)) (sym gave.ensures.body) (e.ready alive)) (λ whole. e.told (damage_put fault whole) ∙ read_told g at (ap (λ (r : Result (Unit {0}) RecvFault). is_damage (stop_of r)) c.in-Ok.is)) (e.failed ∙ failed_put fault)
-    (cause_put fault (g.D.Disk.state pool.io.disk.now).faults (g.D.Disk.state c.read.new.io.disk.now).faults (g.D.Disk.state put.io.disk.now).faults read.later e.cause) (λ told. read_honest g at (e.honest told)) (e.same ∙ read_same g at)
-    (λ apart. read_stood g at (g.D.Disk.state put.io.disk.now) (e.stood (λ told. apart (ap (λ (f : PoolFault). faults.Pool f) (put_told fault pools.DiskFault told))))) (let fills = read_fills g at in e.size ∙ fills.size))
-
-pub returns-in-Err-put-clause-receive : goal.returns-in-Err-put-clause-receive
-returns-in-Err-put-clause-receive g c =
-    let gave = c.give_up-in-Err-put in
-    receive_over gave.new.pool.kept.dir c.args.piece.now c.args.self.now gave.new.self gave.result gave.ensures.ask gave.ensures.over (over_fits _ gave.new.self c.read.new.reader gave.ensures.over gave.ensures.reader c.read.ensures.takes.reads)
 
 -- ---- the commit of the records before a fault was refused
 
@@ -475,27 +417,6 @@ returns-in-Err-put-2-clause-costs g c = λ text handed stands.
       grows = tt;
     }
 
-pub returns-in-Err-put-2-clause-pool : goal.returns-in-Err-put-2-clause-pool
-returns-in-Err-put-2-clause-pool g c =
-    let at = (goal.at.returns-in-Err-put-2-clause-pool g c).After-read in
-    let gave = c.give_up-in-Err-put-2 in
-    let pool = c.args.pool.now in
-    let put = c.put-in-Err.new.pool in
-    let fault = c.in-Err-put-2.other in
-    let e = c.in-Err-put-2.ensures.commits in
-    let read = read_cause g at in
-    let none = kept_none c.in-Err.fault (sym c.keeps_before.ensures ∙ c.if-keeps_before.true) in
-    subst (λ (f : RecvFault). LeavesPool pool gave.new.pool (Err f)) (sym gave.ensures.fault)
-    (leaves_body pool gave.new.pool c.if-pool.false (faults.Pool fault) put.io gave.ensures.io (known_call fault e.known) (gave.ensures.body ∙ ap (λ (k : PoolState). k.body) (e.stays ∙ c.renew.ensures.kept))
-    (λ alive. subst (Ready (g.D.Disk.state put.io.disk.now)) (sym gave.ensures.body) (e.ready alive)) (λ whole. e.told (damage_put fault whole) ∙ read_told g at (ap (λ (r : Result (Unit {0}) RecvFault). is_damage (stop_of r)) c.in-Err.is ∙ ap is_damage none)) (e.failed ∙ failed_put fault)
-    (cause_put fault (g.D.Disk.state pool.io.disk.now).faults (g.D.Disk.state c.read.new.io.disk.now).faults (g.D.Disk.state put.io.disk.now).faults read.later e.cause) (λ told. read_honest g at (e.honest told)) (e.same ∙ read_same g at)
-    (λ apart. read_stood g at (g.D.Disk.state put.io.disk.now) (e.stood (λ told. apart (ap (λ (f : PoolFault). faults.Pool f) (put_told fault pools.DiskFault told))))) (let fills = read_fills g at in e.size ∙ fills.size))
-
-pub returns-in-Err-put-2-clause-receive : goal.returns-in-Err-put-2-clause-receive
-returns-in-Err-put-2-clause-receive g c =
-    let gave = c.give_up-in-Err-put-2 in
-    receive_over gave.new.pool.kept.dir c.args.piece.now c.args.self.now gave.new.self gave.result gave.ensures.ask gave.ensures.over (over_fits _ gave.new.self c.read.new.reader gave.ensures.over gave.ensures.reader c.read.ensures.takes.reads)
-
 -- ---- the records before a fault were committed
 
 pub returns-in-Ok-put-2-clause-texts : goal.returns-in-Ok-put-2-clause-texts
@@ -523,29 +444,6 @@ returns-in-Ok-put-2-clause-costs g c = λ text handed stands.
       short = λ need largest is. absurd (full_keeps_none c.in-Err.fault need largest (sym c.keeps_before.ensures ∙ c.if-keeps_before.true) (err_told coded_recv.FeedReport c.in-Err.fault _ is));
       grows = tt;
     }
-
-pub returns-in-Ok-put-2-clause-pool : goal.returns-in-Ok-put-2-clause-pool
-returns-in-Ok-put-2-clause-pool g c =
-    let at = (goal.at.returns-in-Ok-put-2-clause-pool g c).After-read in
-    let pool = c.args.pool.now in
-    let put = c.put-in-Err.new.pool in
-    let fault = c.in-Err.fault in
-    let e = c.in-Ok-put-2.ensures.commits in
-    let keeps = sym c.keeps_before.ensures ∙ c.if-keeps_before.true in
-    let none = kept_none fault keeps in
-    let read = read_cause g at in
-    leaves_refused pool put c.if-pool.false fault put.io refl c.in-Err.ensures.writes.known (λ none. absurd (let both : true ≡ false = sym keeps ∙ none in cc both))
-    e.ready (λ whole. e.told refl ∙ read_told g at (ap (λ (r : Result (Unit {0}) RecvFault). is_damage (stop_of r)) c.in-Err.is ∙ whole)) (e.failed ∙ ap fails (sym none))
-    (subst (HasCause (g.D.Disk.state pool.io.disk.now).faults (g.D.Disk.state put.io.disk.now).faults) (sym none)
-    (cause_none (g.D.Disk.state pool.io.disk.now).faults (g.D.Disk.state c.read.new.io.disk.now).faults (g.D.Disk.state put.io.disk.now).faults _ read.later e.cause)) (λ told. read_honest g at (e.honest told)) (e.same ∙ read_same g at)
-    (λ apart. put_blocks g at put.io.disk.now put.kept c.put-in-Err.ensures.idle (λ taken. (c.in-Ok-put-2.ensures.free taken (taken_begun g at taken)).1))
-    (λ apart. read_stood g at (g.D.Disk.state put.io.disk.now) (e.stood (λ told. absurd (cc told)))) (let fills = read_fills g at in e.size ∙ fills.size)
-
-pub returns-in-Ok-put-2-clause-receive : goal.returns-in-Ok-put-2-clause-receive
-returns-in-Ok-put-2-clause-receive g c =
-    let recv = c.args.self.now in
-    let after : Recv = record recv { reader = c.read.new.reader; stage = c.replace.new.dest } in
-    receive_over c.put-in-Err.new.pool.kept.dir c.args.piece.now recv after c.in-Err.fault refl c.replace.ensures.after (over_fits _ after c.read.new.reader c.replace.ensures.after refl c.read.ensures.takes.reads)
 
 -- ---- all of it was taken and committed
 
@@ -579,21 +477,6 @@ returns-in-Ok-put-clause-costs g c = λ text handed stands.
           piece_grows records c.args.pool.now.kept c.put.new.pool.kept c.read.new.io.space spends.takes c.read.new.io.fits.extents.end
           (subst (λ (k : PoolState). (c.put.new.pool.kept ≡ k) ⊎ CallGrows c.read.new.io.space k c.put.new.pool.kept) c.renew.ensures.kept c.in-Ok-put.ensures.commits.grows);
     }
-
-pub returns-in-Ok-put-clause-pool : goal.returns-in-Ok-put-clause-pool
-returns-in-Ok-put-clause-pool g c =
-    let at = (goal.at.returns-in-Ok-put-clause-pool g c).After-read in
-    let pool = c.args.pool.now in
-    let put = c.put.new.pool in
-    let e = c.in-Ok-put.ensures.commits in
-    let read = read_cause g at in
-    let fills = read_fills g at in
-    let three = g.D.Disk.state put.io.disk.now in
-    leaves_fed pool put c.if-pool.false c.go_on.result
-    (put_blocks g at put.io.disk.now put.kept c.put.ensures.idle (λ taken. (c.in-Ok-put.ensures.free taken (taken_begun g at taken)).1))
-    e.ready (e.told refl ∙ read_told g at (ap (λ (r : Result (Unit {0}) RecvFault). is_damage (stop_of r)) c.in-Ok.is)) e.failed
-    (cause_none (g.D.Disk.state pool.io.disk.now).faults (g.D.Disk.state c.read.new.io.disk.now).faults three.faults _ read.later e.cause) (λ told. read_honest g at (e.honest told)) (e.same ∙ read_same g at)
-    (read_stood g at three (e.stood (λ told. absurd (cc told)))) (e.size ∙ fills.size)
 
 pub returns-in-Ok-put-clause-traces : goal.returns-in-Ok-put-clause-traces
 returns-in-Ok-put-clause-traces g c = λ text handed stands honest. record {
@@ -654,132 +537,223 @@ returns-in-Ok-put-2-clause-traces g c = λ text handed stands honest. record {
   makes = λ goes. absurd (cc goes);
 }
 
-pub returns-in-Ok-put-clause-receive : goal.returns-in-Ok-put-clause-receive
-returns-in-Ok-put-clause-receive g c =
-    let target = c.args.self.now.ask.target in
-    let batch = c.read.new.batch in
-    let after = c.go_on.new.self in
-    let fits =
-    behind_fits c.put.new.pool.kept.dir after c.read.new.reader target batch.stage (ap (λ (a : RecvAsk). a.target) c.go_on.ensures.ask) c.go_on.ensures.stage c.go_on.ensures.reader
-    (c.in-Ok-put.ensures.fits target (read_fits g (goal.at.returns-in-Ok-put-clause-receive g c).After-read)) c.in-Ok.ensures.takes.behind in
+-- ---- what it leaves, at each of its ends
+
+pub returns-then-pool-clause-leaves : goal.returns-then-pool-clause-leaves
+returns-then-pool-clause-leaves g c =
+    let recv = c.args.self.now in
+    let after : Recv = record recv { stage = stages.Over } in
     record {
-      ask = c.go_on.ensures.ask;
-      live = ap is_live c.go_on.ensures.stage ∙ live_behind batch.stage c.go_on.result.done c.go_on.ensures.done;
-      fits = fits;
-      fed = λ goes.
-          let live : is_live batch.stage ≡ true = not-false (is_live batch.stage) (sym c.go_on.ensures.done ∙ not-true c.go_on.result.done goes) in
-          ap pushed_of c.go_on.ensures.reader ∙ c.in-Ok.ensures.takes.all live;
-      within = fits_within _ after fits;
-      received = λ done.
-          let over : is_live batch.stage ≡ false = not-true (is_live batch.stage) (sym c.go_on.ensures.done ∙ done) in
-          subst (λ (s : coded.Stage). IsSome (received_at s)) (sym c.go_on.ensures.stage) (received_then c.renew.new.self.kept.dir target batch.stage (read_fits g (goal.at.returns-in-Ok-put-clause-receive g c).After-read) over);
-      of_target = λ done.
-          subst (λ (s : coded.Stage). IfSome (received_at s) (λ made. made.target ≡ target)) (sym c.go_on.ensures.stage)
-          (received_for c.renew.new.self.kept.dir target batch.stage (read_fits g (goal.at.returns-in-Ok-put-clause-receive g c).After-read));
-      waited = λ waits.
-          let still = waits_behind batch.stage (ap waits_at (sym c.go_on.ensures.stage) ∙ waits) in
-          ap waits_at (sym (ap (λ (b : batches.Batch). b.stage) (c.read.ensures.gathers.waits still) ∙ c.new-batch.ensures.stage ∙ c.replace.ensures.value)) ∙ still;
+      kept = record { waits = λ waits. refl; refused = λ alive keeps. absurd (let both : true ≡ false = sym c.if-pool.true ∙ alive in cc both) };
+      pool = leaves_failed c.args.pool.now c.if-pool.true;
+      long = λ alive more. absurd (let both : true ≡ false = sym c.if-pool.true ∙ alive in cc both);
+      rows = record { others = λ other apart. refl; own = λ stood goes. absurd (cc goes) };
+      receive = receive_over c.args.pool.now.kept.dir c.args.piece.now recv after (faults.Pool pools.Failed) refl refl (over_fits _ after recv.reader refl refl (over_reads _ recv.stage c.requires.recv.reads));
     }
 
--- ---- what a refusal leaves
-
-pub returns-then-pool-clause-kept : goal.returns-then-pool-clause-kept
-returns-then-pool-clause-kept g c =
-    record { waits = λ waits. refl; refused = λ alive keeps. absurd (let both : true ≡ false = sym c.if-pool.true ∙ alive in cc both) }
-
-pub returns-then-piece-started-clause-kept : goal.returns-then-piece-started-clause-kept
-returns-then-piece-started-clause-kept g c = record {
-  waits = λ waits. absurd (over_waits c.give_up.new.self.stage c.give_up.ensures.over waits);
-  refused = λ alive keeps.
-      left_kept g (goal.at.returns-then-piece-started-clause-kept g c).After-has_partial-held c.args.pool.now.kept c.give_up.new.pool.kept c.give_up.ensures.kept refl;
-}
-
-pub returns-in-Err-2-clause-kept : goal.returns-in-Err-2-clause-kept
-returns-in-Err-2-clause-kept g c = record {
-  waits = λ waits. absurd (over_waits c.give_up-in-Err-2.new.self.stage c.give_up-in-Err-2.ensures.over waits);
-  refused = λ alive keeps.
-      let gave = c.give_up-in-Err-2 in
-      left_kept g (goal.at.returns-in-Err-2-clause-kept g c).After-has_partial-held c.renew.new.self.kept gave.new.pool.kept gave.ensures.kept c.renew.ensures.kept;
-}
-
-pub returns-in-Err-put-clause-kept : goal.returns-in-Err-put-clause-kept
-returns-in-Err-put-clause-kept g c = record {
-  waits = λ waits. absurd (over_waits c.give_up-in-Err-put.new.self.stage c.give_up-in-Err-put.ensures.over waits);
-  refused = λ alive keeps.
-      let gave = c.give_up-in-Err-put in
-      left_kept g (goal.at.returns-in-Err-put-clause-kept g c).After-has_partial-held c.put.new.pool.kept gave.new.pool.kept gave.ensures.kept (c.in-Err-put.ensures.commits.stays ∙ c.renew.ensures.kept);
-}
-
-pub returns-in-Err-put-2-clause-kept : goal.returns-in-Err-put-2-clause-kept
-returns-in-Err-put-2-clause-kept g c = record {
-  waits = λ waits. absurd (over_waits c.give_up-in-Err-put-2.new.self.stage c.give_up-in-Err-put-2.ensures.over waits);
-  refused = λ alive keeps.
-      let gave = c.give_up-in-Err-put-2 in
-      left_kept g (goal.at.returns-in-Err-put-2-clause-kept g c).After-has_partial-held c.put-in-Err.new.pool.kept gave.new.pool.kept gave.ensures.kept (c.in-Err-put-2.ensures.commits.stays ∙ c.renew.ensures.kept);
-}
-
-pub returns-in-Ok-put-2-clause-kept : goal.returns-in-Ok-put-2-clause-kept
-returns-in-Ok-put-2-clause-kept g c = record {
-  waits = λ waits. absurd (over_waits _ c.replace.ensures.after waits);
-  refused = λ alive none.
-      absurd (let kept : keeps_before c.in-Err.fault ≡ true = sym c.keeps_before.ensures ∙ c.if-keeps_before.true in
-      let both : true ≡ false = sym kept ∙ none in cc both);
-}
-
-pub returns-in-Ok-put-clause-kept : goal.returns-in-Ok-put-clause-kept
-returns-in-Ok-put-clause-kept g c = record {
-  waits = λ waits.
-      let still = waits_behind c.read.new.batch.stage (ap waits_at (sym c.go_on.ensures.stage) ∙ waits) in
-      let none = still_idle c.read.new.batch c.new-batch.result c.read.ensures.gathers.waits c.new-batch.ensures.taken still in
-      (c.put.ensures.idle none).1 ∙ c.renew.ensures.kept;
-  refused = λ alive. tt;
-}
-
--- ---- the rows that it leaves
-
-pub returns-then-pool-clause-rows : goal.returns-then-pool-clause-rows
-returns-then-pool-clause-rows g c = record { others = λ other apart. refl; own = λ stood goes. absurd (cc goes) }
-
-pub returns-then-piece-started-clause-rows : goal.returns-then-piece-started-clause-rows
-returns-then-piece-started-clause-rows g c =
-    record { others = left_others g (goal.at.returns-then-piece-started-clause-rows g c).After-has_partial-held c.args.pool.now.kept c.give_up.new.pool.kept c.give_up.ensures.kept refl; own = λ stood goes. absurd (cc goes) }
-
-pub returns-in-Err-2-clause-rows : goal.returns-in-Err-2-clause-rows
-returns-in-Err-2-clause-rows g c =
-    let gave = c.give_up-in-Err-2 in
-    record { others = left_others g (goal.at.returns-in-Err-2-clause-rows g c).After-has_partial-held c.renew.new.self.kept gave.new.pool.kept gave.ensures.kept c.renew.ensures.kept; own = λ stood goes. absurd (cc goes) }
-
-pub returns-in-Err-put-clause-rows : goal.returns-in-Err-put-clause-rows
-returns-in-Err-put-clause-rows g c =
-    let gave = c.give_up-in-Err-put in
-    let stays = c.in-Err-put.ensures.commits.stays ∙ c.renew.ensures.kept in
-    record { others = left_others g (goal.at.returns-in-Err-put-clause-rows g c).After-has_partial-held c.put.new.pool.kept gave.new.pool.kept gave.ensures.kept stays; own = λ stood goes. absurd (cc goes) }
-
-pub returns-in-Err-put-2-clause-rows : goal.returns-in-Err-put-2-clause-rows
-returns-in-Err-put-2-clause-rows g c =
-    let gave = c.give_up-in-Err-put-2 in
-    let stays = c.in-Err-put-2.ensures.commits.stays ∙ c.renew.ensures.kept in
-    record { others = left_others g (goal.at.returns-in-Err-put-2-clause-rows g c).After-has_partial-held c.put-in-Err.new.pool.kept gave.new.pool.kept gave.ensures.kept stays; own = λ stood goes. absurd (cc goes) }
-
-pub returns-in-Ok-put-2-clause-rows : goal.returns-in-Ok-put-2-clause-rows
-returns-in-Ok-put-2-clause-rows g c =
-    let rows = c.in-Ok-put-2.ensures.rows c.args.self.now.ask.target (read_fits g (goal.at.returns-in-Ok-put-2-clause-rows g c).After-read) in
-    record { others = λ other apart. rows.others other apart ∙ ap (λ (k : PoolState). find (is_for other) k.dir.partials) c.renew.ensures.kept; own = λ stood goes. absurd (cc goes) }
-
-pub returns-in-Ok-put-clause-rows : goal.returns-in-Ok-put-clause-rows
-returns-in-Ok-put-clause-rows g c =
-    let at = (goal.at.returns-in-Ok-put-clause-rows g c).After-read in
-    let target = c.args.self.now.ask.target in
-    let batch = c.read.new.batch in
-    let next = c.put.new.pool.kept in
-    let rows = c.in-Ok-put.ensures.rows target (read_fits g at) in
+pub returns-then-piece-started-clause-leaves : goal.returns-then-piece-started-clause-leaves
+returns-then-piece-started-clause-leaves g c =
+    let at = goal.at.returns-then-piece-started-clause-leaves g c in
+    let gave = c.give_up in
+    let pool = c.args.pool.now in
+    let recv = c.args.self.now in
+    let fault = faults.Pool (pools.Plan (plans.Limit quantities.Stream stream_limit)) in
+    let told = gave.ensures.fault ∙ c.too_long.ensures in
     record {
-      others = λ other apart. rows.others other apart ∙ ap (λ (k : PoolState). find (is_for other) k.dir.partials) c.renew.ensures.kept;
-      own = λ stood goes.
-          subst (IsRow next.dir target) (sym c.go_on.ensures.stage)
-          (row_behind next.dir target batch.stage
-          (by_test batch.taken (IsRow next.dir target batch.stage) rows.own
-          (λ none.
-          let same : next ≡ c.args.pool.now.kept = (c.put.ensures.idle none).1 ∙ c.renew.ensures.kept in
-          subst (IsRow next.dir target) (sym (ap (λ (b : batches.Batch). b.stage) (c.read.ensures.gathers.idle none) ∙ began_at g at)) (subst (λ (k : PoolState). IsRow k.dir target c.args.self.now.stage) (sym same) stood))));
+      kept = record {
+        waits = λ waits. absurd (over_waits gave.new.self.stage gave.ensures.over waits);
+        refused = λ alive keeps. left_kept g at.After-has_partial-held pool.kept gave.new.pool.kept gave.ensures.kept refl;
+      };
+      pool =
+          subst (λ (f : RecvFault). LeavesPool pool gave.new.pool (Err f)) (sym told)
+          (leaves_body pool gave.new.pool c.if-pool.false fault pool.io gave.ensures.io tt gave.ensures.body
+          (λ alive. subst (Ready (g.D.Disk.state pool.io.disk.now)) (sym gave.ensures.body) (c.requires.ready c.if-pool.false)) (λ whole. refl) c.if-pool.false (record { later = omega arith; fault = λ is. absurd (cc is) }) (λ told. told) refl (λ apart ptr bytes has. has) refl);
+      long = λ alive more. record { refused = ap feed_answer told; idle = ap (λ (io : _). io.disk.now) gave.ensures.io };
+      rows = record { others = left_others g at.After-has_partial-held pool.kept gave.new.pool.kept gave.ensures.kept refl; own = λ stood goes. absurd (cc goes) };
+      receive =
+          receive_over gave.new.pool.kept.dir c.args.piece.now recv gave.new.self gave.result gave.ensures.ask gave.ensures.over
+          (over_fits _ gave.new.self recv.reader gave.ensures.over gave.ensures.reader (over_reads _ recv.stage c.requires.recv.reads));
+    }
+
+pub returns-in-Err-2-clause-leaves : goal.returns-in-Err-2-clause-leaves
+returns-in-Err-2-clause-leaves g c =
+    let at = goal.at.returns-in-Err-2-clause-leaves g c in
+    let read = at.After-read in
+    let gave = c.give_up-in-Err-2 in
+    let pool = c.args.pool.now in
+    let fault = c.in-Err.fault in
+    let stop = ap (λ (r : Result (Unit {0}) RecvFault). stop_of r) c.in-Err.is in
+    let can = can_commit g read in
+    let fills = read_fills g read in
+    record {
+      kept = record {
+        waits = λ waits. absurd (over_waits gave.new.self.stage gave.ensures.over waits);
+        refused = λ alive keeps. left_kept g at.After-has_partial-held c.renew.new.self.kept gave.new.pool.kept gave.ensures.kept c.renew.ensures.kept;
+      };
+      pool =
+          subst (λ (f : RecvFault). LeavesPool pool gave.new.pool (Err f)) (sym gave.ensures.fault)
+          (leaves_body pool gave.new.pool c.if-pool.false fault c.read.new.io gave.ensures.io c.in-Err.ensures.writes.known (gave.ensures.body ∙ ap (λ (k : PoolState). k.body) c.renew.ensures.kept)
+          (λ alive. subst (Ready (g.D.Disk.state c.read.new.io.disk.now)) (sym gave.ensures.body) can.ready) (λ whole. read_told g read (ap is_damage stop ∙ whole)) (read_failed g read ∙ ap fails stop)
+          (subst (HasCause (g.D.Disk.state pool.io.disk.now).faults (g.D.Disk.state c.read.new.io.disk.now).faults) stop (read_cause g read)) (read_honest g read) (read_same g read)
+          (λ apart. keeps_spared (free_by pool.kept.body) (g.D.Disk.state pool.io.disk.now).seen (g.D.Disk.state c.read.new.io.disk.now).seen fills.seen) fills.size);
+      long = λ alive more. absurd (not_long g read more);
+      rows = record { others = left_others g at.After-has_partial-held c.renew.new.self.kept gave.new.pool.kept gave.ensures.kept c.renew.ensures.kept; own = λ stood goes. absurd (cc goes) };
+      receive =
+          receive_over gave.new.pool.kept.dir c.args.piece.now c.args.self.now gave.new.self gave.result gave.ensures.ask gave.ensures.over
+          (over_fits _ gave.new.self c.read.new.reader gave.ensures.over gave.ensures.reader c.read.ensures.takes.reads);
+    }
+
+pub returns-in-Err-put-clause-leaves : goal.returns-in-Err-put-clause-leaves
+returns-in-Err-put-clause-leaves g c =
+    let at = goal.at.returns-in-Err-put-clause-leaves g c in
+    let read = at.After-read in
+    let gave = c.give_up-in-Err-put in
+    let pool = c.args.pool.now in
+    let put = c.put.new.pool in
+    let fault = c.in-Err-put.fault in
+    let e = c.in-Err-put.ensures.commits in
+    let why = read_cause g read in
+    let fills = read_fills g read in
+    let stays = e.stays ∙ c.renew.ensures.kept in
+    record {
+      kept = record {
+        waits = λ waits. absurd (over_waits gave.new.self.stage gave.ensures.over waits);
+        refused = λ alive keeps. left_kept g at.After-has_partial-held put.kept gave.new.pool.kept gave.ensures.kept stays;
+      };
+      pool =
+          subst (λ (f : RecvFault). LeavesPool pool gave.new.pool (Err f)) (sym gave.ensures.fault)
+          (leaves_body pool gave.new.pool c.if-pool.false (faults.Pool fault) put.io gave.ensures.io (known_call fault e.known) (gave.ensures.body ∙ ap (λ (k : PoolState). k.body) stays)
+          (λ alive. subst (Ready (g.D.Disk.state put.io.disk.now)) (sym gave.ensures.body) (e.ready alive))
+          (λ whole. e.told (damage_put fault whole) ∙ read_told g read (ap (λ (r : Result (Unit {0}) RecvFault). is_damage (stop_of r)) c.in-Ok.is)) (e.failed ∙ failed_put fault)
+          (cause_put fault (g.D.Disk.state pool.io.disk.now).faults (g.D.Disk.state c.read.new.io.disk.now).faults (g.D.Disk.state put.io.disk.now).faults why.later e.cause) (λ told. read_honest g read (e.honest told)) (e.same ∙ read_same g read)
+          (λ apart. read_stood g read (g.D.Disk.state put.io.disk.now) (e.stood (λ told. apart (ap (λ (f : PoolFault). faults.Pool f) (put_told fault pools.DiskFault told))))) (e.size ∙ fills.size));
+      long = λ alive more. absurd (not_long g read more);
+      rows = record { others = left_others g at.After-has_partial-held put.kept gave.new.pool.kept gave.ensures.kept stays; own = λ stood goes. absurd (cc goes) };
+      receive =
+          receive_over gave.new.pool.kept.dir c.args.piece.now c.args.self.now gave.new.self gave.result gave.ensures.ask gave.ensures.over
+          (over_fits _ gave.new.self c.read.new.reader gave.ensures.over gave.ensures.reader c.read.ensures.takes.reads);
+    }
+
+pub returns-in-Err-put-2-clause-leaves : goal.returns-in-Err-put-2-clause-leaves
+returns-in-Err-put-2-clause-leaves g c =
+    let at = goal.at.returns-in-Err-put-2-clause-leaves g c in
+    let read = at.After-read in
+    let gave = c.give_up-in-Err-put-2 in
+    let pool = c.args.pool.now in
+    let put = c.put-in-Err.new.pool in
+    let fault = c.in-Err-put-2.other in
+    let e = c.in-Err-put-2.ensures.commits in
+    let why = read_cause g read in
+    let fills = read_fills g read in
+    let none = kept_none c.in-Err.fault (sym c.keeps_before.ensures ∙ c.if-keeps_before.true) in
+    let stays = e.stays ∙ c.renew.ensures.kept in
+    record {
+      kept = record {
+        waits = λ waits. absurd (over_waits gave.new.self.stage gave.ensures.over waits);
+        refused = λ alive keeps. left_kept g at.After-has_partial-held put.kept gave.new.pool.kept gave.ensures.kept stays;
+      };
+      pool =
+          subst (λ (f : RecvFault). LeavesPool pool gave.new.pool (Err f)) (sym gave.ensures.fault)
+          (leaves_body pool gave.new.pool c.if-pool.false (faults.Pool fault) put.io gave.ensures.io (known_call fault e.known) (gave.ensures.body ∙ ap (λ (k : PoolState). k.body) stays)
+          (λ alive. subst (Ready (g.D.Disk.state put.io.disk.now)) (sym gave.ensures.body) (e.ready alive))
+          (λ whole. e.told (damage_put fault whole) ∙ read_told g read (ap (λ (r : Result (Unit {0}) RecvFault). is_damage (stop_of r)) c.in-Err.is ∙ ap is_damage none)) (e.failed ∙ failed_put fault)
+          (cause_put fault (g.D.Disk.state pool.io.disk.now).faults (g.D.Disk.state c.read.new.io.disk.now).faults (g.D.Disk.state put.io.disk.now).faults why.later e.cause) (λ told. read_honest g read (e.honest told)) (e.same ∙ read_same g read)
+          (λ apart. read_stood g read (g.D.Disk.state put.io.disk.now) (e.stood (λ told. apart (ap (λ (f : PoolFault). faults.Pool f) (put_told fault pools.DiskFault told))))) (e.size ∙ fills.size));
+      long = λ alive more. absurd (not_long g read more);
+      rows = record { others = left_others g at.After-has_partial-held put.kept gave.new.pool.kept gave.ensures.kept stays; own = λ stood goes. absurd (cc goes) };
+      receive =
+          receive_over gave.new.pool.kept.dir c.args.piece.now c.args.self.now gave.new.self gave.result gave.ensures.ask gave.ensures.over
+          (over_fits _ gave.new.self c.read.new.reader gave.ensures.over gave.ensures.reader c.read.ensures.takes.reads);
+    }
+
+pub returns-in-Ok-put-2-clause-leaves : goal.returns-in-Ok-put-2-clause-leaves
+returns-in-Ok-put-2-clause-leaves g c =
+    let at = goal.at.returns-in-Ok-put-2-clause-leaves g c in
+    let read = at.After-read in
+    let pool = c.args.pool.now in
+    let put = c.put-in-Err.new.pool in
+    let recv = c.args.self.now in
+    let after : Recv = record recv { reader = c.read.new.reader; stage = c.replace.new.dest } in
+    let fault = c.in-Err.fault in
+    let e = c.in-Ok-put-2.ensures.commits in
+    let keeps = sym c.keeps_before.ensures ∙ c.if-keeps_before.true in
+    let none = kept_none fault keeps in
+    let why = read_cause g read in
+    let fills = read_fills g read in
+    let rows = c.in-Ok-put-2.ensures.rows recv.ask.target (read_fits g read) in
+    record {
+      kept = record {
+        waits = λ waits. absurd (over_waits _ c.replace.ensures.after waits);
+        refused = λ alive lost. absurd (let both : true ≡ false = sym keeps ∙ lost in cc both);
+      };
+      pool =
+          leaves_refused pool put c.if-pool.false fault put.io refl c.in-Err.ensures.writes.known (λ lost. absurd (let both : true ≡ false = sym keeps ∙ lost in cc both))
+          e.ready (λ whole. e.told refl ∙ read_told g read (ap (λ (r : Result (Unit {0}) RecvFault). is_damage (stop_of r)) c.in-Err.is ∙ whole)) (e.failed ∙ ap fails (sym none))
+          (subst (HasCause (g.D.Disk.state pool.io.disk.now).faults (g.D.Disk.state put.io.disk.now).faults) (sym none)
+          (cause_none (g.D.Disk.state pool.io.disk.now).faults (g.D.Disk.state c.read.new.io.disk.now).faults (g.D.Disk.state put.io.disk.now).faults _ why.later e.cause)) (λ told. read_honest g read (e.honest told)) (e.same ∙ read_same g read)
+          (λ apart. put_blocks g read put.io.disk.now put.kept c.put-in-Err.ensures.idle (λ taken. (c.in-Ok-put-2.ensures.free taken (taken_begun g read taken)).1))
+          (λ apart. read_stood g read (g.D.Disk.state put.io.disk.now) (e.stood (λ told. absurd (cc told)))) (e.size ∙ fills.size);
+      long = λ alive more. absurd (not_long g read more);
+      rows = record { others = λ other apart. rows.others other apart ∙ ap (λ (k : PoolState). find (is_for other) k.dir.partials) c.renew.ensures.kept; own = λ stood goes. absurd (cc goes) };
+      receive = receive_over put.kept.dir c.args.piece.now recv after fault refl c.replace.ensures.after (over_fits _ after c.read.new.reader c.replace.ensures.after refl c.read.ensures.takes.reads);
+    }
+
+pub returns-in-Ok-put-clause-leaves : goal.returns-in-Ok-put-clause-leaves
+returns-in-Ok-put-clause-leaves g c =
+    let read = (goal.at.returns-in-Ok-put-clause-leaves g c).After-read in
+    let pool = c.args.pool.now in
+    let put = c.put.new.pool in
+    let recv = c.args.self.now in
+    let target = recv.ask.target in
+    let batch = c.read.new.batch in
+    let after = c.go_on.new.self in
+    let e = c.in-Ok-put.ensures.commits in
+    let why = read_cause g read in
+    let fills = read_fills g read in
+    let three = g.D.Disk.state put.io.disk.now in
+    let rows = c.in-Ok-put.ensures.rows target (read_fits g read) in
+    let still = λ (waits : waits_at after.stage ≡ true). waits_behind batch.stage (ap waits_at (sym c.go_on.ensures.stage) ∙ waits) in
+    let fits =
+    behind_fits put.kept.dir after c.read.new.reader target batch.stage (ap (λ (a : RecvAsk). a.target) c.go_on.ensures.ask) c.go_on.ensures.stage c.go_on.ensures.reader
+    (c.in-Ok-put.ensures.fits target (read_fits g read)) c.in-Ok.ensures.takes.behind in
+    record {
+      kept = record {
+        waits = λ waits.
+            let none = still_idle batch c.new-batch.result c.read.ensures.gathers.waits c.new-batch.ensures.taken (still waits) in
+            (c.put.ensures.idle none).1 ∙ c.renew.ensures.kept;
+        refused = λ alive. tt;
+      };
+      pool =
+          leaves_fed pool put c.if-pool.false c.go_on.result
+          (put_blocks g read put.io.disk.now put.kept c.put.ensures.idle (λ taken. (c.in-Ok-put.ensures.free taken (taken_begun g read taken)).1))
+          e.ready (e.told refl ∙ read_told g read (ap (λ (r : Result (Unit {0}) RecvFault). is_damage (stop_of r)) c.in-Ok.is)) e.failed
+          (cause_none (g.D.Disk.state pool.io.disk.now).faults (g.D.Disk.state c.read.new.io.disk.now).faults three.faults _ why.later e.cause) (λ told. read_honest g read (e.honest told)) (e.same ∙ read_same g read)
+          (read_stood g read three (e.stood (λ told. absurd (cc told)))) (e.size ∙ fills.size);
+      long = λ alive more. absurd (not_long g read more);
+      rows = record {
+        others = λ other apart. rows.others other apart ∙ ap (λ (k : PoolState). find (is_for other) k.dir.partials) c.renew.ensures.kept;
+        own = λ stood goes.
+            subst (IsRow put.kept.dir target) (sym c.go_on.ensures.stage)
+            (row_behind put.kept.dir target batch.stage
+            (by_test batch.taken (IsRow put.kept.dir target batch.stage) rows.own
+            (λ none.
+            let same : put.kept ≡ pool.kept = (c.put.ensures.idle none).1 ∙ c.renew.ensures.kept in
+            subst (IsRow put.kept.dir target) (sym (ap (λ (b : batches.Batch). b.stage) (c.read.ensures.gathers.idle none) ∙ began_at g read)) (subst (λ (k : PoolState). IsRow k.dir target recv.stage) (sym same) stood))));
+      };
+      receive = record {
+        ask = c.go_on.ensures.ask;
+        live = ap is_live c.go_on.ensures.stage ∙ live_behind batch.stage c.go_on.result.done c.go_on.ensures.done;
+        fits = fits;
+        fed = λ goes.
+            let live : is_live batch.stage ≡ true = not-false (is_live batch.stage) (sym c.go_on.ensures.done ∙ not-true c.go_on.result.done goes) in
+            ap pushed_of c.go_on.ensures.reader ∙ c.in-Ok.ensures.takes.all live;
+        within = fits_within _ after fits;
+        received = λ done.
+            let over : is_live batch.stage ≡ false = not-true (is_live batch.stage) (sym c.go_on.ensures.done ∙ done) in
+            subst (λ (s : coded.Stage). IsSome (received_at s)) (sym c.go_on.ensures.stage) (received_then c.renew.new.self.kept.dir target batch.stage (read_fits g read) over);
+        of_target = λ done.
+            subst (λ (s : coded.Stage). IfSome (received_at s) (λ made. made.target ≡ target)) (sym c.go_on.ensures.stage)
+            (received_for c.renew.new.self.kept.dir target batch.stage (read_fits g read));
+        waited = λ waits. ap waits_at (sym (ap (λ (b : batches.Batch). b.stage) (c.read.ensures.gathers.waits (still waits)) ∙ began_at g read)) ∙ still waits;
+      };
     }
