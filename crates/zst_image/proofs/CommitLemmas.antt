@@ -1,5 +1,5 @@
 -- How a commit follows on what was written before it, and what an image then reads as.
-use Rattle.std.specs.Prelude.{Result, Ok, Err, Option, IsTrue}
+use Rattle.std.specs.Prelude.{Result, Ok, Err, Option, Some, IsTrue}
 use Rattle.std.proofs.Common.{◌≡◌, ◌⊎◌, inl, inr, ⊎_elim, ℕ, ◌+◌, ◌≤◌, List, length, refl, sym, ◌∙◌, ap, subst, arith, Bool}
 use Rattle.zst_outside.specs.Images.{DiskState, Leaves, WritesIn, IsSynced, Leaves-weaker, Leaves-then}
 use Rattle.zst_outside.specs.Ranges.{Torn}
@@ -9,7 +9,9 @@ use Rattle.zst_block.specs.Blocks.{Has, IsTaken, FitsDisk, FillsFree, SparesTake
 use Rattle.zst_block.proofs.BlocksLaws.{Has-fewer, Has-spared, Has-label, SparesTaken-fewer, FillsFree-then, KeepsBlocks-fills}
 use Rattle.zst_block.specs.declared.ptr.Ptr.{Ptr}
 use Rattle.zst_block.specs.Ptr.{is_lawful, hole_of}
-use Rattle.zst_uber.specs.Body.{UberFits, InRange}
+use Rattle.zst_uber.proofs.BodyLaws.{uber_at-body_bytes}
+use Rattle.zst_uber.specs.Body.{UberFits, InRange, body_bytes, uber_at}
+use Rattle.zst_uber.specs.OpenAnswers.{IsLatest}
 use Rattle.zst_uber.specs.Slots.{Stands, latest, IsNext}
 use Rattle.zst_uber.specs.Commit.{HasOldOrNew}
 use Rattle.zst_uber.specs.declared.uber.Uber.{Uber}
@@ -221,4 +223,16 @@ Ready-fills old new space less body label fills ready = record {
   in_range = subst (λ (size : ℕ). InRange size body) (sym fills.size) ready.in_range;
   next = λ told. subst (λ (l : Option (List ℕ)). IsNext (body.number + 1) l) (sym (latest-spared space old.seen new.seen label fills.seen)) (ready.next (fills.honest told));
   label = λ told. LabelSettled-fills old new space less label fills (ready.label (fills.honest told));
+  only = λ told found is.
+      ready.only (fills.honest told) found
+      (record { stands = sym (latest-spared space old.seen new.seen label fills.seen) ∙ is.stands; fits = is.fits; in_range = subst (λ (size : ℕ). InRange size found) fills.size is.in_range });
 }
+
+-- where the body of a commit stands, no other is read as the latest
+pub only_latest : (size : ℕ) (next found : Uber) (image : List ℕ) → UberFits next → Stands next image → IsLatest size found image → found ≡ next
+only_latest size next found image fits stands is =
+    let same : body_bytes found ≡ body_bytes next = some_same (sym is.stands ∙ stands) in
+    sym (uber_at-body_bytes found is.fits) ∙ ap uber_at same ∙ uber_at-body_bytes next fits
+  where
+    some_same : {a b : List ℕ} → (let one : Option (List ℕ) = Some a in one) ≡ Some b → a ≡ b
+    some_same is = cc

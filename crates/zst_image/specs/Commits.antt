@@ -3,10 +3,11 @@ use Rattle.std.specs.Prelude.{◌≡◌, ◌⊎◌, ◌||◌, ◌+◌, ◌<◌, 
 use Rattle.zst_outside.specs.Images.{DiskState, Leaves}
 use Rattle.zst_space.specs.FreeSectors.{FreeSectors, IsFree, largest_of, room}
 use Rattle.zst_block.specs.Blocks.{FillsFree, KeepsBlocks}
-use Rattle.zst_block.specs.IoCalls.{TakesAtMost}
+use Rattle.zst_block.specs.IoCalls.{IsBlockLength, TakesAtMost}
 use Rattle.zst_block.specs.IoStates.{IoState}
 use Rattle.zst_uber.specs.Body.{InRange}
 use Rattle.zst_uber.specs.Commit.{LabelSettled}
+use Rattle.zst_uber.specs.OpenAnswers.{IsLatest}
 use Rattle.zst_uber.specs.Slots.{latest, IsNext}
 use Rattle.zst_uber.specs.declared.uber.Uber.{Uber}
 use Rattle.zst_model.specs.pools.Pool.{Pool, IsPool}
@@ -18,11 +19,13 @@ use Rattle.zst_image.specs.declared.commit_fault.CommitFault.{CommitFault}
 use Rattle.zst_image.specs.declared.commit_fault.CommitFault.TheVariants.{Full, DiskFault, OutOfMemory}
 use Rattle.zst_image.specs.declared.pool_state.PoolState.{PoolState}
 
--- a disk from which the next commit can be made: this body is in its ranges and, where the disk is honest, its latest, with nothing pending in sectors 0 to 7
+-- a disk from which the next commit can be made: this body is in its ranges and, where the disk is honest, its latest, with nothing pending in sectors 0 to 7; and no other body is
+-- read as the latest
 pub record Ready (disk : DiskState) (uber : Uber) : Type 0 where
   pub in_range : InRange disk.size uber
   pub next : disk.honest → IsNext (uber.number + 1) (latest disk.seen)
   pub label : disk.honest → LabelSettled disk
+  pub only : disk.honest → (found : Uber) → IsLatest disk.size found disk.seen → found ≡ uber
 
 -- these rows over these blocks are the next pool of this body, with this guid counter, by tight sets where that is said
 pub record NextIs (tight : Bool) (has : Blocks) (uber : Uber) (guids : ℕ) (rows : Rows) (next : Pool) : Type 0 where
@@ -83,7 +86,7 @@ pub record CommittedDir (body : Uber) (rows : Rows) (old new : IoState) (kept : 
 
 -- the sectors that a commit of a directory with these rows takes: so many at most, and for one leaf exactly its 16; E24 tells what was free
 pub record TakesForDir (rows : Rows) (old new : FreeSectors) (result : Result PoolState CommitFault) : Type 0 where
-  pub takes : TakesAtMost (dir_sectors (length (dir_bytes rows))) old new
+  pub takes : TakesAtMost (dir_sectors (length (dir_bytes rows))) (IsBlockLength 16) old new
   pub one_leaf : length (dir_bytes rows) ≤ 8192 → OnOk result (room new + 16 ≡ room old)
   pub full : (need largest : ℕ) → result ≡ Err (Full need largest) → IsDirFull old new rows need largest
 

@@ -16,6 +16,7 @@ use Rattle.zst_send.specs.Sends.{SendFits}
 use Rattle.zst_sessions.proofs.DroppedPieces.{no_send, send_found, send_missed}
 use Rattle.zst_sessions.proofs.ReadPools.{read_none, receives_read}
 use Rattle.zst_sessions.proofs.RemovedSessions.{remove_match}
+use Rattle.zst_sessions.proofs.SparedBlocks.{none_spares}
 use Rattle.zst_sessions.proofs.UnmovedEngines.{nothing_done, stays_later}
 use Rattle.zst_sessions.proofs.Worlds.{with_sends}
 use Rattle.zst_sessions.specs.EngineSteps.{EngineFits, StepsEngine, kept_pool}
@@ -96,6 +97,9 @@ module _ {D E : Type 0} {g : Ghosts D} {h : Ghosts E} (old : Engine D E g h) (id
     time = refl;
     cause = λ is. absurd (cc);
     open_still = λ works also is. absurd (cc);
+    works = λ alive. (λ works. works, λ works. works);
+    here_spares = none_spares (kept_pool old.here);
+    there_spares = none_spares (kept_pool old.there);
   })
 
   -- no send has the id

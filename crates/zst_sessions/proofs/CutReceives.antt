@@ -29,6 +29,7 @@ use Rattle.zst_sessions.proofs.ChangedSides.{changed, other_target, side_stands,
 use Rattle.zst_sessions.proofs.EndedSessions.{reads_as_kept}
 use Rattle.zst_sessions.proofs.ReceiveEnds.{same_later}
 use Rattle.zst_sessions.proofs.RemovedSessions.{none_matched}
+use Rattle.zst_sessions.proofs.SparedBlocks.{kept_spares, none_spares}
 use Rattle.zst_sessions.proofs.UnmovedEngines.{nothing_done, stays_later}
 use Rattle.zst_sessions.specs.Endings.{EndsReceive}
 use Rattle.zst_sessions.specs.EngineSteps.{EngineFits, ReceiveFits, SessionsFit, StepsEngine, here_with, kept_pool, target_of, there_with}
@@ -232,6 +233,9 @@ module _ {D E : Type 0} {g : Ghosts D} {h : Ghosts E} (old : Engine D E g h) (id
       time = refl;
       cause = λ told. absurd (cc);
       open_still = λ works also told. absurd (cc);
+      works = λ alive. (λ works. ends.failed ∙ works, λ works. works);
+      here_spares = kept_spares (λ target. target ≡ (ask_of one.recv).target) (kept_pool old.here) (kept_pool new.here) ends.keeps;
+      there_spares = none_spares (kept_pool old.there);
     })
 
     pub cut_there : new ≡ record old { there = new.there; receives = new.receives } → one.side ≡ There → EndsReceive (kept_pool old.there) (kept_pool new.there) one.recv → new.there.io ≡ old.there.io
@@ -250,4 +254,7 @@ module _ {D E : Type 0} {g : Ghosts D} {h : Ghosts E} (old : Engine D E g h) (id
       time = refl;
       cause = λ told. absurd (cc);
       open_still = λ works also told. absurd (cc);
+      works = λ alive. (λ works. works, λ works. ends.failed ∙ works);
+      here_spares = none_spares (kept_pool old.here);
+      there_spares = kept_spares (λ target. target ≡ (ask_of one.recv).target) (kept_pool old.there) (kept_pool new.there) ends.keeps;
     })

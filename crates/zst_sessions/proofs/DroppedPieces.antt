@@ -13,6 +13,7 @@ use Rattle.zst_script.specs.declared.event.Event.TheVariants as events
 use Rattle.zst_script.specs.declared.event.Side.{Side}
 use Rattle.zst_script.specs.declared.event.Side.TheVariants.{Here, There}
 use Rattle.zst_sessions.proofs.RemovedSessions.{none_matched}
+use Rattle.zst_sessions.proofs.SparedBlocks.{read_spares}
 use Rattle.zst_sessions.proofs.UnmovedEngines.{nothing_done}
 use Rattle.zst_sessions.specs.EngineSteps.{EngineFits, StepsEngine, kept_pool}
 use Rattle.zst_sessions.specs.Engines.{BeforeOrAfter, Kept, SendStandsOn, Steps, kept_at}
@@ -115,6 +116,9 @@ module _ {D E : Type 0} {g : Ghosts D} {h : Ghosts E} (old : Engine D E g h) (id
     time = takes.time;
     cause = λ is. takes.cause (dropped_err result refusals.DiskFault is);
     open_still = λ works also is. takes.open_still works also (dropped_err result refusals.Failed is);
+    works = λ alive. takes.works (λ is. alive (ap dropped is));
+    here_spares = read_spares (kept_pool old.here) (kept_pool new.here) takes.here_read;
+    there_spares = read_spares (kept_pool old.there) (kept_pool new.there) takes.there_read;
   }
 
   -- no send has the id

@@ -42,9 +42,10 @@ use Rattle.zst_sessions.proofs.OpenedSends.{OpensSend, added_begin, both_stay, r
 use Rattle.zst_sessions.proofs.PoolRefusals.{fault_of_disk, fault_of_failed}
 use Rattle.zst_sessions.proofs.ReadEvents.{as_defined, or_refused, stands_at, stays}
 use Rattle.zst_sessions.proofs.ReadPools.{fit_read, looked_at, looked_later, read_none}
+use Rattle.zst_sessions.proofs.SparedBlocks.{fell_as, none_spares, read_spares, still_works}
 use Rattle.zst_sessions.proofs.SessionLists.{AllPairs-snoc}
 use Rattle.zst_sessions.specs.CommandSteps.{told_as}
-use Rattle.zst_sessions.specs.EngineSteps.{EngineFits, IsLaterPool, ReceiveFits, SessionsFit, StandsFor, StepsEngine, kept_pool, target_of}
+use Rattle.zst_sessions.specs.EngineSteps.{EngineFits, IsLaterPool, NoneFailed, ReceiveFits, SessionsFit, StandsFor, StepsEngine, kept_pool, target_of}
 use Rattle.zst_sessions.specs.Engines.{Steps, kept_at}
 use Rattle.zst_sessions.specs.EventReplies.{answer_of}
 use Rattle.zst_sessions.specs.Lawfulness.{MovesKeepWorlds}
@@ -147,6 +148,7 @@ module _ {D E : Type 0} {g : Ghosts D} {h : Ghosts E} where
     receives : new.receives.items ≡ old.receives.items
     room : length new.room.items ≡ length old.room.items
     time : new.now ≡ old.now
+    works : ¬ (result ≡ Err faults.DiskFault) → NoneFailed old new
 
   looked : {T : Type 0} (side : Side) (old new : Engine D E g h) (result : Result T PoolFault) → LooksAtSide side old new result → Looked side old new result
   looked {T} Here old new result is =
@@ -166,6 +168,10 @@ module _ {D E : Type 0} {g : Ghosts D} {h : Ghosts E} where
         receives = ap (λ (e : Engine D E g h). e.receives.items) is.0;
         room = ap (λ (e : Engine D E g h). length e.room.items) is.0;
         time = ap (λ (e : Engine D E g h). e.now) is.0;
+        works = λ alive. (
+          still_works old.here.io.failed (fails (stop_of result)) new.here.io.failed looks.failed (λ fell. alive (fell_as result fell)),
+          λ works. ap (λ (pool : Pool E h). pool.io.failed) there_is ∙ works,
+        );
       }
   looked {T} There old new result is =
       let looks = is.1 in
@@ -184,6 +190,10 @@ module _ {D E : Type 0} {g : Ghosts D} {h : Ghosts E} where
         receives = ap (λ (e : Engine D E g h). e.receives.items) is.0;
         room = ap (λ (e : Engine D E g h). length e.room.items) is.0;
         time = ap (λ (e : Engine D E g h). e.now) is.0;
+        works = λ alive. (
+          λ works. ap (λ (pool : Pool D g). pool.io.failed) here_is ∙ works,
+          still_works old.there.io.failed (fails (stop_of result)) new.there.io.failed looks.failed (λ fell. alive (fell_as result fell)),
+        );
       }
 
   -- what is kept of the sessions stays in its ranges
@@ -244,6 +254,9 @@ module _ {D E : Type 0} {g : Ghosts D} {h : Ghosts E} where
     time = refl;
     cause = λ is. absurd (no_fault (err_is refusal refusals.DiskFault is));
     open_still = λ works also is. still works also (err_is refusal refusals.Failed is);
+    works = λ alive. (λ works. works, λ works. works);
+    here_spares = none_spares (kept_pool old.here);
+    there_spares = none_spares (kept_pool old.there);
   }
 
   -- ---- an event that opens a send
@@ -280,10 +293,16 @@ module _ {D E : Type 0} {g : Ghosts D} {h : Ghosts E} where
           time = l.time;
           cause = λ is. l.cause (ap err (fault_of_disk fault (err_is (pool_refusal fault) refusals.DiskFault is)));
           open_still = λ works other is. l.open_still (open_on side old works other) (ap err (fault_of_failed fault (err_is (pool_refusal fault) refusals.Failed is)));
+          works = λ alive. l.works (λ is. alive (ap told_fault (pool_err_is fault faults.DiskFault is)));
+          here_spares = read_spares (kept_pool old.here) (kept_pool mid.here) l.here;
+          there_spares = read_spares (kept_pool old.there) (kept_pool mid.there) l.there;
         }
       where
         err : PoolFault → Result Begun PoolFault
         err f = Err f
+
+        told_fault : PoolFault → Result EventReply Refusal
+        told_fault f = Err (pool_refusal f)
 
         go : Looked {T = Begun} side old mid (Err fault) → (world : World) → (disk_of mid.here.io).honest → (disk_of mid.there.io).honest → StandsFor old world → (failed : Bool) → (kept_on side old).failed ≡ failed
             → StepsTo event old mid world old.sends.items old.receives.items (Err (pool_refusal fault))
@@ -351,6 +370,9 @@ module _ {D E : Type 0} {g : Ghosts D} {h : Ghosts E} where
             time = l.time;
             cause = λ is. absurd (no.0 is);
             open_still = λ works also is. no.1 is;
+            works = λ alive. l.works (λ is. absurd (cc));
+            here_spares = read_spares (kept_pool old.here) (kept_pool mid.here) l.here;
+            there_spares = read_spares (kept_pool old.there) (kept_pool mid.there) l.there;
           } in made)
 
   -- ---- a send by names
@@ -483,6 +505,9 @@ module _ {D E : Type 0} {g : Ghosts D} {h : Ghosts E} where
             time = l.time;
             cause = λ is. absurd (cc);
             open_still = λ alive too is. absurd (cc);
+            works = λ alive. l.works (λ is. absurd (cc));
+            here_spares = read_spares (kept_pool old.here) (kept_pool mid.here) l.here;
+            there_spares = read_spares (kept_pool old.there) (kept_pool mid.there) l.there;
           }
 
       pub receive_unbegun : (fault : PoolFault) → ((kept_on side old).failed ≡ false → fault ≡ faults.OutOfMemory) → LooksAtSide {T = Awaited} side old mid (Err fault) → StepsEngine (events.Receive side id ask) old mid (Err (pool_refusal fault))
@@ -559,4 +584,7 @@ module _ {D E : Type 0} {g : Ghosts D} {h : Ghosts E} where
               time = look.time;
               cause = λ is. absurd (no.0 is);
               open_still = λ alive too is. no.1 is;
+              works = λ alive. look.works (λ is. absurd (cc));
+              here_spares = read_spares (kept_pool old.here) (kept_pool mid.here) look.here;
+              there_spares = read_spares (kept_pool old.there) (kept_pool mid.there) look.there;
             } in made)

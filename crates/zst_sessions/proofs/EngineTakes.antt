@@ -22,6 +22,7 @@ use Rattle.zst_send.specs.Sends.{SendFits, SendsFrom, TakesFrom}
 use Rattle.zst_send.specs.declared.send.Send.{Send}
 use Rattle.zst_sessions.proofs.PoolRefusals.{answer_of_disk, answer_of_failed, refused, refused_gives}
 use Rattle.zst_sessions.proofs.ReadPools.{fit_read, looked_at, looked_later, read_none}
+use Rattle.zst_sessions.proofs.SparedBlocks.{fell_as, still_works}
 use Rattle.zst_sessions.proofs.TakenBytes.{PieceTaken, takes_on}
 use Rattle.zst_sessions.proofs.UnmovedEngines.{stays_later}
 use Rattle.zst_sessions.specs.EngineSteps.{EngineFits, SessionsFit, kept_pool, piece_limit}
@@ -66,6 +67,10 @@ module _ {D : Type 0} {g : Ghosts D} where
         go : (r : Result ℕ PoolFault) → new.io.failed ≡ (old.io.failed || fails (stop_of r)) → OnOk (refused r) (new.io.failed ≡ old.io.failed)
         go (Ok taken) is = is ∙ or_none old.io.failed
         go (Err fault) is = tt
+
+    -- and only where E28 is answered
+    pub works_still : ¬ (refused result ≡ Err refusals.DiskFault) → old.io.failed ≡ false → new.io.failed ≡ false
+    works_still alive = still_works old.io.failed (fails (stop_of result)) new.io.failed took.pool.failed (λ fell. alive (ap (λ (r : Result ℕ PoolFault). refused r) (fell_as result fell)))
 
     -- E28 comes only where its count of faults rose
     pub disk_rose : refused result ≡ Err refusals.DiskFault → Rose (disk_of old.io).faults (disk_of new.io).faults
@@ -128,6 +133,7 @@ module _ {D E : Type 0} {g : Ghosts D} {h : Ghosts E} (old : Engine D E g h) (pl
         here_later = looked_later old.here here result took.pool;
         there_later = stays_later old.there;
         time = refl;
+        works = λ alive. (works_still count old.here here one.send after front result took alive, λ works. works);
         marks = go result (mark_stays count old.here here one.send after front result took);
         cause = λ is. inl (disk_rose count old.here here one.send after front result took is);
         open_still = λ works also is. still_open count old.here here one.send after front result took works is;
@@ -159,6 +165,7 @@ module _ {D E : Type 0} {g : Ghosts D} {h : Ghosts E} (old : Engine D E g h) (pl
         here_later = stays_later old.here;
         there_later = looked_later old.there there result took.pool;
         time = refl;
+        works = λ alive. (λ works. works, works_still count old.there there one.send after front result took alive);
         marks = go result (mark_stays count old.there there one.send after front result took);
         cause = λ is. inr (disk_rose count old.there there one.send after front result took is);
         open_still = λ works also is. still_open count old.there there one.send after front result took also is;

@@ -38,6 +38,7 @@ pub mod ReceiveEnds
 pub mod CutReceives
 mod LeastSessions
 mod HeldThings
+pub mod SparedBlocks
 mod SteppedPools
 mod SteppedWorlds
 mod ToldTokens

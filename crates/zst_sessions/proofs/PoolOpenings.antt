@@ -1,10 +1,11 @@
 -- What dropping all that isn't kept of a pool, and opening it again, make of it.
-use Rattle.std.proofs.Common.{◌≡◌, ℕ, Bool, true, false, Ok, Err, refl, sym, ap, ◌∙◌, subst}
+use Rattle.std.proofs.Common.{◌≡◌, ℕ, Bool, true, false, List, Some, Ok, Err, refl, sym, ap, ◌∙◌, subst}
 use Rattle.std.specs.Prelude.{OnOk, Result}
 use Rattle.zst_outside.specs.Images.{OnlyReads}
 use Rattle.zst_outside.specs.declared.disk.Disk.{Ghosts}
 use Rattle.zst_block.specs.IoStates.{IsHonest, disk_of}
 use Rattle.zst_block.specs.declared.io.Io.{Io}
+use Rattle.zst_uber.specs.Slots.{latest}
 use Rattle.zst_uber.specs.declared.uber.Uber.{Uber}
 use Rattle.zst_dir.specs.Rows.{Rows}
 use Rattle.zst_image.specs.Commits.{Ready}
@@ -35,6 +36,14 @@ worked failed opens.NoPool is = is
 worked failed (opens.BadVersion version) is = is
 worked failed opens.DiskFault is = absurd (cc)
 worked failed opens.OutOfMemory is = is
+
+-- and one that worked before works after any but the disk's
+still_after : (failed : Bool) (fault : OpenFault) → ¬ (fault ≡ opens.DiskFault) → failed ≡ false → failed_after failed (Err fault) ≡ false
+still_after failed (opens.Damaged sector stated found) alive is = is
+still_after failed opens.NoPool alive is = is
+still_after failed (opens.BadVersion version) alive is = is
+still_after failed opens.DiskFault alive is = absurd (alive refl)
+still_after failed opens.OutOfMemory alive is = is
 
 module _ {D : Type 0} {g : Ghosts D} (old mid new : pools.Pool D g)
     (rests : (tight : Bool) (disk : D) (running : Pool) → IsAtRest tight (g.state disk) old.kept running → IsAtRest tight (g.state disk) mid.kept (kept_of running))
@@ -81,8 +90,23 @@ module _ {D : Type 0} {g : Ghosts D} (old mid new : pools.Pool D g)
     opened_again (Ok done) by again reopens = record {
       reads = only_reads reopens.reads;
       ready = λ works. reopens.works.ready;
+      works = λ alive was. reopens.failed;
+      body = λ was honest.
+          let is = by.answer honest in
+          let still : Ready (disk_of mid.io) old.kept.body = subst (λ (i : Io D g). Ready (disk_of i) old.kept.body) (sym io) (ready was) in
+          still.only (reopens.reads.honest honest) new.kept.body
+          (record { stands = subst (λ (bytes : List ℕ). latest (disk_of mid.io).seen ≡ Some bytes) is.3.is_body.spelled is.2; fits = is.3.is_body.fits; in_range = is.3.is_body.in_range });
       ends = λ running honest reads rest.
           let rested = again true reads.0 reads.1 (kept_of running) honest (read_so reads.0 reads.1 (kept_of running) reads.2) in
           IsOpened (ap (λ (n : ℕ). Ok n) (sym rested.rests.reads.described.number)) reopens.failed rested;
     }
-    opened_again (Err fault) by again reopens = record { reads = only_reads reopens.reads; ready = ready_still fault reopens; ends = refused_ends fault by reopens }
+    opened_again (Err fault) by again reopens = record {
+      reads = only_reads reopens.reads;
+      ready = ready_still fault reopens;
+      works = λ alive was. reopens.failed ∙ still_after mid.io.failed fault (λ is. alive (ap told_fault is)) (ap (λ (i : Io D g). i.failed) io ∙ was);
+      body = λ was honest. ap (λ (k : PoolState). k.body) reopens.kept ∙ same_body;
+      ends = refused_ends fault by reopens;
+    }
+      where
+        told_fault : OpenFault → Result ℕ Refusal
+        told_fault f = Err (open_refusal f)

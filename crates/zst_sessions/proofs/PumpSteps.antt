@@ -7,6 +7,7 @@ use Rattle.std.proofs.lemmas.List.Quantifiers.{position-Some}
 use Rattle.zst_outside.specs.Causes.{Rose, Rose-earlier}
 use Rattle.zst_outside.specs.Images.{Leaves, Leaves-none, Leaves-then, Leaves-weaker}
 use Rattle.zst_outside.specs.declared.disk.Disk.{Ghosts}
+use Rattle.zst_block.specs.IoCalls.{fails}
 use Rattle.zst_block.specs.IoStates.{disk_of}
 use Rattle.zst_dir.specs.RowNames.{Match}
 use Rattle.zst_dir.proofs.Matches.{is_some-position, list_any-Match}
@@ -36,8 +37,9 @@ use Rattle.zst_sessions.proofs.ChangedSides.{same_pools}
 use Rattle.zst_sessions.proofs.FedSessions.{fed_fit}
 use Rattle.zst_sessions.proofs.PumpedFeeds.{FeedSteps, feed_steps}
 use Rattle.zst_sessions.proofs.RemovedSessions.{none_matched}
+use Rattle.zst_sessions.proofs.SparedBlocks.{read_blocks, read_spares, spares, still_works}
 use Rattle.zst_sessions.proofs.UnmovedEngines.{nothing_done, stays_later}
-use Rattle.zst_sessions.specs.EngineSteps.{EngineFits, IsLaterPool, SessionsFit, StandsFor, StepsEngine, StepsWorld, here_with, kept_pool, there_with}
+use Rattle.zst_sessions.specs.EngineSteps.{EngineFits, IsLaterPool, NoneFailed, SessionsFit, SparesBlocks, StandsFor, StepsEngine, StepsWorld, here_with, kept_pool, there_with}
 use Rattle.zst_sessions.specs.Engines.{BeforeOrAfter, Kept, ReceiveStandsOn, SendStandsOn, Stands, Steps, kept_at}
 use Rattle.zst_sessions.specs.EventReplies.{answer_of}
 use Rattle.zst_sessions.specs.Lawfulness.{MovesKeepWorlds}
@@ -95,6 +97,9 @@ refused refusal = Err refusal
 same_refusal : (one other : Refusal) → refused one ≡ refused other → one ≡ other
 same_refusal one other e = cc
 
+take_refusal : (one other : Refusal) → (let result : Result ℕ Refusal = Err one in result) ≡ Err other → one ≡ other
+take_refusal one other e = cc
+
 is_fault : (taken : ℕ) (after : Recv) (fed : Result FeedReport RecvFault) → fed_reply taken after fed ≡ Err refusals.DiskFault → fed ≡ Err (faults.Pool pools.DiskFault)
 is_fault taken after (Ok report) e = absurd cc
 is_fault taken after (Err (faults.Pool (pools.Plan (plans.Limit which number)))) e = absurd cc
@@ -122,6 +127,20 @@ is_failed taken after (Err (faults.Pool pools.Failed)) e = refl
 is_failed taken after (Err (faults.Pool pools.OutOfMemory)) e = absurd cc
 is_failed taken after (Err (faults.Stream fault)) e = absurd cc
 is_failed taken after (Err (faults.CannotApply index fault)) e = absurd cc
+
+-- a feed in which the disk failed answers so
+fell_so : (taken : ℕ) (after : Recv) (fed : Result FeedReport RecvFault) → fails (stop_of fed) ≡ true → fed_reply taken after fed ≡ Err refusals.DiskFault
+fell_so taken after (Ok report) e = absurd cc
+fell_so taken after (Err (faults.Pool (pools.Plan fault))) e = absurd cc
+fell_so taken after (Err (faults.Pool (pools.CannotApply fault))) e = absurd cc
+fell_so taken after (Err (faults.Pool (pools.Redacted object block))) e = absurd cc
+fell_so taken after (Err (faults.Pool (pools.Full need largest))) e = absurd cc
+fell_so taken after (Err (faults.Pool (pools.Damaged sector stated found))) e = absurd cc
+fell_so taken after (Err (faults.Pool pools.DiskFault)) e = refl
+fell_so taken after (Err (faults.Pool pools.Failed)) e = absurd cc
+fell_so taken after (Err (faults.Pool pools.OutOfMemory)) e = absurd cc
+fell_so taken after (Err (faults.Stream fault)) e = absurd cc
+fell_so taken after (Err (faults.CannotApply index fault)) e = absurd cc
 
 -- ---- pools
 
@@ -254,6 +273,9 @@ module _ {D E : Type 0} {g : Ghosts D} {h : Ghosts E} where
           time = had.time;
           cause = λ e. had.cause (ap (λ (r : Refusal). Err r) (same_refusal refusal refusals.DiskFault e));
           open_still = λ here there e. had.open_still here there (ap (λ (r : Refusal). Err r) (same_refusal refusal refusals.Failed e));
+          works = λ alive. had.works (λ e. alive (ap (λ (r : Refusal). Err r) (take_refusal refusal refusals.DiskFault e)));
+          here_spares = read_spares (kept_pool old.here) (kept_pool mid.here) had.here_read;
+          there_spares = read_spares (kept_pool old.there) (kept_pool mid.there) had.there_read;
         }
           where
             lost : (world : World) → StandsFor old world → Takes sends count world (kept_pool old.here) (kept_pool old.there) (kept_pool mid.here) (kept_pool mid.there) mid.sends.items mid.receives.items mid.room.items (Err refusal)
@@ -424,6 +446,30 @@ module _ {D E : Type 0} {g : Ghosts D} {h : Ghosts E} where
           rose Here is more = inl (Rose-earlier (disk_of old.here.io).faults (disk_of mid.here.io).faults (disk_of new.here.io).faults gave.here_later.faults more)
           rose There is more = inr (Rose-earlier (disk_of old.there.io).faults (disk_of mid.there.io).faults (disk_of new.there.io).faults gave.there_later.faults more)
 
+          -- so it does behind the feed, unless its disk failed in that
+          fed_works : (side : Side) → FedSide side → ¬ (fails (stop_of settles.fed) ≡ true) → NoneFailed old new
+          fed_works Here is alive = (
+            λ here. still_works mid.here.io.failed (fails (stop_of settles.fed)) new.here.io.failed is.0.failed alive (gave.marks.0 ∙ here),
+            λ there. ap (λ (p : Pool E h). p.io.failed) is.2 ∙ gave.marks.1 ∙ there,
+          )
+          fed_works There is alive = (
+            λ here. ap (λ (p : Pool D g). p.io.failed) is.2 ∙ gave.marks.0 ∙ here,
+            λ there. still_works mid.there.io.failed (fails (stop_of settles.fed)) new.there.io.failed is.0.failed alive (gave.marks.1 ∙ there),
+          )
+
+          -- the blocks of both pools stand behind the take and the feed
+          here_spared : (side : Side) → FedSide side → SparesBlocks (events.Pump sends receives count ≡ events.Reopen Here) (kept_pool old.here) (kept_pool new.here)
+          here_spared Here is = spares (kept_pool old.here) (kept_pool new.here) (λ works ptr bytes has. is.0.keeps.blocks works ptr bytes (read_blocks (kept_pool old.here) (kept_pool mid.here) gave.here_read ptr bytes has))
+          here_spared There is =
+              subst (λ (p : Pool D g). SparesBlocks (events.Pump sends receives count ≡ events.Reopen Here) (kept_pool old.here) (kept_pool p)) (sym is.2)
+              (read_spares (kept_pool old.here) (kept_pool mid.here) gave.here_read)
+
+          there_spared : (side : Side) → FedSide side → SparesBlocks (events.Pump sends receives count ≡ events.Reopen There) (kept_pool old.there) (kept_pool new.there)
+          there_spared Here is =
+              subst (λ (p : Pool E h). SparesBlocks (events.Pump sends receives count ≡ events.Reopen There) (kept_pool old.there) (kept_pool p)) (sym is.2)
+              (read_spares (kept_pool old.there) (kept_pool mid.there) gave.there_read)
+          there_spared There is = spares (kept_pool old.there) (kept_pool new.there) (λ works ptr bytes has. is.0.keeps.blocks works ptr bytes (read_blocks (kept_pool old.there) (kept_pool mid.there) gave.there_read ptr bytes has))
+
           pub pumps_fed : StepsEngine (events.Pump sends receives count) old new result
           pumps_fed =
               let feeds = feeds_kept its.side fed_side in
@@ -435,4 +481,7 @@ module _ {D E : Type 0} {g : Ghosts D} {h : Ghosts E} where
                 time = settles.feeds.time ∙ gave.time;
                 cause = λ e. rose its.side fed_side (feeds.cause.fault (ap (λ (r : Result FeedReport RecvFault). stop_of r) (is_fault taken settles.after settles.fed (sym settles.reply ∙ e))));
                 open_still = λ here there e. feeds.open_still (mid_works here there its.side) (is_failed taken settles.after settles.fed (sym settles.reply ∙ e));
+                works = λ alive. fed_works its.side fed_side (λ fell. alive (settles.reply ∙ fell_so taken settles.after settles.fed fell));
+                here_spares = here_spared its.side fed_side;
+                there_spares = there_spared its.side fed_side;
               }

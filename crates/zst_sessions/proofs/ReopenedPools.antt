@@ -19,9 +19,10 @@ use Rattle.zst_script.specs.declared.event.Side.{Side}
 use Rattle.zst_script.specs.declared.event.Side.TheVariants.{Here, There}
 use Rattle.zst_sessions.proofs.ChangedSides.{side_stands}
 use Rattle.zst_sessions.proofs.EndedSessions.{ended_pool, fits_left, is_ended, is_lost, is_reopened, left_at, reads_as_kept, stands_left}
+use Rattle.zst_sessions.proofs.SparedBlocks.{none_spares, opens_spares}
 use Rattle.zst_sessions.proofs.UnmovedEngines.{stays_later}
 use Rattle.zst_sessions.specs.Endings.{FindsNoMemory, IsOpened, LosesDisk, OpeningEnds, OpensAgain}
-use Rattle.zst_sessions.specs.EngineSteps.{EngineFits, IsLaterPool, SessionsFit, StepsEngine, here_with, kept_pool, there_with}
+use Rattle.zst_sessions.specs.EngineSteps.{EngineFits, IsLaterPool, SessionsFit, SparesBlocks, StepsEngine, here_with, kept_pool, there_with}
 use Rattle.zst_sessions.specs.Engines.{BeforeOrAfter, Kept, MayLeave, PoolStands, Stands, Steps, kept_at}
 use Rattle.zst_sessions.specs.EventReplies.{answer_of}
 use Rattle.zst_sessions.specs.Lawfulness.{MovesKeepWorlds}
@@ -173,6 +174,9 @@ module _ {D E : Type 0} {g : Ghosts D} {h : Ghosts E} (old new : Engine D E g h)
       time = time;
       cause = λ is. inl (cause (fault_is is));
       open_still = λ works also is. still (failed_is is);
+      works = λ alive. (opens.works (λ is. alive (ap opened is)), λ works. ap (λ (p : pools.Pool E h). p.io.failed) other ∙ works);
+      here_spares = opens_spares (kept_pool old.here) (kept_pool new.here) refl opens.reads opens.body;
+      there_spares = subst (λ (p : pools.Pool E h). SparesBlocks (events.Reopen Here ≡ events.Reopen There) (kept_pool old.there) (kept_pool p)) (sym other) (none_spares (kept_pool old.there));
     }
 
     pub reopens_there : Ends There → new.here ≡ old.here → OpensAgain (kept_pool old.there) (kept_pool new.there) result → IsLaterPool old.there new.there
@@ -196,4 +200,7 @@ module _ {D E : Type 0} {g : Ghosts D} {h : Ghosts E} (old new : Engine D E g h)
       time = time;
       cause = λ is. inr (cause (fault_is is));
       open_still = λ works also is. still (failed_is is);
+      works = λ alive. (λ works. ap (λ (p : pools.Pool D g). p.io.failed) other ∙ works, opens.works (λ is. alive (ap opened is)));
+      here_spares = subst (λ (p : pools.Pool D g). SparesBlocks (events.Reopen There ≡ events.Reopen Here) (kept_pool old.here) (kept_pool p)) (sym other) (none_spares (kept_pool old.here));
+      there_spares = opens_spares (kept_pool old.there) (kept_pool new.there) refl opens.reads opens.body;
     }

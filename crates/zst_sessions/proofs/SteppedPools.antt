@@ -113,6 +113,18 @@ busy_stepped first now command held opened kept session works stands is =
     first held now command opened.pool ∙ ap (λ (o : Option ℕ). unless_busy o (stepped [] now command opened.pool)) (sym is) in
     stays_stepped command (stepped held now command opened.pool) opened kept (Err (busy_session session)) stands (Refuses works (busy_session session) refused_is refl refl)
 
+-- a step in which the disk failed answers so
+pub fell_told : (told : Result (List (List ℕ)) PoolFault) → is_disk_fault told ≡ true → pool_told told ≡ Err refusals.DiskFault
+fell_told (Ok reply) fell = absurd (cc)
+fell_told (Err (faults.Plan fault)) fell = absurd (cc)
+fell_told (Err (faults.CannotApply fault)) fell = absurd (cc)
+fell_told (Err (faults.Redacted object block)) fell = absurd (cc)
+fell_told (Err (faults.Full need largest)) fell = absurd (cc)
+fell_told (Err (faults.Damaged sector stated found)) fell = absurd (cc)
+fell_told (Err faults.DiskFault) fell = refl
+fell_told (Err faults.Failed) fell = absurd (cc)
+fell_told (Err faults.OutOfMemory) fell = absurd (cc)
+
 module _ {D : Type 0} {g : Ghosts D} (old new : Pool D g) where
   -- where the disk works after a step, it worked before, and didn't fail in it
   worked : (told : Result (List (List ℕ)) PoolFault) → new.io.failed ≡ (old.io.failed || is_disk_fault told) → new.io.failed ≡ false → (old.io.failed ≡ false) × (¬ (told ≡ Err faults.DiskFault))

@@ -26,6 +26,7 @@ use Rattle.zst_script.specs.declared.event.Side.{Side}
 use Rattle.zst_script.specs.declared.event.Side.TheVariants.{Here, There}
 use Rattle.zst_send.specs.Sends.{SendsGoOn}
 use Rattle.zst_sessions.proofs.Beside.{receives_beside, sends_beside, sessions_fit_beside}
+use Rattle.zst_sessions.proofs.SparedBlocks.{kept_spares, none_spares}
 use Rattle.zst_sessions.specs.BusySessions.{busy_for}
 use Rattle.zst_sessions.specs.CommandSteps.{GivesUp, StepEnds, HadFailed, Accepts, Refuses, LacksRoom, LacksMemory, Loses, IsUnclaimed, StepsPool, made_of, pool_after}
 use Rattle.zst_sessions.specs.EngineSteps.{EngineFits, IsLaterPool, KeepsSessions, StepsEngine, coded_claim, coded_held, coded_hold, here_with, kept_pool, target_of, there_with}
@@ -242,6 +243,11 @@ module _ (laws : Laws) (side : Side) (now : ℕ) (command : Command) (holder : O
 pub same_later : {D : Type 0} {g : Ghosts D} (pool : Pool D g) → IsLaterPool pool pool
 same_later pool = record { faults = omega arith; honest = λ told. told; same = refl }
 
+-- an event's answer is E28 only as its result
+lost_as : (result : Result EventReply Refusal) → answer_of result ≡ Err refusals.DiskFault → result ≡ Err refusals.DiskFault
+lost_as (Ok reply) is = absurd (cc is)
+lost_as (Err refusal) is = let same : refusal ≡ refusals.DiskFault = cc is in ap (λ (r : Refusal). Err r) same
+
 module _ {D E : Type 0} {g : Ghosts D} {h : Ghosts E} (laws : Laws) (old : Engine D E g h) (command : Command) (holder : Option ℕ) (answer : Answer) (result : Result EventReply Refusal) (told : answer_of result ≡ answer)
     (fits : EngineFits old) where
   abbrev first : Kept
@@ -257,9 +263,9 @@ module _ {D E : Type 0} {g : Ghosts D} {h : Ghosts E} (laws : Laws) (old : Engin
       → StepsPool command (stepped held old.now command opened.pool) opened first (kept_pool {g = g} pool) answer)
       → KeepsSessions (GivesUp holder command old.here.kept.dir) first (kept_pool {g = g} pool) → IsLaterPool old.here pool
       → (answer ≡ Err refusals.DiskFault → Rose (disk_of old.here.io).faults (disk_of pool.io).faults) → (old.here.io.failed ≡ false → ¬ (answer ≡ Err refusals.Failed))
-      → StepsEngine (events.Step side command) old (record old { here = pool }) result
-  step_here There is pool busy claimed steps keeps later cause open_still = absurd (cc is)
-  step_here Here is pool busy claimed steps keeps later cause open_still =
+      → (¬ (answer ≡ Err refusals.DiskFault) → old.here.io.failed ≡ false → pool.io.failed ≡ false) → StepsEngine (events.Step side command) old (record old { here = pool }) result
+  step_here There is pool busy claimed steps keeps later cause open_still still = absurd (cc is)
+  step_here Here is pool busy claimed steps keeps later cause open_still still =
       let new = kept_pool {g = g} pool in
       let own = GivesUp holder command old.here.kept.dir in
       record {
@@ -276,6 +282,9 @@ module _ {D E : Type 0} {g : Ghosts D} {h : Ghosts E} (laws : Laws) (old : Engin
         time = refl;
         cause = λ is. inl (cause (sym told ∙ ap answer_of is));
         open_still = λ works also is. open_still works (sym told ∙ ap answer_of is);
+        works = λ alive. (still (λ is. alive (lost_as result (told ∙ is))), λ works. works);
+        here_spares = kept_spares own first new keeps;
+        there_spares = none_spares second;
       }
 
   pub step_there : (side : Side) → side ≡ There → (pool : Pool E h)
@@ -285,9 +294,9 @@ module _ {D E : Type 0} {g : Ghosts D} {h : Ghosts E} (laws : Laws) (old : Engin
       → StepsPool command (stepped held old.now command opened.pool) opened second (kept_pool {g = h} pool) answer)
       → KeepsSessions (GivesUp holder command old.there.kept.dir) second (kept_pool {g = h} pool) → IsLaterPool old.there pool
       → (answer ≡ Err refusals.DiskFault → Rose (disk_of old.there.io).faults (disk_of pool.io).faults) → (old.there.io.failed ≡ false → ¬ (answer ≡ Err refusals.Failed))
-      → StepsEngine (events.Step side command) old (record old { there = pool }) result
-  step_there Here is pool busy claimed steps keeps later cause open_still = absurd (cc is)
-  step_there There is pool busy claimed steps keeps later cause open_still =
+      → (¬ (answer ≡ Err refusals.DiskFault) → old.there.io.failed ≡ false → pool.io.failed ≡ false) → StepsEngine (events.Step side command) old (record old { there = pool }) result
+  step_there Here is pool busy claimed steps keeps later cause open_still still = absurd (cc is)
+  step_there There is pool busy claimed steps keeps later cause open_still still =
       let new = kept_pool {g = h} pool in
       let own = GivesUp holder command old.there.kept.dir in
       record {
@@ -304,4 +313,7 @@ module _ {D E : Type 0} {g : Ghosts D} {h : Ghosts E} (laws : Laws) (old : Engin
         time = refl;
         cause = λ is. inr (cause (sym told ∙ ap answer_of is));
         open_still = λ also works is. open_still works (sym told ∙ ap answer_of is);
+        works = λ alive. (λ works. works, still (λ is. alive (lost_as result (told ∙ is))));
+        here_spares = none_spares first;
+        there_spares = kept_spares own second new keeps;
       }

@@ -15,6 +15,7 @@ use Rattle.zst_script.specs.declared.event.Event.{Event}
 use Rattle.zst_script.specs.declared.event.Event.TheVariants as events
 use Rattle.zst_script.specs.declared.event.Side.{Side}
 use Rattle.zst_script.specs.declared.event.Side.TheVariants.{Here, There}
+use Rattle.zst_sessions.proofs.SparedBlocks.{none_spares}
 use Rattle.zst_sessions.proofs.SteppedWorlds.{same_later, stands_at}
 use Rattle.zst_sessions.specs.CommandSteps.{told_as, token_answer}
 use Rattle.zst_sessions.specs.EngineSteps.{EngineFits, StepsEngine, kept_pool}
@@ -107,4 +108,7 @@ module _ {D E : Type 0} {g : Ghosts D} {h : Ghosts E} (old : Engine D E g h) (si
     time = refl;
     cause = λ is. absurd (no_fault (only_refusal told refusals.DiskFault (sym answers ∙ ap answer_of is)));
     open_still = λ first second is. alive (works_at side (kept_pool {g = g} old.here) (kept_pool {g = h} old.there) first second) (only_refusal told refusals.Failed (sym answers ∙ ap answer_of is));
+    works = λ alive. (λ works. works, λ works. works);
+    here_spares = none_spares (kept_pool old.here);
+    there_spares = none_spares (kept_pool old.there);
   }

@@ -9,6 +9,7 @@ use Rattle.zst_model.specs.declared.refusals.refusal.Refusal.TheVariants as refu
 use Rattle.zst_pool.specs.declared.pool.Pool.{Pool}
 use Rattle.zst_script.specs.declared.event.Event.{Event}
 use Rattle.zst_script.specs.declared.event.Side.TheVariants.{Here, There}
+use Rattle.zst_sessions.proofs.SparedBlocks.{none_spares}
 use Rattle.zst_sessions.specs.EngineSteps.{EngineFits, IsLaterPool, StandsFor, StepsEngine, kept_pool}
 use Rattle.zst_sessions.specs.Engines.{MayLeave}
 use Rattle.zst_sessions.specs.EventReplies.{answer_of}
@@ -47,4 +48,7 @@ module _ {D E : Type 0} {g : Ghosts D} {h : Ghosts E} (event : Event) (old : Eng
     time = refl;
     cause = λ is. absurd (no_fault is);
     open_still = open_still;
+    works = λ alive. (λ works. works, λ works. works);
+    here_spares = none_spares (kept_pool old.here);
+    there_spares = none_spares (kept_pool old.there);
   }

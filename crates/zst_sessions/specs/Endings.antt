@@ -35,5 +35,8 @@ pub data OpeningEnds (old new : Kept) (pool : Pool) (result : Result ℕ Refusal
 pub record OpensAgain (old new : Kept) (result : Result ℕ Refusal) : Type 0 where
   pub reads : OnlyReads old.disk new.disk
   pub ready : new.failed ≡ false → Ready new.disk new.state.body
+  pub works : ¬ (result ≡ Err refusals.DiskFault) → old.failed ≡ false → new.failed ≡ false
+  -- unless its disk had failed, or a read gave other bytes, its body is the one that was kept
+  pub body : old.failed ≡ false → new.disk.honest → new.state.body ≡ old.state.body
   pub ends : (running : Pool) → new.disk.honest → Reads true (kept_of running) old.disk.seen → (old.failed ≡ false → IsAtRest true old.disk old.state running)
       → OpeningEnds old new (kept_of running) result

@@ -1,5 +1,5 @@
 -- What the engine keeps, whatever the images are, and what an event does to it.
-use Rattle.std.specs.Prelude.{◌≡◌, ◌≢◌, ◌⊎◌, ◌≤◌, IsTrue, ℕ, true, false, List, length, find, filter, map, ◌++◌, All, AllPairs, Result, Err}
+use Rattle.std.specs.Prelude.{◌≡◌, ◌≢◌, ◌⊎◌, ◌≤◌, IsTrue, ℕ, true, false, List, [], length, find, filter, map, ◌++◌, All, AllPairs, Result, Err}
 use Rattle.zst_outside.specs.Causes.{Rose}
 use Rattle.zst_outside.specs.declared.disk.Disk.{Ghosts}
 use Rattle.zst_block.specs.Blocks.{KeepsBlocks}
@@ -15,6 +15,7 @@ use Rattle.zst_pool.specs.declared.pool.Pool.{Pool}
 use Rattle.zst_recv.specs.GoingOn.{IsRow}
 use Rattle.zst_recv.specs.Stages.{RecvFits, ask_of, is_live, stage_of}
 use Rattle.zst_script.specs.declared.event.Event.{Event}
+use Rattle.zst_script.specs.declared.event.Event.TheVariants as events
 use Rattle.zst_script.specs.declared.event.Side.{Side}
 use Rattle.zst_script.specs.declared.event.Side.TheVariants.{Here, There}
 use Rattle.zst_send.specs.Sends.{SendFits}
@@ -22,6 +23,7 @@ use Rattle.zst_sessions.specs.Engines.{Kept, ReceiveStandsOn, SendStandsOn, Stan
 use Rattle.zst_sessions.specs.EventReplies.{answer_of}
 use Rattle.zst_sessions.specs.World.{OpenReceive, OpenSend, World, at_side, is_side}
 use Rattle.zst_sessions.specs.declared.engine.Engine.{Engine}
+use Rattle.zst_sessions.specs.declared.engine.Room.{Room}
 use Rattle.zst_sessions.specs.declared.event_reply.EventReply.{EventReply}
 use Rattle.zst_sessions.specs.declared.open_sessions.OpenReceive as kept_receives
 use Rattle.zst_sessions.specs.declared.open_sessions.OpenSend as kept_sends
@@ -29,6 +31,12 @@ use Rattle.zst_sessions.specs.declared.open_sessions.OpenSend as kept_sends
 -- a piece that is taken at once has at most so many bytes
 abbrev pub piece_limit : ℕ
 piece_limit = 1048576
+
+-- the memory of an engine: no session is in it, and it has room for a piece
+pub record RoomFits (room : Room) : Type 0 where
+  pub sends : room.sends.items ≡ []
+  pub receives : room.receives.items ≡ []
+  pub piece : length room.piece.items ≡ piece_limit
 
 -- ---- two pools of which one changes
 
@@ -82,6 +90,13 @@ pub record KeepsSessions (own : List ℕ → Type 0) (old new : Kept) : Type 0 w
   pub lawful : IsLawful new.state.dir
   pub rows : (target : List ℕ) → ¬ (own target) → find (is_for target) new.state.dir.partials ≡ find (is_for target) old.state.dir.partials
 
+-- What an event leaves of the blocks of one pool, whatever the image is, unless the disk has failed by then. Each block still stands that stood in sectors which the
+-- latest body from before left not free. And each block that was there still is, over the sectors that the latest body then leaves free; of a pool that was opened again it
+-- is so where its disk hadn't failed, and no read gave other bytes.
+pub record SparesBlocks (again : Type 0) (old new : Kept) : Type 0 where
+  pub stood : new.failed ≡ false → KeepsBlocks old.disk.seen (free_by old.state.body) new.disk.seen (free_by old.state.body)
+  pub blocks : (again → (old.failed ≡ false) × new.disk.honest) → new.failed ≡ false → KeepsBlocks old.disk.seen (free_by old.state.body) new.disk.seen (free_by new.state.body)
+
 -- Sends stand on where a pool changes so.
 abbrev pub SendsStandBeside : Type 1
 SendsStandBeside =
@@ -122,10 +137,22 @@ module _ {D : Type 0} {g : Ghosts D} where
     pub same : new.io.disk.ghost_name ≡ old.io.disk.ghost_name
 
 module _ {D E : Type 0} {g : Ghosts D} {h : Ghosts E} where
+  -- No session is open on these pools yet, and it is this time.
+  pub record HasNoSessions (here : Pool D g) (there : Pool E h) (now : ℕ) (engine : Engine D E g h) : Type 0 where
+    pub here_is : engine.here ≡ here
+    pub there_is : engine.there ≡ there
+    pub time : engine.now ≡ now
+    pub sends : engine.sends.items ≡ []
+    pub receives : engine.receives.items ≡ []
+
   -- what the engine keeps is in its ranges, and it has room for a piece
   pub record EngineFits (engine : Engine D E g h) : Type 0 where
     pub sessions : SessionsFit (kept_pool engine.here) (kept_pool engine.there) engine.sends.items engine.receives.items
     pub room : length engine.room.items ≡ piece_limit
+
+  -- no disk of a pool failed from one moment to another
+  abbrev pub NoneFailed : Engine D E g h → Engine D E g h → Type 0
+  NoneFailed old new = (old.here.io.failed ≡ false → new.here.io.failed ≡ false) × (old.there.io.failed ≡ false → new.there.io.failed ≡ false)
 
   -- two worlds that read as pools by tight sets, and what is kept of their sessions
   abbrev pub StandsFor : Engine D E g h → World → Type 0
@@ -147,3 +174,7 @@ module _ {D E : Type 0} {g : Ghosts D} {h : Ghosts E} where
     -- E28 comes only where the count of faults of a disk rose in this event, and E31 only where a disk had failed before
     pub cause : result ≡ Err refusals.DiskFault → Rose (disk_of old.here.io).faults (disk_of new.here.io).faults ⊎ Rose (disk_of old.there.io).faults (disk_of new.there.io).faults
     pub open_still : old.here.io.failed ≡ false → old.there.io.failed ≡ false → ¬ (result ≡ Err refusals.Failed)
+    -- unless it answers E28 no disk fails in it, and what stands of the blocks of both pools
+    pub works : ¬ (result ≡ Err refusals.DiskFault) → NoneFailed old new
+    pub here_spares : SparesBlocks (event ≡ events.Reopen Here) (kept_pool old.here) (kept_pool new.here)
+    pub there_spares : SparesBlocks (event ≡ events.Reopen There) (kept_pool old.there) (kept_pool new.there)

@@ -14,7 +14,7 @@ use Rattle.zst_pool.specs.declared.fault.PoolFault.{PoolFault}
 use Rattle.zst_pool.specs.declared.fault.PoolFault.TheVariants as faults
 use Rattle.zst_pool.specs.declared.pool.Pool.{Pool}
 use Rattle.zst_script.specs.declared.event.Side.TheVariants.{Here, There}
-use Rattle.zst_sessions.specs.EngineSteps.{EngineFits, IsLaterPool, StandsFor, kept_pool}
+use Rattle.zst_sessions.specs.EngineSteps.{EngineFits, IsLaterPool, NoneFailed, StandsFor, kept_pool}
 use Rattle.zst_sessions.specs.Engines.{Kept, Stands}
 use Rattle.zst_sessions.specs.Replay.{Fails, image_of}
 use Rattle.zst_sessions.specs.World.{OpenSend, World, at_side, gone_on, next_piece, put_send, send_with}
@@ -82,7 +82,8 @@ module _ {D E : Type 0} {g : Ghosts D} {h : Ghosts E} where
     pub here_later : IsLaterPool old.here new.here
     pub there_later : IsLaterPool old.there new.there
     pub time : new.now ≡ old.now
-    -- no disk fails where bytes are given
+    -- no disk fails unless it answers so, nor where bytes are given
+    pub works : ¬ (result ≡ Err refusals.DiskFault) → NoneFailed old new
     pub marks : OnOk result ((new.here.io.failed ≡ old.here.io.failed) × (new.there.io.failed ≡ old.there.io.failed))
     pub cause : result ≡ Err refusals.DiskFault → Rose (disk_of old.here.io).faults (disk_of new.here.io).faults ⊎ Rose (disk_of old.there.io).faults (disk_of new.there.io).faults
     pub open_still : old.here.io.failed ≡ false → old.there.io.failed ≡ false → ¬ (result ≡ Err refusals.Failed)

@@ -86,6 +86,7 @@ fn step_unless_busy<D: Disk>(
     ensures later { IsLaterPool pool.old pool.new }
     ensures cause { result ≡ Err Refusal.DiskFault → Rose (disk_of pool.old.io).faults (disk_of pool.new.io).faults }
     ensures open_still { pool.old.io.failed ≡ false → ¬ (result ≡ Err Refusal.Failed) }
+    ensures works { ¬ (result ≡ Err Refusal.DiskFault) → pool.old.io.failed ≡ false → pool.new.io.failed ≡ false }
 {
     lost_disks_read::<D>();
     sessions_come_first();

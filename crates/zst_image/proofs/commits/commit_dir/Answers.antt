@@ -1,9 +1,9 @@
-use Rattle.std.proofs.Common.{◌≡◌, ℕ, ◌+◌, length, refl, ap, sym, ◌∙◌, subst, arith, rules, Bool}
+use Rattle.std.proofs.Common.{◌≡◌, ◌||◌, ℕ, ◌+◌, length, refl, ap, sym, ◌∙◌, subst, arith, rules, Bool, true, false}
 use Rattle.std.proofs.lemmas.Result.{err_from_is_err_and}
 use Rattle.zst_outside.specs.Images.{Leaves}
 use Rattle.zst_space.specs.FreeSectors.{FreeSectors, room}
 use Rattle.zst_block.specs.Blocks.{FitsDisk}
-use Rattle.zst_block.specs.IoCalls.{TakesAtMost}
+use Rattle.zst_block.specs.IoCalls.{IsBlockLength, TakesAtMost}
 use Rattle.zst_block.specs.IoStates.{IsHonest, blocks_of, disk_of}
 use Rattle.zst_block.proofs.BlocksLaws.{Has-fewer, Has-label, IsTaken-label, KeepsBlocks-fills}
 use Rattle.zst_model.specs.pools.Pool.{Pool}
@@ -13,7 +13,7 @@ use Rattle.zst_uber.specs.declared.uber.Uber.{Uber}
 use Rattle.zst_dir.specs.Spelling.{dir_bytes}
 use Rattle.zst_image.specs.Reads.{dir_sectors, free_by}
 use Rattle.zst_image.specs.Commits.{NextIs, OldOrNext, Ready}
-use Rattle.zst_image.proofs.CommitLemmas.{IsPrepared, next_in_range, prepared, free_by-fewer, commit-moments, commit-rests, over-refused, Ready-fills, Commits-over, Stays-from}
+use Rattle.zst_image.proofs.CommitLemmas.{IsPrepared, next_in_range, prepared, free_by-fewer, commit-moments, commit-rests, over-refused, Ready-fills, Commits-over, Stays-from, only_latest}
 use Rattle.zst_image.proofs.Causes.{never_damaged}
 use Rattle.zst_image.proofs.CommitSectors.{end_bounded, takes-refused}
 use Rattle.zst_image.proofs.SettledLabels.{latest-spared}
@@ -138,6 +138,7 @@ returns-in-Ok-clause-made g c =
             (works.takes.sectors ∙ c.requires.sectors) (subst (λ (n : ℕ). InRange n c.args.body.now) (sym size) c.requires.ready.in_range) fits c.in_ok-tree.ensures.there;
         next = λ told. event.following told;
         label = λ told. event.label;
+        only = λ told found is. only_latest new.size next found new.seen event.written.fits (event.written.stands told) is;
       };
     }
 
@@ -146,7 +147,7 @@ returns-in-Ok-clause-takes g c =
     let space = c.args.io.now.space in
     let same = sym c.commit_event.ensures.space in
     record {
-      takes = subst (λ (less : FreeSectors). TakesAtMost (dir_sectors (length (dir_bytes c.args.dir))) space less) same c.write_dir.ensures.works.takes;
+      takes = subst (λ (less : FreeSectors). TakesAtMost (dir_sectors (length (dir_bytes c.args.dir))) (IsBlockLength 16) space less) same c.write_dir.ensures.works.takes;
       one_leaf = λ small. subst (λ (less : FreeSectors). room less + 16 ≡ room space) same (c.in_ok-tree.ensures.one_leaf small);
       full = λ need largest is. absurd (cc (is));
     }
@@ -167,16 +168,22 @@ pub returns-in-Err-clause-takes : goal.returns-in-Err-clause-takes
 returns-in-Err-clause-takes g c =
     let space = c.args.io.now.space in
     record {
-      takes = subst (λ (less : FreeSectors). TakesAtMost (dir_sectors (length (dir_bytes c.args.dir))) space less) (sym c.commit_event.ensures.space) c.write_dir.ensures.works.takes;
+      takes = subst (λ (less : FreeSectors). TakesAtMost (dir_sectors (length (dir_bytes c.args.dir))) (IsBlockLength 16) space less) (sym c.commit_event.ensures.space) c.write_dir.ensures.works.takes;
       one_leaf = λ small. tt;
       full = λ need largest is. absurd (cc (is));
     }
-
-pub returns-in-Err-clause-refused : goal.returns-in-Err-clause-refused
-returns-in-Err-clause-refused g c = record { fills = λ apart. absurd (apart refl); refused = tt; stays = search rules }
 
 pub returns-in-Err-clause-disk : goal.returns-in-Err-clause-disk
 returns-in-Err-clause-disk g c =
     let works = c.write_dir.ensures.works in
     let writes = c.commit_event.ensures.commits.written.writes in
     record { size = writes.size ∙ works.fills.size; failed = search rules; told = λ whole. c.commit_event.ensures.counts ∙ works.told (never_damaged c.write_dir.result); honest = λ told. works.fills.honest (writes.honest told); same = c.commit_event.ensures.same ∙ works.same }
+
+-- a disk that failed isn't sound
+never_sound : (now before : Bool) → now ≡ (before || true) → now ≡ false → ⊥
+never_sound now true is sound = let both : true ≡ false = sym is ∙ sound in cc both
+never_sound now false is sound = let both : true ≡ false = sym is ∙ sound in cc both
+
+pub returns-in-Err-clause-refused : goal.returns-in-Err-clause-refused
+returns-in-Err-clause-refused g c =
+    record { fills = λ apart. absurd (apart refl); refused = tt; stays = λ sound. absurd (never_sound c.commit_event.new.io.failed c.args.io.now.failed (returns-in-Err-clause-disk g c).failed sound) }

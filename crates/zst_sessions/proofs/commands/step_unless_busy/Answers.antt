@@ -2,7 +2,9 @@ use Rattle.std.specs.Prelude.{Err}
 use Rattle.std.proofs.Common.{sym, subst, ◌∙◌}
 use Rattle.zst_model.specs.declared.refusals.refusal.Refusal.{Refusal}
 use Rattle.zst_model.specs.pools.Step.{stepped}
-use Rattle.zst_sessions.proofs.SteppedPools.{busy_stepped, step_keeps, step_stepped}
+use Rattle.zst_pool.specs.Faults.{is_disk_fault}
+use Rattle.zst_sessions.proofs.SparedBlocks.{still_works}
+use Rattle.zst_sessions.proofs.SteppedPools.{busy_stepped, fell_told, step_keeps, step_stepped}
 use Rattle.zst_sessions.specs.CommandSteps.{StepsPool}
 use Rattle.zst_sessions.specs.EngineSteps.{kept_pool}
 use Rattle.zst_sessions.specs.Moves.{Answer}
@@ -29,3 +31,8 @@ pub returns-clause-keeps : goal.returns-clause-keeps
 returns-clause-keeps g c =
     let did = c.step-answer.ensures in
     step_keeps c.args.pool.now c.step-answer.new.self c.args.now c.args.command c.args.holder c.step-answer.result did.did did.settles c.in_default.is c.datasets-lawful_still.ensures.lawful did.partials
+
+pub returns-clause-works : goal.returns-clause-works
+returns-clause-works g c = λ alive works.
+    let told = c.step-answer.result in
+    still_works c.args.pool.now.io.failed (is_disk_fault told) c.step-answer.new.self.io.failed c.step-answer.ensures.settles.failed (λ fell. alive (c.told.ensures ∙ fell_told told fell)) works

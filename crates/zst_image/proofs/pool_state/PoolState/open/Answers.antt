@@ -1,7 +1,8 @@
 use Rattle.std.specs.Prelude.{Err}
-use Rattle.std.proofs.Common.{rules, ◌≡◌, refl, sym, ◌∙◌, ap}
+use Rattle.std.proofs.Common.{rules, ◌≡◌, ℕ, refl, sym, ◌∙◌, ap, subst}
 use Rattle.std.proofs.lemmas.Result.{err_from_is_err_and}
-use Rattle.zst_uber.specs.Body.{body_bytes}
+use Rattle.zst_uber.specs.Body.{InRange, body_bytes}
+use Rattle.zst_uber.specs.Slots.{latest}
 use Rattle.zst_uber.specs.declared.fault.UberFault.{UberFault}
 use Rattle.zst_uber.specs.declared.fault.UberFault.TheVariants as ubers
 use Rattle.zst_uber.specs.declared.uber.Uber.{Uber}
@@ -92,7 +93,18 @@ pub returns-in_err-dir-clause-reads : goal.returns-in_err-dir-clause-reads
 returns-in_err-dir-clause-reads g c = search rules
 
 pub returns-clause-ready : goal.returns-clause-ready
-returns-clause-ready g c = search rules
+returns-clause-ready g c =
+    let old = g.D.Disk.state c.args.disk.now in
+    let first = c.latest.ensures.reads.reads in
+    let then = c.read_dir.ensures.reads.reads in
+    record {
+      in_range = search rules;
+      next = search rules;
+      label = search rules;
+      only = λ told found is.
+          sym (c.in_ok-body.ensures.there found (then.honest told)
+          (record { stands = sym (ap latest (then.seen ∙ first.seen)) ∙ is.stands; fits = is.fits; in_range = subst (λ (size : ℕ). InRange size found) (then.size ∙ first.size) is.in_range }));
+    }
 
 pub returns-clause-reads : goal.returns-clause-reads
 returns-clause-reads g c = search rules
