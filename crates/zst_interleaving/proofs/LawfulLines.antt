@@ -52,13 +52,13 @@ line_asks image keeps forces origin target words (said, is) =
     subst (λ (n : Name). IsAsk (receipt_of keeps forces origin n)) (sym is.1) (asks_of_kind keeps forces origin (kind_of_name is.0) is.0 named.0.1 named.1)
 
 pub lines_fit : LinesAreFit
-lines_fit world (events.Step side command) words is bytes = is.1.1.1.1
-lines_fit world (events.Receive side id ask) words is bytes = subst IsAsk (sym is.2.0) (line_asks _ ask.keep ask.force ask.origin is.1 _ is.2.3)
-lines_fit world (events.Token side dataset) words is bytes = tt
-lines_fit world (events.Send side id ask) words is bytes = tt
-lines_fit world (events.Resume side id dataset) words is bytes = tt
-lines_fit world (events.Pump sends receives count) words is bytes = bytes
-lines_fit world (events.Drop sends count) words is bytes = tt
-lines_fit world (events.Close id) words is bytes = tt
-lines_fit world (events.Cut id) words is bytes = tt
-lines_fit world (events.Reopen side) words is bytes = tt
+lines_fit (events.Step side command) words is = is.1.1.1.1
+lines_fit (events.Receive side id ask) words is = subst IsAsk (sym is.2.0) (line_asks _ ask.keep ask.force ask.origin is.1 _ is.2.3)
+lines_fit (events.Token side dataset) words is = tt
+lines_fit (events.Send side id ask) words is = tt
+lines_fit (events.Resume side id dataset) words is = tt
+lines_fit (events.Pump sends receives count) words is = tt
+lines_fit (events.Drop sends count) words is = tt
+lines_fit (events.Close id) words is = tt
+lines_fit (events.Cut id) words is = tt
+lines_fit (events.Reopen side) words is = tt

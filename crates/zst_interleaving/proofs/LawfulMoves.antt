@@ -2,7 +2,7 @@
 use Rattle.std.proofs.Common.{inl, inr, ◌≡◌, ◌⊎◌, ℕ, ◌^◌, ◌<◌, Bool, true, false, not, List, [], ◌∷◌, ◌++◌, All, length, nat_lt, map, Option, Some, None, Result, Ok, Err, refl, sym, subst, cond, ◌==◌}
 use Rattle.std.specs.Prelude.{filter}
 use Rattle.std.specs.Option.{option_map_or}
-use Rattle.std.proofs.lemmas.List.Elements.{All-append, All-contains, All-filter, All-map, All-nil, All-push, All-weaker}
+use Rattle.std.proofs.lemmas.List.Elements.{All-append, All-contains, All-drop, All-filter, All-head, All-map, All-nil, All-push, All-tail, All-take, All-weaker}
 use Rattle.zst_laws.specs.StepInvariants.{StepsKeepPools}
 use Rattle.zst_laws.proofs.pools.LawfulRest.{fewer_partials_are_lawful}
 use Rattle.zst_model.specs.declared.pools.command.Command.{Command}
@@ -14,22 +14,24 @@ use Rattle.zst_model.specs.pools.Step.{IsCommand, Stepped, stepped}
 use Rattle.zst_model.specs.sends.Headers.{Sent}
 use Rattle.zst_model.specs.sends.SendPlan.{send_plan, with_list}
 use Rattle.zst_model.proofs.FoundElements.{found_passes}
+use Rattle.zst_model.specs.states.State.{AreBytes}
 use Rattle.zst_plan.specs.declared.receive.RecvAsk.{RecvAsk}
-use Rattle.zst_record.specs.Laws.{AreBytes}
 use Rattle.zst_recv.specs.ReceiveSteps.{Stage, Waits, Lives, Ends, Fed, Goes, Stops, left_by, pool_of}
 use Rattle.zst_recv.specs.Tokens.{token_told}
 use Rattle.zst_send.specs.Openings.{rest_of}
+use Rattle.zst_send.specs.SentBytes.{RestsAreBytes, SentAreBytes}
+use Rattle.zst_send.specs.Sends.{begun_text}
 use Rattle.zst_script.specs.declared.event.Event.{Event}
 use Rattle.zst_script.specs.declared.event.Event.TheVariants as events
 use Rattle.zst_script.specs.declared.event.Side.{Side}
 use Rattle.zst_script.specs.declared.event.Side.TheVariants.{Here, There}
 use Rattle.zst_sessions.specs.Lawfulness.{IsWorld, MovesKeepWorlds}
 use Rattle.zst_sessions.specs.Moves.{Answer, Moved, cut_off, ended, fed_to, feeding, if_new_receive, in_the_way, moved, most_receives, most_sends, no_session, on_receive, on_send, opened_receive, opened_send, pumped, refuses, resumed, stepped_to, told_by}
-use Rattle.zst_sessions.specs.Replay.{AsDefined, DiskFails, Fails, FeedFails, FindsNoMemory, FindsNoRoom, LosesDisk, Moves, TakeFails, given_up, given_up_pump}
-use Rattle.zst_sessions.specs.World.{OpenPool, OpenReceive, OpenSend, World, at_side, gone_on, held_at, is_side, is_used, moved_to, next_piece, other_side, put_receive, put_send, put_side, receive_with, send_with, without_receive}
+use Rattle.zst_sessions.specs.Replay.{AsDefined, DiskFails, Fails, FeedFails, FindsNoMemory, FindsNoRoom, GoesOn, LosesDisk, Moves, Replay, Stays, TakeFails, given_up, given_up_pump}
+use Rattle.zst_sessions.specs.World.{OpenPool, OpenReceive, OpenSend, World, at_side, gone_on, held_at, is_side, is_used, left_of, moved_to, next_piece, other_side, put_receive, put_send, put_side, receive_with, send_with, without_receive}
 use Rattle.zst_token.specs.declared.token.Token.{Token}
 use Rattle.zst_interleaving.specs.LawfulFeeds.{FeedsKeepLawful, IsAsk}
-use Rattle.zst_interleaving.specs.LawfulWorlds.{FitsAlong, GoesOn, IsFitFor, IsLawfulWorld, MovesKeepLawful, OpenedAreLawful, ReplaysKeepLawful, Stays}
+use Rattle.zst_interleaving.specs.LawfulWorlds.{AreFit, IsFitFor, IsLawfulWorld, MovesKeepLawful, OpenedAreLawful, ReplaysKeepLawful}
 use Rattle.zst_interleaving.proofs.Beside.{stands_in}
 
 -- ---- worlds
@@ -38,9 +40,13 @@ use Rattle.zst_interleaving.proofs.Beside.{stands_in}
 abbrev HasRead : OpenReceive → Type 0
 HasRead receive = IsAsk receive.ask × AreBytes receive.text
 
+-- a send that is open is of bytes
+abbrev GivesBytes : OpenSend → Type 0
+GivesBytes send = AreBytes (begun_text send.sent send.start)
+
 -- two lawful pools as they were opened
 pub opened_lawful : OpenedAreLawful
-opened_lawful here there p q = record { here = p; there = q; receives = All-nil HasRead }
+opened_lawful here there p q = record { here = p; there = q; sends = All-nil GivesBytes; receives = All-nil HasRead }
 
 pub pool_at : (world : World) (side : Side) → IsLawfulWorld world → IsPool (at_side side world).pool
 pool_at world Here is = is.here
@@ -48,15 +54,15 @@ pool_at world There is = is.there
 
 -- with another lawful pool on a side
 with_pool : (world : World) (side : Side) (pool : OpenPool) → IsLawfulWorld world → IsPool pool.pool → IsLawfulWorld (put_side side pool world)
-with_pool world Here pool is lawful = record { here = lawful; there = is.there; receives = is.receives }
-with_pool world There pool is lawful = record { here = is.here; there = lawful; receives = is.receives }
+with_pool world Here pool is lawful = record { here = lawful; there = is.there; sends = is.sends; receives = is.receives }
+with_pool world There pool is lawful = record { here = is.here; there = lawful; sends = is.sends; receives = is.receives }
 
 -- with other sends, and with other receives
-with_sends : (world : World) (sends : List OpenSend) → IsLawfulWorld world → IsLawfulWorld (record world { sends = sends })
-with_sends world sends is = record { here = is.here; there = is.there; receives = is.receives }
+with_sends : (world : World) (sends : List OpenSend) → IsLawfulWorld world → All GivesBytes sends → IsLawfulWorld (record world { sends = sends })
+with_sends world sends is give = record { here = is.here; there = is.there; sends = give; receives = is.receives }
 
 with_receives : (world : World) (receives : List OpenReceive) → IsLawfulWorld world → All HasRead receives → IsLawfulWorld (record world { receives = receives })
-with_receives world receives is read = record { here = is.here; there = is.there; receives = read }
+with_receives world receives is read = record { here = is.here; there = is.there; sends = is.sends; receives = read }
 
 without_it : (world : World) (id : ℕ) → IsLawfulWorld world → IsLawfulWorld (without_receive id world)
 without_it world id is = with_receives world (filter (λ receive. not (receive.id == id)) world.receives) is (All-filter (λ receive. not (receive.id == id)) HasRead world.receives is.receives)
@@ -77,6 +83,28 @@ put_it world id text stage is bytes =
 has_read : (world : World) (id : ℕ) (receive : OpenReceive) → IsLawfulWorld world → receive_with id world ≡ Some receive → HasRead receive
 has_read world id receive is found = All-contains HasRead world.receives receive is.receives (found_passes (λ (r : OpenReceive). r.id == id) world.receives receive found).0
 
+-- what an open send gives, and what it gives next
+gives : (world : World) (id : ℕ) (send : OpenSend) → IsLawfulWorld world → send_with id world ≡ Some send → GivesBytes send
+gives world id send is found = All-contains GivesBytes world.sends send is.sends (found_passes (λ (s : OpenSend). s.id == id) world.sends send found).0
+
+piece_is_bytes : (count : ℕ) (send : OpenSend) → GivesBytes send → AreBytes (next_piece count send)
+piece_is_bytes count send give =
+    All-take (λ byte. byte < 2 ^ 8) count (left_of send) (All-drop (λ byte. byte < 2 ^ 8) send.given (begun_text send.sent send.start) give)
+
+-- a send goes on: it is of what it was of
+gone_keeps : (world : World) (count : ℕ) (send : OpenSend) → IsLawfulWorld world → GivesBytes send → IsLawfulWorld (put_send (gone_on count send) world)
+gone_keeps world count send is give =
+    with_sends world (map (λ one. cond (one.id == send.id) (gone_on count send) one) world.sends) is
+    (All-map GivesBytes (λ one. cond (one.id == send.id) (gone_on count send) one) world.sends
+    (All-weaker GivesBytes (λ one. GivesBytes (cond (one.id == send.id) (gone_on count send) one)) on world.sends is.sends))
+  where
+    on : (one : OpenSend) → GivesBytes one → GivesBytes (cond (one.id == send.id) (gone_on count send) one)
+    on one was = go (one.id == send.id)
+      where
+        go : (t : Bool) → GivesBytes (cond t (gone_on count send) one)
+        go true = give
+        go false = was
+
 -- a receive is cut
 left_at : (stage : Stage) (pool : Pool) → IsPool pool → IsPool (left_by stage pool)
 left_at Waits pool p = p
@@ -92,12 +120,12 @@ cut_keeps world receive is =
 ended_keeps : (world : World) (side : Side) → IsLawfulWorld world → IsLawfulWorld (ended side world)
 ended_keeps world side is =
     let fewer : World = record world { sends = filter (λ send. not (is_side send.side side)) world.sends; receives = filter (λ receive. not (is_side receive.side side)) world.receives } in
-    let others : IsLawfulWorld fewer = record { here = is.here; there = is.there; receives = All-filter (λ receive. not (is_side receive.side side)) HasRead world.receives is.receives } in
+    let others : IsLawfulWorld fewer = record { here = is.here; there = is.there; sends = All-filter (λ send. not (is_side send.side side)) GivesBytes world.sends is.sends; receives = All-filter (λ receive. not (is_side receive.side side)) HasRead world.receives is.receives } in
     with_pool fewer side _ others (fewer_partials_are_lawful (λ (q : Partial). q.keep) (at_side side world).pool (pool_at world side is))
 
 -- ---- one event
 
-module _ (steps : StepsKeepPools) (feeds : FeedsKeepLawful) (now : ℕ) (fits : now < 2 ^ 64) (world : World) (stands : IsWorld world) (is : IsLawfulWorld world) where
+module _ (steps : StepsKeepPools) (feeds : FeedsKeepLawful) (sent_bytes : SentAreBytes) (rest_bytes : RestsAreBytes) (now : ℕ) (fits : now < 2 ^ 64) (world : World) (stands : IsWorld world) (is : IsLawfulWorld world) where
   abbrev Keeps : Moved → Type 0
   Keeps done = IsLawfulWorld done.world
 
@@ -119,12 +147,17 @@ module _ (steps : StepsKeepPools) (feeds : FeedsKeepLawful) (now : ℕ) (fits : 
   told_keeps (Ok token) = is
   told_keeps (Err fault) = is
 
-  opened_keeps : (side : Side) (id : ℕ) (start : Option Point) (r : Result Sent PlanFault) → Keeps (opened_send side id start world r)
-  opened_keeps side id start (Ok sent) = either (is_used id world) _ _ (either_last (nat_lt (length world.sends) most_sends) _ _ (with_sends world _ is))
-  opened_keeps side id start (Err fault) = is
+  opened_keeps : (side : Side) (id : ℕ) (start : Option Point) (r : Result Sent PlanFault) → ((sent : Sent) → r ≡ Ok sent → AreBytes (begun_text sent start)) → Keeps (opened_send side id start world r)
+  opened_keeps side id start (Ok sent) bytes =
+      let send : OpenSend = record { id = id; side = side; sent = sent; start = start; given = 0 } in
+      either (is_used id world) _ _ (either_last (nat_lt (length world.sends) most_sends) _ _
+      (with_sends world (world.sends ++ send ∷ []) is (All-push GivesBytes world.sends send is.sends (bytes sent refl))))
+  opened_keeps side id start (Err fault) bytes = is
 
   resumed_keeps : (side : Side) (id : ℕ) (r : Result Token PlanFault) → Keeps (resumed side id world r)
-  resumed_keeps side id (Ok token) = opened_keeps side id (Some token.point) (with_list (rest_of token (at_side side world).pool))
+  resumed_keeps side id (Ok token) =
+      let pool = (at_side side world).pool in
+      opened_keeps side id (Some token.point) (with_list (rest_of token pool)) (λ sent e. rest_bytes token pool sent (pool_at world side is) e)
   resumed_keeps side id (Err fault) = is
 
   new_receive_keeps : (o : Option ℕ) (rest : Moved) → Keeps rest → Keeps (if_new_receive o world rest)
@@ -166,29 +199,32 @@ module _ (steps : StepsKeepPools) (feeds : FeedsKeepLawful) (now : ℕ) (fits : 
       let next : OpenPool = record { pool = pool; failed = (at_side receive.side gave).failed } in
       without_it (put_side receive.side next gave) receive.id (with_pool gave receive.side next was lawful)
 
-  pumped_keeps : (id count : ℕ) (send : OpenSend) (receive : OpenReceive) → receive_with id world ≡ Some receive → AreBytes (next_piece count send) → Keeps (pumped count send receive world)
-  pumped_keeps id count send receive found piece_bytes =
+  pumped_keeps : (id count : ℕ) (send : OpenSend) (receive : OpenReceive) → receive_with id world ≡ Some receive → GivesBytes send → Keeps (pumped count send receive world)
+  pumped_keeps id count send receive found give =
       let piece = next_piece count send in
       let pool = (at_side receive.side world).pool in
       let read = has_read world id receive is found in
-      let bytes : AreBytes (receive.text ++ piece) = All-append (λ byte. byte < 2 ^ 8) receive.text piece read.1 piece_bytes in
-      fed_keeps (put_send (gone_on count send) world) receive piece _ (feeding receive.ask receive.text piece receive.stage pool) (with_sends world _ is) bytes
+      let bytes : AreBytes (receive.text ++ piece) = All-append (λ byte. byte < 2 ^ 8) receive.text piece read.1 (piece_is_bytes count send give) in
+      fed_keeps (put_send (gone_on count send) world) receive piece _ (feeding receive.ask receive.text piece receive.stage pool) (gone_keeps world count send is give) bytes
       (feeds receive.ask receive.text piece receive.stage pool read.0 bytes (pool_at world receive.side is) (stands_in world id receive stands found))
 
-  moved_keeps : (event : Event) → IsFitFor world event → Keeps (moved now event world)
+  moved_keeps : (event : Event) → IsFitFor event → Keeps (moved now event world)
   unfolding moved
   moved_keeps (events.Step side command) words =
       either (at_side side world).failed _ _ (stepped_keeps side command (stepped (held_at side world) now command (at_side side world).pool) words refl)
   moved_keeps (events.Token side dataset) words = either (at_side side world).failed _ _ (told_keeps (token_told dataset (at_side side world).pool))
-  moved_keeps (events.Send side id ask) words = either (at_side side world).failed _ _ (opened_keeps side id None (with_list (send_plan ask (at_side side world).pool)))
+  moved_keeps (events.Send side id ask) words =
+      let pool = (at_side side world).pool in
+      either (at_side side world).failed _ _ (opened_keeps side id None (with_list (send_plan ask pool)) (λ sent e. sent_bytes ask pool sent (pool_at world side is) e))
   moved_keeps (events.Resume side id dataset) words =
       either (at_side side world).failed _ _ (either (at_side (other_side side) world).failed _ _ (resumed_keeps side id (token_told dataset (at_side (other_side side) world).pool)))
   moved_keeps (events.Receive side id ask) asks = either (at_side side world).failed _ _ (opened_receive_keeps side id ask asks)
-  moved_keeps (events.Pump sends receives count) bytes =
+  moved_keeps (events.Pump sends receives count) words =
       on_send_keeps sends _ (λ one sent. on_receive_keeps receives _ (λ receive found.
-      either (at_side one.side world).failed _ _ (either (at_side receive.side world).failed _ _ (pumped_keeps receives count one receive found (bytes one sent)))))
-  moved_keeps (events.Drop id count) words = on_send_keeps id _ (λ one sent. either (at_side one.side world).failed _ _ (with_sends world _ is))
-  moved_keeps (events.Close id) words = on_send_keeps id _ (λ one sent. with_sends world _ is)
+      either (at_side one.side world).failed _ _ (either (at_side receive.side world).failed _ _ (pumped_keeps receives count one receive found (gives world sends one is sent)))))
+  moved_keeps (events.Drop id count) words = on_send_keeps id _ (λ one sent. either (at_side one.side world).failed _ _ (gone_keeps world count one is (gives world id one is sent)))
+  moved_keeps (events.Close id) words =
+      on_send_keeps id _ (λ one sent. with_sends world (filter (λ send. not (send.id == id)) world.sends) is (All-filter (λ send. not (send.id == id)) GivesBytes world.sends is.sends))
   moved_keeps (events.Cut id) words = on_receive_keeps id _ (λ receive found. cut_keeps world receive is)
   moved_keeps (events.Reopen side) words =
       let left = ended_keeps world side is in
@@ -202,12 +238,12 @@ module _ (steps : StepsKeepPools) (feeds : FeedsKeepLawful) (now : ℕ) (fits : 
   given_up_keeps (events.Send side id ask) = is
   given_up_keeps (events.Resume side id dataset) = is
   given_up_keeps (events.Receive side id ask) = is
-  given_up_keeps (events.Pump sends receives count) = go (send_with sends world) (receive_with receives world)
+  given_up_keeps (events.Pump sends receives count) = go (send_with sends world) refl (receive_with receives world)
     where
-      go : (o : Option OpenSend) (r : Option OpenReceive) → IsLawfulWorld (given_up_pump count o r world)
-      go None r = is
-      go (Some one) None = is
-      go (Some one) (Some receive) = cut_keeps (put_send (gone_on count one) world) receive (with_sends world _ is)
+      go : (o : Option OpenSend) → send_with sends world ≡ o → (r : Option OpenReceive) → IsLawfulWorld (given_up_pump count o r world)
+      go None found r = is
+      go (Some one) found None = is
+      go (Some one) found (Some receive) = cut_keeps (put_send (gone_on count one) world) receive (gone_keeps world count one is (gives world sends one is found))
   given_up_keeps (events.Drop id count) = is
   given_up_keeps (events.Close id) = is
   given_up_keeps (events.Cut id) = is
@@ -225,13 +261,13 @@ module _ (steps : StepsKeepPools) (feeds : FeedsKeepLawful) (now : ℕ) (fits : 
   take_keeps : (id : ℕ) (next : World) → TakeFails id world next → IsLawfulWorld next
   take_keeps id next fails = fails_keep fails.0.side world world next is is fails.2
 
-  pump_keeps : (sends receives count : ℕ) (next : World) → IsFitFor world (events.Pump sends receives count) → TakeFails sends world next ⊎ FeedFails receives now (events.Pump sends receives count) world next → IsLawfulWorld next
+  pump_keeps : (sends receives count : ℕ) (next : World) → IsFitFor (events.Pump sends receives count) → TakeFails sends world next ⊎ FeedFails receives now (events.Pump sends receives count) world next → IsLawfulWorld next
   pump_keeps sends receives count next words (inl fails) = take_keeps sends next fails
   pump_keeps sends receives count next words (inr fails) =
       fails_keep fails.0.side (given_up (events.Pump sends receives count) world) (moved now (events.Pump sends receives count) world).world next
       (given_up_keeps (events.Pump sends receives count)) (moved_keeps (events.Pump sends receives count) words) fails.2
 
-  lost_keeps : (event : Event) (next : World) → IsFitFor world event → DiskFails now event world next → IsLawfulWorld next
+  lost_keeps : (event : Event) (next : World) → IsFitFor event → DiskFails now event world next → IsLawfulWorld next
   lost_keeps (events.Step side command) next words fails =
       fails_keep side world (moved now (events.Step side command) world).world next is (moved_keeps (events.Step side command) words) fails
   lost_keeps (events.Token side dataset) next words fails = absurd fails
@@ -244,21 +280,23 @@ module _ (steps : StepsKeepPools) (feeds : FeedsKeepLawful) (now : ℕ) (fits : 
   lost_keeps (events.Cut id) next words fails = absurd fails
   lost_keeps (events.Reopen side) next words fails = let left = ended_keeps world side is in fails_keep side (ended side world) (ended side world) next left left fails
 
-  event_keeps : (event : Event) (answer : Answer) (next : World) → IsFitFor world event → Moves now world event answer next → IsLawfulWorld next
+  event_keeps : (event : Event) (answer : Answer) (next : World) → IsFitFor event → Moves now world event answer next → IsLawfulWorld next
   event_keeps event answer next words (AsDefined told left) = subst IsLawfulWorld (sym left) (moved_keeps event words)
   event_keeps event answer next words (FindsNoRoom need largest told less may left) = subst IsLawfulWorld (sym left) (given_up_keeps event)
   event_keeps event answer next words (FindsNoMemory told left) = subst IsLawfulWorld (sym left) (given_up_keeps event)
   event_keeps event answer next words (LosesDisk told fails) = lost_keeps event next words fails
 
-pub moves_lawful : StepsKeepPools → FeedsKeepLawful → MovesKeepLawful
-moves_lawful steps feeds now world next event answer fits stands words moves is = event_keeps steps feeds now fits world stands is event answer next words moves
+pub moves_lawful : StepsKeepPools → FeedsKeepLawful → SentAreBytes → RestsAreBytes → MovesKeepLawful
+moves_lawful steps feeds sent_bytes rest_bytes now world next event answer fits stands words moves is =
+    event_keeps steps feeds sent_bytes rest_bytes now fits world stands is event answer next words moves
 
 -- ---- a replay
 
-along : MovesKeepWorlds → MovesKeepLawful → (now : ℕ) → now < 2 ^ 64 → (world last : World) (run : List Event) (answers : List Answer) → FitsAlong now world run answers last → IsWorld world → IsLawfulWorld world → IsLawfulWorld last
-along worlds moves now fits _ _ _ _ (Stays world) stands is = is
-along worlds moves now fits _ _ _ _ (GoesOn world next last event answer run answers words goes rest) stands is =
-    along worlds moves now fits next last run answers rest (worlds now world next event answer goes stands) (moves now world next event answer fits stands words goes is)
+along : MovesKeepWorlds → MovesKeepLawful → (now : ℕ) → now < 2 ^ 64 → (world last : World) (run : List Event) (answers : List Answer) → Replay now world run answers last → AreFit run → IsWorld world → IsLawfulWorld world → IsLawfulWorld last
+along worlds moves now fits _ _ _ _ (Stays world) words stands is = is
+along worlds moves now fits _ _ _ _ (GoesOn world next last event answer run answers goes rest) words stands is =
+    along worlds moves now fits next last run answers rest (All-tail IsFitFor event run words) (worlds now world next event answer goes stands)
+    (moves now world next event answer fits stands (All-head IsFitFor event run words) goes is)
 
 pub replays_lawful : MovesKeepWorlds → MovesKeepLawful → ReplaysKeepLawful
-replays_lawful worlds moves now world last run answers fits stands is fit = along worlds moves now fits world last run answers fit stands is
+replays_lawful worlds moves now world last run answers fits stands is words on = along worlds moves now fits world last run answers on words stands is

@@ -1,8 +1,8 @@
 -- What a receive has under way fits its lawful pool, whatever records of bytes it takes.
-use Rattle.std.proofs.Common.{inl, inr, ◌≡◌, ℕ, ◌+◌, ◌==◌, Bool, true, false, not, ◌&&◌, List, [], ◌∷◌, ◌++◌, length, take, Option, Result, Ok, Err, All, refl, sym, ap, ◌∙◌, subst, cond, arith, length-take, nat_lt}
+use Rattle.std.proofs.Common.{inl, inr, ◌≡◌, ℕ, ◌+◌, ◌^◌, ◌<◌, ◌==◌, Bool, true, false, not, ◌&&◌, List, [], ◌∷◌, ◌++◌, length, take, Option, Result, Ok, Err, All, refl, sym, ap, ◌∙◌, subst, cond, arith, length-take, nat_lt}
 use Rattle.std.specs.Prelude.{bytes_eq}
 use Rattle.std.proofs.lemmas.Bool.Decides.{nat_tests}
-use Rattle.std.proofs.lemmas.List.Elements.{All-cons, All-drop, All-head, All-nil, All-tail}
+use Rattle.std.proofs.lemmas.List.Elements.{All-cons, All-drop, All-head, All-nil, All-tail, All-take}
 use Rattle.zst_laws.specs.ReceivedRecords.{IsRanged, ReceivedIsState}
 use Rattle.zst_laws.proofs.pools.LawfulRest.{fewer_partials_are_lawful}
 use Rattle.zst_model.specs.declared.refusals.faults.Quantity.TheVariants as quantities
@@ -17,7 +17,7 @@ use Rattle.zst_model.specs.sends.Points.{point_of}
 use Rattle.zst_model.specs.sends.ReceivedRecords.{received}
 use Rattle.zst_model.specs.states.AppliedItems.{◌>>=◌}
 use Rattle.zst_model.specs.states.DatedState.{DatedState}
-use Rattle.zst_model.specs.states.State.{IsState, is_number, is_spill_size}
+use Rattle.zst_model.specs.states.State.{AreBytes, IsState, is_number, is_spill_size}
 use Rattle.zst_model.proofs.Results.{bind_ok, ok_parts}
 use Rattle.zst_apply.specs.AppliedRecords.{received_all}
 use Rattle.zst_plan.specs.RecvPlan.{recv_plan}
@@ -56,27 +56,27 @@ freed k offset count is = go (count == to_end)
     go true = is
     go false = is
 
-put_ranged : (k kind bonus_kind block_size bonus_len max_block to : ℕ) (payload : List ℕ) (keep : Bool) → ObjectFits k kind bonus_kind block_size bonus_len max_block to
+put_ranged : (k kind bonus_kind block_size bonus_len max_block to : ℕ) (payload : List ℕ) (keep : Bool) → ObjectFits k kind bonus_kind block_size bonus_len max_block to → AreBytes payload
     → IsRanged (At k (Put (record { type_ = kind; bonus_type = bonus_kind; block_size = block_size }) (take bonus_len payload) keep max_block))
-put_ranged k kind bonus_kind block_size bonus_len max_block to payload keep fits = (
+put_ranged k kind bonus_kind block_size bonus_len max_block to payload keep fits bytes = (
   as_number k fits.object_fits,
   record { some_type = let there = fits.kind_there in grind (arith, nat_tests); type_fits = fits.kind_fits; bonus_type_fits = fits.bonus_kind_fits; size = fits.size },
-  let taken = length-take bonus_len payload in let most = fits.bonus_len_fits in omega (arith, taken, most),
+  (let taken = length-take bonus_len payload in let most = fits.bonus_len_fits in omega (arith, taken, most), All-take (λ byte. byte < 2 ^ 8) bonus_len payload bytes),
 )
 
--- those of a record that passed its checks are of numbers and lengths that objects may have
-ranged : (features flags : ℕ) (payload : List ℕ) (head : Head) → Fits features (bare_head head) → length payload ≡ payload_len head → All IsRanged (items_by flags payload head)
-ranged features flags payload (heads.Begin header len) fits long = All-nil IsRanged
-ranged features flags payload (heads.Object k kind bonus_kind block_size bonus_len max_block to) fits long =
+-- those of a record that passed its checks are of bytes, and of numbers and lengths that objects may have
+ranged : (features flags : ℕ) (payload : List ℕ) (head : Head) → Fits features (bare_head head) → length payload ≡ payload_len head → AreBytes payload → All IsRanged (items_by flags payload head)
+ranged features flags payload (heads.Begin header len) fits long bytes = All-nil IsRanged
+ranged features flags payload (heads.Object k kind bonus_kind block_size bonus_len max_block to) fits long bytes =
     one_item (At k (Put (record { type_ = kind; bonus_type = bonus_kind; block_size = block_size }) (take bonus_len payload) (keeps_spill flags) max_block))
-    (put_ranged k kind bonus_kind block_size bonus_len max_block to payload (keeps_spill flags) fits)
-ranged features flags payload (heads.FreeObjects first count to) fits long = one_item (FreeObjects first count) tt
-ranged features flags payload (heads.Write k kind offset size to) fits long = one_item (At k (Write offset kind payload)) (as_number k fits.object_fits)
-ranged features flags payload (heads.Free k offset count to) fits long = one_item (At k (free_change offset count)) (freed k offset count (as_number k fits.object_fits))
-ranged features flags payload (heads.End sums to) fits long = All-nil IsRanged
-ranged features flags payload (heads.Spill k size to) fits long =
-    one_item (At k (Spill payload)) (as_number k fits.object_fits, ap is_spill_size long ∙ fits.size_fits)
-ranged features flags payload (heads.Redact k offset count to) fits long = one_item (At k (Redact offset count)) (as_number k fits.object_fits)
+    (put_ranged k kind bonus_kind block_size bonus_len max_block to payload (keeps_spill flags) fits bytes)
+ranged features flags payload (heads.FreeObjects first count to) fits long bytes = one_item (FreeObjects first count) tt
+ranged features flags payload (heads.Write k kind offset size to) fits long bytes = one_item (At k (Write offset kind payload)) (as_number k fits.object_fits, bytes)
+ranged features flags payload (heads.Free k offset count to) fits long bytes = one_item (At k (free_change offset count)) (freed k offset count (as_number k fits.object_fits))
+ranged features flags payload (heads.End sums to) fits long bytes = All-nil IsRanged
+ranged features flags payload (heads.Spill k size to) fits long bytes =
+    one_item (At k (Spill payload)) (as_number k fits.object_fits, (ap is_spill_size long ∙ fits.size_fits, bytes))
+ranged features flags payload (heads.Redact k offset count to) fits long bytes = one_item (At k (Redact offset count)) (as_number k fits.object_fits)
 
 -- so what they make of a lawful state is lawful
 all_lawful : ReceivedIsState → (number index : ℕ) (items : List Item) (snap after : DatedState) → All IsRanged items → IsState snap.state → received_all number index items snap ≡ Ok after → IsState after.state
@@ -118,7 +118,7 @@ module _ (law : ReceivedIsState) (ask : RecvAsk) (asks : IsAsk ask) (pool : Pool
       let made : DatedState → Result Partial Refusal = λ objects. Ok (record partial { objects = objects; point = point_of partial.point items }) in
       let found = bind_ok (moved_by (pool.number + 1) c flags partial) (λ moved. Ok (with_applied flags moved batch)) after e in
       let went = bind_ok (received_all (pool.number + 1) c.index items partial.objects) made found.0 found.1 in
-      let lawful = all_lawful law (pool.number + 1) c.index items partial.objects went.0 (ranged features flags c.payload c.head passed.fits passed.len) is.fits.lawful went.1 in
+      let lawful = all_lawful law (pool.number + 1) c.index items partial.objects went.0 (ranged features flags c.payload c.head passed.fits passed.len passed.bytes) is.fits.lawful went.1 in
       let next = record partial { objects = went.0; point = point_of partial.point items } in
       let fits : IsOwn ask pool next = record {
         own = is.own;

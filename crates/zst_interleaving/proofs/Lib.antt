@@ -6,9 +6,13 @@ mod Pumps
 mod Runs
 mod OtherEvents
 mod RefusedBegins
+mod RefusedPumps
 mod LawfulCommits
 mod LawfulPlans
 mod LawfulRecords
 mod LawfulMoves
+mod FitRuns
 mod LawfulRuns
 mod LawfulLines
+mod SplitReplays
+mod FedReplays

@@ -1,12 +1,16 @@
 -- The laws of a receive on its course while events move its world, whatever sessions they are of and however they are answered.
-use Rattle.std.specs.Prelude.{ℕ, ◌≡◌, ◌⊎◌, ◌++◌, List, [], ◌∷◌, Some, Ok, Option}
+use Rattle.std.specs.Prelude.{ℕ, ◌≡◌, ◌⊎◌, ◌++◌, List, [], ◌∷◌, Some, Ok, Err, Option}
+use Rattle.zst_model.specs.declared.refusals.plan_fault.PlanFault.{PlanFault}
 use Rattle.zst_model.specs.declared.sends.header.Point.{Point}
 use Rattle.zst_model.specs.pools.Pool.{IsPool, Partial, Pool}
 use Rattle.zst_model.specs.sends.Headers.{Sent, header_of, sent_view}
+use Rattle.zst_plan.specs.RecvPlan.{recv_plan}
 use Rattle.zst_plan.specs.declared.receive.RecvAsk.{RecvAsk}
+use Rattle.zst_stream.specs.Reading.{reading}
+use Rattle.zst_send.specs.Sends.{begun}
 use Rattle.zst_recv.specs.ReceiveSteps.{Ends, Goes, Waits}
-use Rattle.zst_replication.specs.Outcomes.{Course, HasOneMore, Progress}
-use Rattle.zst_replication.specs.Replicas.{sent_state}
+use Rattle.zst_replication.specs.Outcomes.{Course, HasNothing, HasOneMore, Progress}
+use Rattle.zst_replication.specs.Replicas.{IsSendable, sent_state}
 use Rattle.zst_script.specs.declared.event.Event.{Event}
 use Rattle.zst_script.specs.declared.event.Event.TheVariants as events
 use Rattle.zst_script.specs.declared.event.Side.{Side}
@@ -72,6 +76,17 @@ PumpsComplete =
     → MayBegin sent also start receive.ask course (at_side receive.side world).pool (receive.text ++ next_piece count send) receive.stage → IsFit sent course.state
     → feeding receive.ask receive.text (next_piece count send) receive.stage (at_side receive.side world).pool ≡ Goes pool (Ends last)
     → HasOneMore (at_side receive.side world).pool (at_side receive.side next).pool receive.ask.target course.component course.base (header_of sent) (sent_state sent)
+
+-- A pump into a receive that waits, whose BEGIN its plan refuses: however it is answered, the image of its pool keeps nothing of the receive, and so it is of what
+-- the pump is to make.
+abbrev pub RefusedPumpsLeaveNothing : Type 0
+RefusedPumpsLeaveNothing =
+    (now : ℕ) (world next : World) (sends receives count : ℕ) (answer : Answer) (send : OpenSend) (receive : OpenReceive) (also : Sent) (start : Option Point) (fault : PlanFault)
+    → Moves now world (events.Pump sends receives count) answer next → send_with sends world ≡ Some send → receive_with receives world ≡ Some receive
+    → receive.stage ≡ Waits → (reading receive.text).covered ≡ [] → IsSendable also start → IsFrontOf (receive.text ++ next_piece count send) also start
+    → recv_plan receive.ask (begun also start) (at_side receive.side world).pool ≡ Err fault
+    → HasNothing receive.ask (image_of receive.side world) (image_of receive.side next)
+    × HasNothing receive.ask (image_of receive.side world) (image_of receive.side (moved now (events.Pump sends receives count) world).world)
 
 -- ---- runs
 

@@ -2,8 +2,8 @@
 use Rattle.std.specs.Prelude.{ℕ, ◌++◌, List, IfSome}
 use Rattle.zst_names.specs.Names.{IsDataset, IsSnapshot}
 use Rattle.zst_model.specs.pools.Pool.{Pool, IsPool}
+use Rattle.zst_model.specs.states.State.{AreBytes}
 use Rattle.zst_plan.specs.declared.receive.RecvAsk.{RecvAsk}
-use Rattle.zst_record.specs.Laws.{AreBytes}
 use Rattle.zst_recv.specs.ReceiveSteps.{Stage, pool_of}
 use Rattle.zst_sessions.specs.Lawfulness.{IsStanding}
 use Rattle.zst_sessions.specs.Moves.{feeding}

@@ -14,31 +14,31 @@ use Rattle.zst_sessions.specs.Replay.{Moves, image_of}
 use Rattle.zst_sessions.specs.World.{OpenReceive, OpenSend, World, at_side, next_piece, receive_with, send_with}
 use Rattle.zst_interleaving.specs.Courses.{IsFit, IsFrontOf, MayBegin}
 use Rattle.zst_interleaving.specs.Events.{IsFedAlong, IsOpened}
-use Rattle.zst_interleaving.specs.LawfulWorlds.{IsFitFor, IsLawfulWorld}
+use Rattle.zst_interleaving.specs.LawfulWorlds.{AreFit, IsLawfulWorld}
 
--- A run of events as lines say them, along which a receive is fed with one stream alone: each event leaves it as it stood, or pumps into it what comes next of
--- that stream; and where a piece covers BEGIN, that is planned on this course in the pool that it finds. Of that pool nothing else is asked.
+-- A run of events along which a receive is fed with one stream alone: each event leaves it as it stood, or pumps into it what comes next of that stream; and
+-- where a piece covers BEGIN, that is planned on this course in the pool that it finds. Of that pool nothing else is asked.
 pub data IsFedBy (sent also : Sent) (start : Option Point) (course : Course) (now id : ℕ) : World → OpenReceive → List Event → List Answer → World → OpenReceive → Type 0 where
   Opens : (world : World) (receive : OpenReceive)
       → receive_with id world ≡ Some receive
       → IsFedBy sent also start course now id world receive [] [] world receive
   Passes : (world next last : World) (receive after : OpenReceive) (event : Event) (answer : Answer) (more : List Event) (told : List Answer)
-      → IsFitFor world event → receive_with id world ≡ Some receive → Moves now world event answer next
+      → receive_with id world ≡ Some receive → Moves now world event answer next
       → IsFedBy sent also start course now id next receive more told last after
       → IsFedBy sent also start course now id world receive (event ∷ more) (answer ∷ told) last after
   Feeds : (world next last : World) (receive further after : OpenReceive) (sends count : ℕ) (send : OpenSend) (answer : Answer) (more : List Event) (told : List Answer)
-      → IsFitFor world (events.Pump sends id count) → receive_with id world ≡ Some receive → send_with sends world ≡ Some send
+      → receive_with id world ≡ Some receive → send_with sends world ≡ Some send
       → IsFrontOf (receive.text ++ next_piece count send) also start
       → MayBegin sent also start receive.ask course (at_side receive.side world).pool (receive.text ++ next_piece count send) receive.stage
       → Moves now world (events.Pump sends id count) answer next
       → IsFedBy sent also start course now id next further more told last after
       → IsFedBy sent also start course now id world receive (events.Pump sends id count ∷ more) (answer ∷ told) last after
 
--- Where both pools were lawful when it began, each pump of such a run finds a lawful pool, and both are lawful behind it.
+-- Where both pools were lawful when it began and its events are fit, each pump of such a run finds a lawful pool, and both are lawful behind it.
 abbrev pub RunsFindLawful : Type 0
 RunsFindLawful =
     (sent also : Sent) (start : Option Point) (course : Course) (now id : ℕ) (world last : World) (receive after : OpenReceive) (run : List Event) (answers : List Answer)
-    → now < 2 ^ 64 → IsWorld world → IsLawfulWorld world → IsFedBy sent also start course now id world receive run answers last after
+    → now < 2 ^ 64 → IsWorld world → IsLawfulWorld world → AreFit run → IsFedBy sent also start course now id world receive run answers last after
     → IsFedAlong sent also start course now id world receive run answers last after × IsLawfulWorld last
 
 -- So however a further pump of that stream is answered, what the image keeps after it is in the receive's progress from what it kept before, and so it is of
@@ -47,7 +47,7 @@ abbrev pub LawfulRunsAreProgress : Type 0
 LawfulRunsAreProgress =
     (sent also : Sent) (start : Option Point) (course : Course) (now id : ℕ) (world last next : World) (receive after : OpenReceive) (run : List Event) (answers : List Answer)
     (sends count : ℕ) (send : OpenSend) (answer : Answer)
-    → now < 2 ^ 64 → IsWorld world → IsLawfulWorld world → IsOpened receive → IsFedBy sent also start course now id world receive run answers last after
+    → now < 2 ^ 64 → IsWorld world → IsLawfulWorld world → AreFit run → IsOpened receive → IsFedBy sent also start course now id world receive run answers last after
     → send_with sends last ≡ Some send → IsFrontOf (after.text ++ next_piece count send) also start
     → MayBegin sent also start after.ask course (at_side after.side last).pool (after.text ++ next_piece count send) after.stage
     → Moves now last (events.Pump sends id count) answer next
@@ -59,7 +59,7 @@ abbrev pub LawfulRunsComplete : Type 0
 LawfulRunsComplete =
     (sent also : Sent) (start : Option Point) (course : Course) (now id : ℕ) (world last next : World) (receive after : OpenReceive) (run : List Event) (answers : List Answer)
     (sends count : ℕ) (send : OpenSend) (lines : List (List ℕ)) (pool : Pool) (partial : Partial)
-    → now < 2 ^ 64 → IsWorld world → IsLawfulWorld world → IsOpened receive → IsFedBy sent also start course now id world receive run answers last after
+    → now < 2 ^ 64 → IsWorld world → IsLawfulWorld world → AreFit run → IsOpened receive → IsFedBy sent also start course now id world receive run answers last after
     → send_with sends last ≡ Some send → IsFrontOf (after.text ++ next_piece count send) also start
     → MayBegin sent also start after.ask course (at_side after.side last).pool (after.text ++ next_piece count send) after.stage → IsFit sent course.state
     → Moves now last (events.Pump sends id count) (Ok lines) next

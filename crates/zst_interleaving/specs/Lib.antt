@@ -4,3 +4,4 @@ pub mod Events
 pub mod LawfulFeeds
 pub mod LawfulWorlds
 pub mod LawfulRuns
+pub mod FedReplays

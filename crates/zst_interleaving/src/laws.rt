@@ -1,4 +1,5 @@
-ghost use Rattle.zst_interleaving.specs.Events.{EventsLeaveCourses, OpenedAreOnCourse, PumpsAreProgress, PumpsComplete, PumpsStayOnCourse, ReceivesStay, RunsAreProgress, RunsComplete, RunsStayOnCourse};
+ghost use Rattle.zst_interleaving.specs.Events.{EventsLeaveCourses, OpenedAreOnCourse, PumpsAreProgress, PumpsComplete, PumpsStayOnCourse, ReceivesStay, RefusedPumpsLeaveNothing, RunsAreProgress, RunsComplete, RunsStayOnCourse};
+ghost use Rattle.zst_interleaving.specs.FedReplays.{ReplayedPumpsAreProgress, ReplayedPumpsComplete, ReplaysSplit, ScriptsAreFit, WaysAreInEvents};
 ghost use Rattle.zst_interleaving.specs.Feeds.{FeedsAreProgress, FeedsComplete, FeedsStayOnCourse, FitFeedsComplete, FreshAreFit, RefusedLeaveNothing};
 ghost use Rattle.zst_interleaving.specs.LawfulFeeds.{FeedsKeepLawful};
 ghost use Rattle.zst_interleaving.specs.LawfulRuns.{LawfulRunsAreProgress, LawfulRunsComplete, RunsFindLawful};
@@ -99,6 +100,13 @@ pub fn refused_leave_nothing()
     grounds_stand();
 }
 
+/// However a pump is answered whose BEGIN is refused in the pool that it finds, the image keeps nothing of its receive.
+pub fn refused_pumps_leave_nothing()
+    ensures { RefusedPumpsLeaveNothing }
+{
+    refused_leave_nothing();
+}
+
 /// A feed of bytes leaves a lawful pool lawful, however it ends: where it goes on, where it comes to END, and where it is refused.
 pub fn feeds_keep_lawful()
     ensures { FeedsKeepLawful }
@@ -113,13 +121,14 @@ pub fn lines_are_fit()
 {}
 
 /// Two lawful pools that are opened are a lawful world. Whatever an event is and however it is answered, it leaves a lawful world lawful,
-/// and so does a replay of events: the pool that each pump of it finds is lawful.
+/// and so does a replay of events: the pool that each pump of it finds is lawful, and the piece that it takes is bytes.
 pub fn replays_keep_lawful()
     ensures opened { OpenedAreLawful }
     ensures moves { MovesKeepLawful }
     ensures replays { ReplaysKeepLawful }
 {
     zst_laws::steps_keep_pools();
+    zst_send::sent_are_bytes();
     zst_sessions::moves_keep_worlds();
     feeds_keep_lawful();
 }
@@ -134,4 +143,29 @@ pub fn every_lawful_feed_is_progress()
     zst_sessions::moves_keep_worlds();
     replays_keep_lawful();
     every_feed_is_progress();
+}
+
+/// A replay splits at each of its events, and what is on its way is on the way of one of them.
+pub fn replays_split()
+    ensures split { ReplaysSplit }
+    ensures ways { WaysAreInEvents }
+{}
+
+/// The events that the lines of a script say are fit for a replay of lawful pools.
+pub fn scripts_are_fit()
+    ensures { ScriptsAreFit }
+{
+    lines_are_fit();
+}
+
+/// Of every replay of events that lines say, from two lawful pools on: at each pump into a receive that the events before it opened and
+/// fed with one stream alone, what the image keeps, behind it and at each of its moments, is in the receive's progress from what it kept
+/// before. Where the pump comes to END, the snapshot that was sent is there.
+pub fn every_replayed_feed_is_progress()
+    ensures progress { ReplayedPumpsAreProgress }
+    ensures complete { ReplayedPumpsComplete }
+{
+    zst_sessions::moves_keep_worlds();
+    replays_keep_lawful();
+    every_lawful_feed_is_progress();
 }
