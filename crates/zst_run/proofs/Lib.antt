@@ -42,4 +42,6 @@ pub mod ReplayLines
 pub mod ReplayScripts
 pub mod ReplayEnds
 pub mod ReplayImages
+pub mod ReplayedEvents
+pub mod InterleavedFeeds
 mod EventRanges

@@ -6,6 +6,7 @@ use Rattle.zst_outside.specs.Causes.{Rose, Rose-earlier}
 use Rattle.zst_outside.specs.Images.{DiskState, Leaves, Leaves-then, Leaves-weaker, OnlyReads, OnlyReads-none}
 use Rattle.zst_outside.specs.States.{SourceState, SinkState}
 use Rattle.zst_outside.specs.declared.disk.Disk.{Ghosts}
+use Rattle.zst_block.specs.Blocks.{Has}
 use Rattle.zst_block.specs.IoStates.{disk_of}
 use Rattle.zst_uber.specs.DiskCalls as disk_calls
 use Rattle.zst_uber.specs.declared.uber.Uber.{Uber}
@@ -13,7 +14,7 @@ use Rattle.zst_dir.specs.Rows.{Rows}
 use Rattle.zst_image.specs.Commits.{Ready}
 use Rattle.zst_image.specs.Faults.{open_refusal}
 use Rattle.zst_image.specs.OpenAnswers.{GivesPool, OpenAnswers}
-use Rattle.zst_image.specs.Reads.{Reads, ReadsAs, Rests, kept_rows}
+use Rattle.zst_image.specs.Reads.{Reads, ReadsAs, Rests, free_by, kept_rows}
 use Rattle.zst_image.specs.declared.open_fault.OpenFault.{OpenFault}
 use Rattle.zst_image.specs.declared.open_fault.OpenFault.TheVariants as opens
 use Rattle.zst_image.specs.declared.pool_state.PoolState.{PoolState}
@@ -33,8 +34,8 @@ use Rattle.zst_sessions.specs.Moves.{Answer}
 use Rattle.zst_sessions.specs.Replay.{opened}
 use Rattle.zst_sessions.specs.World.{OpenPool, World}
 use Rattle.zst_sessions.specs.declared.engine.Engine.{Engine}
-use Rattle.zst_run.specs.Replays.{IsLeft, Replays, RunsOver, StoodOrReads}
-use Rattle.zst_run.specs.ReplayTurns.{Lost, RunsAll, RunsEvents, RunsFrom}
+use Rattle.zst_run.specs.Replays.{IsLeft, Replays, RunsOver, Stood, StoodOrReads}
+use Rattle.zst_run.specs.ReplayTurns.{Lost, RunsAll, RunsEvents, RunsFrom, SparesAll}
 use Rattle.zst_run.proofs.CommandLemmas.{images_after}
 use Rattle.zst_run.proofs.ReplayRuns.{CountsNow, OnlyNow}
 
@@ -118,7 +119,7 @@ module _ (now : ℕ) (here there : DiskState) (tells others : Bool) (input : Sou
 -- ---- where both are opened
 
 -- two pools without sessions are a world
-new_is_world : (plain other : Plain) → IsWorld (opened plain other)
+pub new_is_world : (plain other : Plain) → IsWorld (opened plain other)
 new_is_world plain other = record { sends = search rules; receives = search rules; targets = search rules; standing = search rules }
 
 -- a pool that was opened is at rest
@@ -135,6 +136,12 @@ left_of kept pool stands tells = record {
   rests = λ works. let rests = stands.rests (stands.mark ∙ works) in (kept.state.body, rests.rows, rests.rests);
   reads = seen_of kept pool kept.failed refl stands tells;
 }
+
+-- and what stood in sectors that the body which was opened left not free
+all_stood : (start : DiskState) (old new : Kept) (answers : List Answer) → old.disk.seen ≡ start.seen → old.failed ≡ false → SparesAll old new answers → Stood start new.disk old.state.body answers
+all_stood start old new answers same works spares honest none ptr bytes has =
+    let is = (spares none honest works).1 ptr bytes (subst (λ (seen : List ℕ). Has seen (free_by old.state.body) ptr bytes) (sym same) has) in
+    record { block = is.block; behind = has.behind; taken = has.taken }
 
 -- its moments, and its images in the end: it was only read as it was opened
 stood_first : (now : ℕ) (side : Side) (world : World) (events : List Event) (answers : List Answer) (start mid : DiskState) → OnlyReads start mid → (c : List ℕ)
@@ -239,7 +246,11 @@ module _ {D E : Type 0} {g : Ghosts D} {h : Ghosts E} where
           answers = all.answers;
           consumed = all.consumed;
           one_each = all.runs.one_each;
-          opens = λ honest honest_there. (old.here.kept, old.there.kept, first.has.answer (later.honest honest), second.has.answer (later_there.honest honest_there));
+          kept = old.here.kept;
+          other = old.there.kept;
+          opens = λ honest honest_there. (first.has.answer (later.honest honest), second.has.answer (later_there.honest honest_there));
+          here_stood = all_stood here (kept_pool old.here) (kept_pool new.here) all.answers first.has.reads.seen first.works all.runs.here_spares;
+          there_stood = all_stood there (kept_pool old.there) (kept_pool new.there) all.answers second.has.reads.seen second.works all.runs.there_spares;
           script = all.script;
           writes = all.writes;
           lost = all_lost now here there old new first second all.events all.answers all.runs time only_here only_there counts_here counts_there;

@@ -1,7 +1,7 @@
 -- Runs of events of the engine, one after another.
 use Rattle.std.specs.Prelude.{Result, Ok, Err}
-use Rattle.std.proofs.Common.{sym, ◌≡◌, ◌≤◌, inl, inr, ℕ, true, List, [], ◌∷◌, ◌++◌, refl, ap, ◌∙◌, subst, arith, ◌+◌, length, length-append}
-use Rattle.std.proofs.lemmas.List.Elements.{All-append, All-cons, All-nil, All-weaker}
+use Rattle.std.proofs.Common.{sym, ◌≡◌, ◌≤◌, inl, inr, ℕ, true, false, All, List, [], ◌∷◌, ◌++◌, refl, ap, ◌∙◌, subst, arith, ◌+◌, length, length-append}
+use Rattle.std.proofs.lemmas.List.Elements.{All-append, All-cons, All-head, All-nil, All-tail, All-weaker}
 use Rattle.zst_outside.specs.Causes.{Rose, Rose-earlier}
 use Rattle.zst_outside.specs.Images.{DiskState, Leaves, Leaves-none, Leaves-then, Leaves-weaker}
 use Rattle.zst_outside.specs.declared.disk.Disk.{Ghosts}
@@ -13,7 +13,7 @@ use Rattle.zst_script.specs.declared.event.Event.TheVariants as events
 use Rattle.zst_script.specs.declared.event.Side.{Side}
 use Rattle.zst_script.specs.declared.event.Side.TheVariants.{Here, There}
 use Rattle.zst_sessions.specs.Engines.{BeforeOrAfter, Kept, MayLeave}
-use Rattle.zst_sessions.specs.EngineSteps.{EngineFits, IsLaterPool, StepsEngine, kept_pool}
+use Rattle.zst_sessions.specs.EngineSteps.{EngineFits, IsLaterPool, SparesBlocks, StepsEngine, kept_pool}
 use Rattle.zst_sessions.specs.EventReplies.{answer_of}
 use Rattle.zst_sessions.specs.Moves.{Answer, moved}
 use Rattle.zst_sessions.specs.Replay.{AtStart, GoesOn, InEvent, Replay, Stays, WaysFollow, WaysGoOn}
@@ -22,7 +22,7 @@ use Rattle.zst_sessions.specs.declared.engine.Engine.{Engine}
 use Rattle.zst_sessions.specs.declared.event_reply.EventReply.{EventReply}
 use Rattle.zst_pool.specs.declared.pool.Pool.{Pool}
 use Rattle.zst_run.specs.Replays.{ReadsOnWay, StoodOrReads}
-use Rattle.zst_run.specs.ReplayTurns.{Lost, RunsEvents, RunsFrom}
+use Rattle.zst_run.specs.ReplayTurns.{Lost, RunsEvents, RunsFrom, SparesAll}
 use Rattle.zst_run.proofs.CommandLemmas.{images_after}
 
 -- a run behind another
@@ -125,6 +125,33 @@ later_pool old mid new first second = record {
   same = second.same ∙ first.same;
 }
 
+-- ---- blocks
+
+-- what holds of all holds of a front and of the rest
+module _ {X : Type 0} (P : X → Type 0) where
+  all_front : (xs ys : List X) → All P (xs ++ ys) → All P xs
+  all_front [] ys all = All-nil P
+  all_front (x ∷ xs) ys all = All-cons P x xs (All-head P x (xs ++ ys) all) (all_front xs ys (All-tail P x (xs ++ ys) all))
+
+  all_rest : (xs ys : List X) → All P (xs ++ ys) → All P ys
+  all_rest [] ys all = all
+  all_rest (x ∷ xs) ys all = all_rest xs ys (All-tail P x (xs ++ ys) all)
+
+none_spare : (kept : Kept) → SparesAll kept kept []
+none_spare kept none honest works = (works, λ ptr bytes has. has)
+
+one_spares : {again : Type 0} (old new : Kept) (answer : Answer) → (¬ (answer ≡ Err refusals.DiskFault) → old.failed ≡ false → new.failed ≡ false) → SparesBlocks again old new → SparesAll old new (answer ∷ [])
+one_spares old new answer still spares none honest works =
+    let alive = still (All-head (λ answer. ¬ (answer ≡ Err refusals.DiskFault)) answer [] none) works in
+    (alive, spares.blocks (λ is. (works, honest)) alive)
+
+spares_then : (old mid new : Kept) (answers told : List Answer) → (new.disk.honest → mid.disk.honest) → SparesAll old mid answers → SparesAll mid new told → SparesAll old new (answers ++ told)
+spares_then old mid new answers told truth first second none honest works =
+    let Fails : Answer → Type 0 = λ answer. ¬ (answer ≡ Err refusals.DiskFault) in
+    let before = first (all_front Fails answers told none) (truth honest) works in
+    let behind = second (all_rest Fails answers told none) honest before.0 in
+    (behind.0, λ ptr bytes has. behind.1 ptr bytes (before.1 ptr bytes has))
+
 -- what rose before a later count rose by then
 rose_later : (before mid now : ℕ) → mid ≤ now → Rose before mid → Rose before now
 rose_later before mid now later rose = omega arith
@@ -148,6 +175,8 @@ module _ {D E : Type 0} {g : Ghosts D} {h : Ghosts E} where
     time = refl;
     one_each = refl;
     lost = All-nil (λ answer. answer ≡ Err refusals.DiskFault → Lost engine engine);
+    here_spares = none_spare (kept_pool engine.here);
+    there_spares = none_spare (kept_pool engine.there);
   }
 
   -- one event
@@ -172,6 +201,8 @@ module _ {D E : Type 0} {g : Ghosts D} {h : Ghosts E} where
     time = did.time;
     one_each = refl;
     lost = let P : Answer → Type 0 = λ answer. answer ≡ Err refusals.DiskFault → Lost old new in All-cons P (answer_of reply) [] (λ is. did.cause (lost_of reply is)) (All-nil P);
+    here_spares = one_spares (kept_pool old.here) (kept_pool new.here) (answer_of reply) (λ alive. (did.works (λ is. alive (ap answer_of is))).0) did.here_spares;
+    there_spares = one_spares (kept_pool old.there) (kept_pool new.there) (answer_of reply) (λ alive. (did.works (λ is. alive (ap answer_of is))).1) did.there_spares;
   }
 
   lost_earlier : (old mid new : Engine D E g h) → IsLaterPool old.here mid.here → IsLaterPool old.there mid.there → Lost mid new → Lost old new
@@ -208,4 +239,6 @@ module _ {D E : Type 0} {g : Ghosts D} {h : Ghosts E} where
         let P : Answer → Type 0 = λ answer. answer ≡ Err refusals.DiskFault → Lost old new in
         All-append P answers told (All-weaker (λ answer. answer ≡ Err refusals.DiskFault → Lost old mid) P (λ answer was is. lost_later old mid new second.here_later second.there_later (was is)) answers first.lost)
         (All-weaker (λ answer. answer ≡ Err refusals.DiskFault → Lost mid new) P (λ answer was is. lost_earlier old mid new first.here_later first.there_later (was is)) told second.lost);
+    here_spares = spares_then (kept_pool old.here) (kept_pool mid.here) (kept_pool new.here) answers told second.here_later.honest first.here_spares second.here_spares;
+    there_spares = spares_then (kept_pool old.there) (kept_pool mid.there) (kept_pool new.there) answers told second.there_later.honest first.there_spares second.there_spares;
   }

@@ -7,6 +7,7 @@ pub mod Completeness
 pub mod Replies
 pub mod Replays
 pub mod ReplayTurns
+pub mod Interleaved
 pub mod Commands
 pub mod Devices
 pub mod Generating

@@ -4,9 +4,11 @@ use Rattle.zst_outside.specs.Causes.{Rose}
 use Rattle.zst_outside.specs.Images.{DiskState, Leaves, OnlyReads}
 use Rattle.zst_outside.specs.Printing.{Printed, Wrote}
 use Rattle.zst_outside.specs.States.{SourceState, SinkState, Gave, HandedOn}
+use Rattle.zst_block.specs.Blocks.{KeepsBlocks}
+use Rattle.zst_uber.specs.declared.uber.Uber.{Uber}
 use Rattle.zst_image.specs.Faults.{open_refusal}
 use Rattle.zst_image.specs.OpenAnswers.{OpenAnswers, ReadFault}
-use Rattle.zst_image.specs.Reads.{Reads}
+use Rattle.zst_image.specs.Reads.{Reads, free_by}
 use Rattle.zst_image.specs.declared.open_fault.OpenFault.{OpenFault}
 use Rattle.zst_image.specs.declared.open_fault.OpenFault.TheVariants as opens
 use Rattle.zst_image.specs.declared.pool_state.PoolState.{PoolState}
@@ -121,6 +123,15 @@ pub record RunsOver (now : ℕ) (here here' there there' : DiskState) (world : W
   pub here_left : IsLeft here' last.here
   pub there_left : IsLeft there' last.there
 
+-- no answer is E28
+abbrev pub NoneFails : List Answer → Type 0
+NoneFails answers = All (λ answer. ¬ (answer ≡ Err refusals.DiskFault)) answers
+
+-- An image whose pool was opened by this body, whether or not it reads as one: where no answer is E28, each block still stands in the end that stood in sectors which the body
+-- left not free.
+abbrev pub Stood : (here here' : DiskState) → Uber → List Answer → Type 0
+Stood here here' body answers = here'.honest → NoneFails answers → KeepsBlocks here.seen (free_by body) here'.seen (free_by body)
+
 -- ---- a replay
 
 -- Nothing is run: no memory was left at first, or an image can't be opened as a pool (E25 to E28, E32): the first one, or the second where the first one can. Then both are
@@ -135,15 +146,20 @@ pub record IsUnopened (here here' there there' : DiskState) (input input' : Sour
   pub there_reads : OnlyReads there there'
   pub streams : (input' ≡ input) × (out' ≡ out)
 
--- Both are opened, and the events of the script are run, one after another, each with its answer. An event answers E28 only where a disk failed meanwhile. Of disks that
--- tell their images, and that read as pools by tight object sets, the events and their answers are a run of worlds from these pools on.
+-- Both are opened, and the events of the script are run, one after another, each with its answer. An event answers E28 only where a disk failed meanwhile; where none does, what
+-- stood in sectors that the first body of an image left not free still stands. Of disks that tell their images, and that read as pools by tight object sets, the events and
+-- their answers are a run of worlds from these pools on.
 pub record IsReplayed (now : ℕ) (here here' : DiskState) (tells : Bool) (there there' : DiskState) (others : Bool) (input input' : SourceState) (out out' : SinkState) (result : Result (Unit {0}) Refusal) : Type 0 where
   pub text : List ℕ
   pub events : List Event
   pub answers : List Answer
   pub consumed : Gave input input' text
   pub one_each : length answers ≡ length events
-  pub opens : here'.honest → there'.honest → (kept other : PoolState) × OpenAnswers here (Ok kept) × OpenAnswers there (Ok other)
+  pub kept : PoolState
+  pub other : PoolState
+  pub opens : here'.honest → there'.honest → OpenAnswers here (Ok kept) × OpenAnswers there (Ok other)
+  pub here_stood : Stood here here' kept.body answers
+  pub there_stood : Stood there there' other.body answers
   pub script : RunsScript text events answers input input' result
   pub writes : WritesReplies answers out out' result
   pub lost : All (λ answer. answer ≡ Err refusals.DiskFault → Rose here.faults here'.faults ⊎ Rose there.faults there'.faults) answers

@@ -7,6 +7,7 @@ mod event_replies;
 mod file_runs;
 mod generate;
 mod image;
+mod interleaved;
 mod note;
 mod pools;
 mod receive;
@@ -24,6 +25,7 @@ pub use completeness::{
 pub use dump::dumps_have_one_answer;
 pub use file_runs::{run_on_file, run_on_files};
 pub use image::{OpenMode, Opening, open, opening_of};
+pub use interleaved::{replayed_feeds_are_progress, replays_run_by_events};
 pub use note::status_of;
 pub use replication::{
     chains_of_runs_complete, cuts_tell_alike, redacted_is_unreadable, refused_leaves_nothing,
