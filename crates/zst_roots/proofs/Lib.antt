@@ -1,0 +1,4 @@
+pub mod RowTurns
+pub mod WalkedSnapshots
+pub mod KeptRows
+pub mod RowSums

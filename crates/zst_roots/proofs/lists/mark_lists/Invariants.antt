@@ -1,0 +1,21 @@
+use Rattle.std.proofs.Common.{◌⊎◌, ℕ, List}
+use Rattle.std.specs.Prelude.{None}
+use Rattle.zst_block.specs.Blocks.{IsBlock}
+use Rattle.zst_block.specs.IoStates.{IsHonest, disk_of, io_of}
+use Rattle.zst_block.specs.IoCalls.{Looks}
+use Rattle.zst_marks.specs.Marks.{HasRoomFor, IsMarked, MarksMore}
+use Rattle.zst_roots.specs.ReachedRows.{IsReachedBySome, ListReaches}
+use Rattle.zst_roots.proofs.RowTurns.{FirstMarked}
+use Rattle.zst_roots.proofs.lists.mark_lists.Given as goal
+
+-- what the first lists reach is marked
+abbrev pub invariant-loop-row : goal.invariant-loop-row
+invariant-loop-row g l =
+    let image = (disk_of l.initial.io).seen in
+    record {
+      all : IsHonest l.io → FirstMarked (λ (seen : List ℕ). ListReaches (IsBlock seen)) image l.dir.bookmarks l.end l.marks l.row-index;
+      more : MarksMore l.initial.marks l.marks;
+      room : HasRoomFor l.marks l.end;
+      only : IsHonest l.io → (sector : ℕ) → IsMarked l.marks sector → IsMarked l.initial.marks sector ⊎ IsReachedBySome l.dir.bookmarks (ListReaches (IsBlock image)) sector;
+      looks : Looks (io_of l.initial.io) (io_of l.io) None;
+    }

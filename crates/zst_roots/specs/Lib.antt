@@ -1,0 +1,4 @@
+pub mod ReachedRows
+pub mod StandingRows
+pub mod RowDamage
+pub mod WalkedRows

@@ -1,0 +1,43 @@
+-- Which block a walk of the rows of a directory tells as damaged.
+use Rattle.std.specs.Prelude.{◌⊎◌, ℕ, ◌<◌, List, Contains}
+use Rattle.zst_dir.specs.Rows.{Rows}
+use Rattle.zst_dir.specs.declared.rows.Dataset.{Dataset}
+use Rattle.zst_dir.specs.declared.rows.Snapshot.{Snapshot}
+use Rattle.zst_dir.specs.declared.rows.Bookmark.{Bookmark}
+use Rattle.zst_dir.specs.declared.rows.Partial.{Partial}
+use Rattle.zst_objset.specs.Damage.{DamageFact, IsDamagedObject}
+use Rattle.zst_tree.specs.Damage.{IsDamagedNode, NamesNode}
+use Rattle.zst_tree.specs.declared.tree.ObjSet.{ObjSet}
+
+-- damage is told of some row that the list contains, as of rows of its kind
+pub record IsToldOfSome {Row : Type 0} (rows : List Row) (tells : Row → DamageFact) (sector : ℕ) (stated found : List ℕ) : Type 0 where
+  pub row : Row
+  pub listed : Contains rows row
+  pub told : tells row sector stated found
+
+module _ (images : List ℕ → Type 0) (size : ℕ) where
+  -- of a set: a block of its tree, or a node of the tree of one of its objects
+  abbrev pub IsDamagedIn : ObjSet → DamageFact
+  IsDamagedIn set = IsDamagedObject images size NamesNode set
+
+  -- of a dataset: one of its head, and so with a snapshot and a partial state
+  abbrev pub IsDamagedHead : Dataset → DamageFact
+  IsDamagedHead row = IsDamagedIn row.head
+
+  abbrev pub IsDamagedSnapshot : Snapshot → DamageFact
+  IsDamagedSnapshot row = IsDamagedIn row.objects
+
+  abbrev pub IsDamagedPartial : Partial → DamageFact
+  IsDamagedPartial row = IsDamagedIn row.objects
+
+  -- of a bookmark whose list has runs: a node above the leaves of that list
+  abbrev pub IsDamagedList : Bookmark → DamageFact
+  IsDamagedList row sector stated found = (0 < row.runs) × IsDamagedNode images size NamesNode row.levels row.root sector stated found
+
+  -- of the rows of a directory: one of some head, snapshot, partial state or list
+  abbrev pub IsDamagedInRows : Rows → DamageFact
+  IsDamagedInRows rows sector stated found =
+      IsToldOfSome rows.datasets IsDamagedHead sector stated found
+      ⊎ (IsToldOfSome rows.snapshots IsDamagedSnapshot sector stated found
+      ⊎ (IsToldOfSome rows.partials IsDamagedPartial sector stated found
+      ⊎ IsToldOfSome rows.bookmarks IsDamagedList sector stated found))
