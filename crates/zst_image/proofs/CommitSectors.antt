@@ -1,16 +1,17 @@
 -- How many sectors a commit takes.
 use Rattle.std.specs.Prelude.{Some, Err}
-use Rattle.std.proofs.Common.{◌≡◌, ℕ, ◌+◌, ◌-◌, ◌≤◌, List, [], length, ⊎_elim, ap, arith}
+use Rattle.std.proofs.Common.{◌≡◌, ℕ, ◌+◌, ◌-◌, ◌*◌, ◌/◌, ◌≤◌, nat_le, Bool, true, false, if◌then◌else◌, List, [], length, ⊎_elim, refl, ap, arith}
+use Rattle.std.proofs.lemmas.Bool.Decides.{nat_tests}
 use Rattle.zst_space.specs.declared.space.Extent.{Extent}
 use Rattle.zst_space.specs.FreeSectors.{FreeSectors, room, total}
-use Rattle.zst_block.specs.Blocks.{FitsDisk}
 use Rattle.zst_block.specs.IoCalls.{IsBlockLength, IsFull, TakesAtMost}
 use Rattle.zst_block.specs.declared.fault.BlockFault.TheVariants as blocks
 use Rattle.zst_dir.specs.Rows.{Rows}
 use Rattle.zst_dir.specs.Spelling.{dir_bytes}
-use Rattle.zst_image.specs.Commits.{IsDirFull, TakesForDir}
+use Rattle.zst_leaves.specs.Leaves.{leaves_for}
+use Rattle.zst_extents.specs.StoredExtents.{extent_blocks, tree_blocks}
+use Rattle.zst_image.specs.Commits.{IsDirFull, TakesForDir, commit_sectors}
 use Rattle.zst_image.specs.Faults.{stop_of_commit}
-use Rattle.zst_image.specs.Reads.{dir_sectors}
 use Rattle.zst_image.specs.declared.commit_fault.CommitFault.{CommitFault}
 use Rattle.zst_image.specs.declared.commit_fault.CommitFault.TheVariants.{Full, DiskFault, OutOfMemory}
 
@@ -18,28 +19,58 @@ use Rattle.zst_image.specs.declared.commit_fault.CommitFault.TheVariants.{Full, 
 room_behind : (space : FreeSectors) → space.free ≡ [] → room space ≡ space.sectors - space.end
 room_behind space none = let empty : total space.free ≡ 0 = ap (λ (l : List Extent). total l) none in omega (arith, empty)
 
-pub end_bounded : {IsLength : ℕ → Type 0} → (most size : ℕ) (old new : FreeSectors) → old.free ≡ [] → TakesAtMost most IsLength old new → FitsDisk size new → new.end ≤ old.end + most
-end_bounded most size old new none takes fits =
-    omega (arith, room_behind old none, room_behind new (takes.unbroken none), takes.left, takes.sectors, fits.extents.end)
-
--- and what is taken moves the end
+-- so that what is taken moves the end
 pub end_moved : {IsLength : ℕ → Type 0} → (taken most : ℕ) (old new : FreeSectors) → old.free ≡ [] → TakesAtMost most IsLength old new → new.end ≤ new.sectors → room new + taken ≡ room old → taken + old.end ≤ old.sectors → new.end ≡ old.end + taken
 end_moved taken most old new none takes inside took enough =
     omega (arith, room_behind old none, room_behind new (takes.unbroken none), took, takes.sectors, inside, enough)
 
-IsDirFull-written : (rows : Rows) (old new : FreeSectors) (need largest : ℕ) → IsFull (dir_sectors (length (dir_bytes rows))) 16 old new need largest → IsDirFull old new rows need largest
+IsDirFull-written : (rows : Rows) (old new : FreeSectors) (need largest : ℕ) → IsFull (commit_sectors (length (dir_bytes rows)) (length old.free)) 16 old new need largest → IsDirFull old new rows need largest
 IsDirFull-written rows old new need largest full = record { shorter = full.shorter; needed = ⊎_elim (λ node. node) (λ leaf. leaf) full.needed; is_longest = full.is_longest; before = full.before }
 
--- where the directory wasn't written, the commit takes what that took
-pub takes-refused : (rows : Rows) (old new : FreeSectors) (fault : CommitFault) → TakesAtMost (dir_sectors (length (dir_bytes rows))) (IsBlockLength 16) old new
-    → ((need largest : ℕ) → stop_of_commit {T = Rows} (Err fault) ≡ Some (blocks.Full need largest) → IsFull (dir_sectors (length (dir_bytes rows))) 16 old new need largest) → TakesForDir rows old new (Err fault)
+-- where the directory or the extents weren't written, the commit takes what these took
+pub takes-refused : (rows : Rows) (old new : FreeSectors) (fault : CommitFault) → TakesAtMost (commit_sectors (length (dir_bytes rows)) (length old.free)) (IsBlockLength 16) old new
+    → ((need largest : ℕ) → stop_of_commit {T = Rows} (Err fault) ≡ Some (blocks.Full need largest) → IsFull (commit_sectors (length (dir_bytes rows)) (length old.free)) 16 old new need largest) → TakesForDir rows old new (Err fault)
 takes-refused rows old new (Full need largest) takes full = record {
   takes = takes;
-  one_leaf = λ small. tt;
+  one_leaf = λ none small. tt;
   full = λ n l is.
       let needed : need ≡ n = cc in
       let left : largest ≡ l = cc in
       IsDirFull-written rows old new n l (full n l (cc (needed, left)));
 }
-takes-refused rows old new DiskFault takes full = record { takes = takes; one_leaf = λ small. tt; full = λ n l is. absurd (cc) }
-takes-refused rows old new OutOfMemory takes full = record { takes = takes; one_leaf = λ small. tt; full = λ n l is. absurd (cc) }
+takes-refused rows old new DiskFault takes full = record { takes = takes; one_leaf = λ none small. tt; full = λ n l is. absurd (cc) }
+takes-refused rows old new OutOfMemory takes full = record { takes = takes; one_leaf = λ none small. tt; full = λ n l is. absurd (cc) }
+
+-- a tree of more leaves has no fewer blocks
+trees_more : (few many : ℕ) → few ≤ many → tree_blocks few ≤ tree_blocks many
+trees_more few many le = go (nat_le few 1) refl (nat_le few 128) refl (nat_le few 16384) refl (nat_le many 1) refl (nat_le many 128) refl (nat_le many 16384) refl
+  where
+    blocks : (one some most : Bool) → ℕ → ℕ
+    blocks one some most leaves =
+        if one then leaves else
+        (if some then leaves + 1 else
+        (if most then leaves + (leaves + 127) / 128 + 1 else
+        leaves + (leaves + 127) / 128 + (leaves + 16383) / 16384 + 1))
+
+    go : (a : Bool) → nat_le few 1 ≡ a → (b : Bool) → nat_le few 128 ≡ b → (c : Bool) → nat_le few 16384 ≡ c
+        → (d : Bool) → nat_le many 1 ≡ d → (e : Bool) → nat_le many 128 ≡ e → (f : Bool) → nat_le many 16384 ≡ f → blocks a b c few ≤ blocks d e f many
+    go true ia b ib c ic true id e ie f if_ = omega (arith, le)
+    go true ia b ib c ic false id true ie f if_ = omega (arith, le)
+    go true ia b ib c ic false id false ie true if_ = omega (arith, le)
+    go true ia b ib c ic false id false ie false if_ = omega (arith, le)
+    go false ia true ib c ic true id e ie f if_ = grind (arith, nat_tests)
+    go false ia true ib c ic false id true ie f if_ = omega (arith, le)
+    go false ia true ib c ic false id false ie true if_ = omega (arith, le)
+    go false ia true ib c ic false id false ie false if_ = omega (arith, le)
+    go false ia false ib true ic true id e ie f if_ = grind (arith, nat_tests)
+    go false ia false ib true ic false id true ie f if_ = grind (arith, nat_tests)
+    go false ia false ib true ic false id false ie true if_ = omega (arith, le)
+    go false ia false ib true ic false id false ie false if_ = omega (arith, le)
+    go false ia false ib false ic true id e ie f if_ = grind (arith, nat_tests)
+    go false ia false ib false ic false id true ie f if_ = grind (arith, nat_tests)
+    go false ia false ib false ic false id false ie true if_ = grind (arith, nat_tests)
+    go false ia false ib false ic false id false ie false if_ = omega (arith, le)
+
+-- more extents take no fewer blocks
+pub more_blocks : (few many : ℕ) → few ≤ many → extent_blocks few ≤ extent_blocks many
+more_blocks few many le = trees_more (leaves_for (16 * few)) (leaves_for (16 * many)) (omega (arith, le))

@@ -8,7 +8,7 @@ use Rattle.zst_space.specs.FreeSectors.{FreeSectors, largest_of}
 use Rattle.zst_block.specs.IoStates.{IoState}
 use Rattle.zst_uber.specs.DiskCalls.{HasDiskCause}
 use Rattle.zst_uber.specs.Slots.{latest}
-use Rattle.zst_uber.specs.declared.uber.Uber.{Uber}
+use Rattle.zst_image.specs.Bodies.{Body}
 use Rattle.zst_model.specs.pools.Limits.{last_number, last_guid}
 use Rattle.zst_model.specs.pools.Pool.{Pool, IsPool}
 use Rattle.zst_dir.specs.Rows.{Rows, no_rows}
@@ -16,6 +16,7 @@ use Rattle.zst_dir.specs.Spelling.{dir_bytes}
 use Rattle.zst_tree.specs.Indices.{Blocks}
 use Rattle.zst_image.specs.Commits.{CommitAnswer, CommittedDir, NextIs, OldOrNext, Stays, TakesForDir}
 use Rattle.zst_image.specs.CreateAnswers.{CreateAnswers, IsMade, IsNew, RefusedLeaves}
+use Rattle.zst_extents.specs.StoredExtents.{extent_blocks}
 use Rattle.zst_image.specs.Reads.{Reads, RowsAre, bound_of, dir_sectors, new_pool}
 use Rattle.zst_image.specs.declared.commit_fault.CommitFault.{CommitFault}
 use Rattle.zst_image.specs.declared.commit_fault.CommitFault.TheVariants as commits
@@ -53,7 +54,7 @@ RowsAre-new : {bound : Option ℕ} (has : Blocks) (id : ℕ) → RowsAre bound h
 RowsAre-new has id = record { datasets = tt; snapshots = tt; bookmarks = tt; partials = tt }
 
 -- a directory without rows is the new pool, behind a body without a number
-pub NextIs-new : {tight : Bool} (has : Blocks) (body : Uber) (rows : Rows) (id : ℕ) → (0 < id) × (id < 2 ^ 31) → body.id ≡ id → body.number ≡ 0 → rows ≡ no_rows → NextIs tight has body 0 rows (new_pool id)
+pub NextIs-new : {tight : Bool} (has : Blocks) (body : Body) (rows : Rows) (id : ℕ) → (0 < id) × (id < 2 ^ 31) → body.uber.id ≡ id → body.uber.number ≡ 0 → rows ≡ no_rows → NextIs tight has body 0 rows (new_pool id)
 NextIs-new {tight = tight} has body rows id is same none same_rows = record {
   id = sym same;
   number = omega (arith, none);
@@ -92,7 +93,8 @@ never-full space less sectors rows result same none many takes need largest is =
     let before = (takes.full need largest is).before in
     let most : dir_sectors (length (dir_bytes rows)) ≡ 64 = ap (λ (r : Rows). dir_sectors (length (dir_bytes r))) none ∙ dir_sectors-none in
     let left : largest_of space ≡ sectors - 8 = ap largest_of same in
-    omega (arith, many, before, most, left)
+    let blocks : extent_blocks (length space.free) ≡ 0 = ap (λ (s : FreeSectors). extent_blocks (length s.free)) same in
+    omega (arith, many, before, most, left, blocks)
 
 -- what stands where it only read
 pub RefusedLeaves-reads : (old new : DiskState) (fault : CreateFault) → OnlyReads old new → RefusedLeaves old new fault
@@ -127,17 +129,18 @@ create-moments {tight = tight} old mid new last space pool same reads leaves =
     (λ c is. ⊎_elim (λ past. inl (past.0, reads.crash past.0 past.1, past.2.latest_stays)) (λ next. inr next) is))
 
 -- what is kept of the new pool
-pub new-made : (sectors : ℕ) (old new : IoState) (body : Uber) (rows : Rows) (made : Result PoolState CommitFault) → old.space ≡ record { end = 8; sectors = sectors; free = [] } → rows ≡ no_rows → 128 ≤ sectors
-    → body.sectors ≡ sectors → TakesForDir rows old.space new.space made → IfOk made (CommittedDir body rows old new) → IfOk made (IsNew sectors)
-new-made sectors old new body rows (Err fault) same none many all takes committed = tt
-new-made sectors old new body rows (Ok kept) same none many all takes committed =
+pub new-made : (sectors : ℕ) (old new : IoState) (body : Body) (rows : Rows) (made : Result PoolState CommitFault) → old.space ≡ record { end = 8; sectors = sectors; free = [] } → rows ≡ no_rows → 128 ≤ sectors
+    → TakesForDir rows old.space new.space made → IfOk made (CommittedDir body rows old new) → IfOk made (IsNew sectors)
+new-made sectors old new body rows (Err fault) same none many takes committed = tt
+new-made sectors old new body rows (Ok kept) same none many takes committed =
     let space = old.space in
     let less = new.space in
-    let end = committed.ends.0 in
-    let as_body = committed.ends.1 in
+    let none_free : space.free ≡ [] = ap (λ (s : FreeSectors). s.free) same in
+    let end = ap (λ (s : FreeSectors). s.end) committed.space in
+    let as_left = ap (λ (s : FreeSectors). s.sectors) committed.space in
     let small : length (dir_bytes rows) ≤ 8192 = omega (arith, ap (λ (r : Rows). length (dir_bytes r)) none, length-no_rows) in
     let was_end : space.end ≡ 8 = ap (λ (s : FreeSectors). s.end) same in
     let was_all : space.sectors ≡ sectors = ap (λ (s : FreeSectors). s.sectors) same in
-    let inside : less.end ≤ less.sectors = omega (arith, end, as_body, all, takes.takes.sectors, was_all, committed.ready.in_range.end.1) in
-    let moved = end_moved 16 _ space less (ap (λ (s : FreeSectors). s.free) same) takes.takes inside (takes.one_leaf small) (omega (arith, many, was_end, was_all)) in
-    record { sectors_are = as_body ∙ all; end = omega (arith, end, moved, was_end) }
+    let inside : less.end ≤ less.sectors = omega (arith, end, as_left, committed.ready.in_range.end.1) in
+    let moved = end_moved 16 _ space less none_free takes.takes inside (takes.one_leaf none_free small) (omega (arith, many, was_end, was_all)) in
+    record { sectors_are = as_left ∙ takes.takes.sectors ∙ was_all; end = omega (arith, end, moved, was_end); free = ap (λ (s : FreeSectors). s.free) committed.space ∙ takes.takes.unbroken none_free }

@@ -41,7 +41,7 @@ lawful-data ptr kind = rw kind refl
 lawful-node : (ptr : Ptr) → ptr.kind ≡ 3 → IsTrue (is_lawful ptr)
 lawful-node ptr kind = rw kind refl
 
-lawful-below : (has : Blocks) (level : ℕ) (ptr : Ptr) (text : List ℕ) → 0 < length text → LeavesBelow has level ptr text → IsTrue (is_lawful ptr)
+pub lawful-below : (has : Blocks) (level : ℕ) (ptr : Ptr) (text : List ℕ) → 0 < length text → LeavesBelow has level ptr text → IsTrue (is_lawful ptr)
 unfolding LeavesBelow
 lawful-below has zero ptr text some (inl hole) = absurd (omega (arith, some, ap (λ (l : List ℕ). length l) hole.0))
 lawful-below has zero ptr text some (inr leaf) = lawful-data ptr leaf.1.kind_is

@@ -1,5 +1,6 @@
 -- What stands over some blocks stands over more.
 use Rattle.std.proofs.Common.{ℕ, Bool, List, [], ◌∷◌, Option, Some, None}
+use Rattle.zst_outside.specs.Images.{DiskState}
 use Rattle.zst_uber.specs.declared.uber.Uber.{Uber}
 use Rattle.zst_space.specs.FreeSectors.{FreeSectors}
 use Rattle.zst_block.specs.Blocks.{Has, KeepsBlocks}
@@ -10,12 +11,15 @@ use Rattle.zst_tree.specs.declared.tree.ObjSet.{ObjSet}
 use Rattle.zst_objset.proofs.SetGrowth.{SetHolds-grows}
 use Rattle.zst_objset.proofs.TightLaws.{tight_grows}
 use Rattle.zst_list.proofs.ListGrowth.{HasList-grows}
+use Rattle.zst_extents.proofs.ExtentGrowth.{HasExtents-grows}
 use Rattle.zst_dir.specs.Rows.{Rows}
 use Rattle.zst_dir.specs.declared.rows.Dataset.{Dataset}
 use Rattle.zst_dir.specs.declared.rows.Snapshot.{Snapshot}
 use Rattle.zst_dir.specs.declared.rows.Bookmark.{Bookmark}
 use Rattle.zst_dir.specs.declared.rows.Partial.{Partial}
 use Rattle.zst_dir.specs.RowNames.{Match}
+use Rattle.zst_image.specs.Bodies.{Body, free_by}
+use Rattle.zst_image.specs.Commits.{HasItsExtents}
 use Rattle.zst_image.specs.Reads.{DatasetIs, SnapshotIs, BookmarkIs, PartialIs, SetIs, RunsBy, HasDir, Describes, kept_rows}
 use Rattle.zst_image.proofs.Directories.{DirStands-grows}
 
@@ -55,13 +59,19 @@ module _ (old : List ℕ) (space : FreeSectors) (new : List ℕ) (less : FreeSec
   HasDir-grows : (uber : Uber) (rows : Rows) → HasDir (Has old space) uber rows → HasDir (Has new less) uber rows
   HasDir-grows uber rows is = DirStands-grows (Has old space) (Has new less) keeps uber.dir_levels uber.dir_root uber.dir_bytes rows is
 
-  pub Describes-grows : {tight : Bool} (uber : Uber) (rows : Rows) (pool : Pool) → Describes tight uber rows pool (Has old space) → Describes tight uber rows pool (Has new less)
-  Describes-grows uber rows pool is = record {
+  pub Describes-grows : {tight : Bool} (body : Body) (rows : Rows) (pool : Pool) → Describes tight body rows pool (Has old space) → Describes tight body rows pool (Has new less)
+  Describes-grows body rows pool is = record {
     id = is.id;
     number = is.number;
     guids = is.guids;
-    extents = is.extents;
-    directory = HasDir-grows uber rows is.directory;
+    extents = HasExtents-grows (Has old space) (Has new less) keeps body.uber.free_levels body.uber.free_root body.uber.free_count body.free is.extents;
+    apart = is.apart;
+    directory = HasDir-grows body.uber rows is.directory;
     rows_are = RunsBy-grows (kept_rows rows) pool is.rows_are;
     lawful = is.lawful;
   }
+
+-- the free extents of a body still stand where the blocks do that it leaves not free
+pub HasItsExtents-kept : (old new : DiskState) (body : Body) → KeepsBlocks old.seen (free_by body) new.seen (free_by body) → HasItsExtents old body → HasItsExtents new body
+HasItsExtents-kept old new body keeps has =
+    HasExtents-grows (Has old.seen (free_by body)) (Has new.seen (free_by body)) keeps body.uber.free_levels body.uber.free_root body.uber.free_count body.free has

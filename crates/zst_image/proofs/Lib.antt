@@ -2,6 +2,7 @@ pub mod Causes
 pub mod CommitLemmas
 pub mod CreateAnswers
 pub mod Directories
+pub mod Extents
 pub mod Growth
 pub mod KeptPartials
 pub mod OnePool

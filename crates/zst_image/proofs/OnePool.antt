@@ -1,6 +1,11 @@
 -- An image reads as one pool.
 use Rattle.std.proofs.Common.{◌≡◌, ℕ, ◌<◌, ◌^◌, Bool, Option, Some, None, List, [], ◌∷◌, length, filter, refl, sym, ◌∙◌, ap, subst, arith}
 use Rattle.zst_space.specs.FreeSectors.{FreeSectors}
+use Rattle.zst_space.specs.declared.space.Extent.{Extent}
+use Rattle.zst_marks.specs.Marks.{Apart}
+use Rattle.zst_extents.specs.StoredExtents.{HasExtents}
+use Rattle.zst_extents.proofs.ExtentGrowth.{HasExtents-grows}
+use Rattle.zst_block.proofs.BlocksLaws.{Has-fewer}
 use Rattle.zst_block.specs.Blocks.{Has}
 use Rattle.zst_block.specs.declared.ptr.Ptr.{Ptr}
 use Rattle.zst_uber.specs.Body.{body_bytes, uber_at}
@@ -22,30 +27,61 @@ use Rattle.zst_dir.specs.declared.rows.Snapshot.{Snapshot}
 use Rattle.zst_dir.specs.declared.rows.Bookmark.{Bookmark}
 use Rattle.zst_dir.specs.declared.rows.Partial.{Partial}
 use Rattle.zst_dir.specs.RowNames.{Match}
-use Rattle.zst_image.specs.Reads.{DatasetIs, SnapshotIs, BookmarkIs, PartialIs, SetIs, HasDir, ReadsAs, RowsAre, bound_of, free_by}
+use Rattle.zst_image.specs.Bodies.{Body, behind_end, free_by}
+use Rattle.zst_image.specs.Reads.{DatasetIs, SnapshotIs, BookmarkIs, PartialIs, SetIs, HasDir, ReadsAs, RowsAre, bound_of}
+use Rattle.zst_image.proofs.Extents.{behind_end-fewer}
 
--- two bodies that an image has as its latest are one
-pub one_body : {tight : Bool} (uber other : Uber) (rows others : Rows) (pool another : Pool) (image : List ℕ) → ReadsAs tight uber rows pool image → ReadsAs tight other others another image → uber ≡ other
-one_body uber other rows others pool another image first second =
-    let same : body_bytes uber ≡ body_bytes other = cc (first.stands, second.stands) in
-    sym (uber_at-body_bytes uber first.fits) ∙ ap uber_at same ∙ uber_at-body_bytes other second.fits
+-- what stands in the sectors of two bodies that an image has as its latest is one
+one_uber : {tight : Bool} (body other : Body) (rows others : Rows) (pool another : Pool) (image : List ℕ) → ReadsAs tight body rows pool image → ReadsAs tight other others another image → body.uber ≡ other.uber
+one_uber body other rows others pool another image first second =
+    let same : body_bytes body.uber ≡ body_bytes other.uber = cc (first.stands, second.stands) in
+    sym (uber_at-body_bytes body.uber first.fits) ∙ ap uber_at same ∙ uber_at-body_bytes other.uber second.fits
+
+-- one count's extents that are apart stand below a root
+abbrev pub ExtentsAreOne : Type 0
+ExtentsAreOne = (image : List ℕ) (space : FreeSectors) (levels : ℕ) (root : Ptr) (count end : ℕ) (extents other : List Extent) → end < 2 ^ 64 → Apart 8 extents end → Apart 8 other end
+    → HasExtents (Has image space) levels root count extents → HasExtents (Has image space) levels root count other → extents ≡ other
+
+-- extents that stand over free sectors stand over those behind the end alone
+behind : (image : List ℕ) (body : Body) → HasExtents (Has image (free_by body)) body.uber.free_levels body.uber.free_root body.uber.free_count body.free
+    → HasExtents (Has image (behind_end body.uber)) body.uber.free_levels body.uber.free_root body.uber.free_count body.free
+behind image body is =
+    HasExtents-grows (Has image (free_by body)) (Has image (behind_end body.uber)) (λ ptr bytes has. Has-fewer image (free_by body) (behind_end body.uber) ptr bytes (behind_end-fewer body) has)
+    body.uber.free_levels body.uber.free_root body.uber.free_count body.free is
+
+-- bodies with equal parts are equal
+pub same_body : (body other : Body) → body.uber ≡ other.uber → body.free ≡ other.free → body ≡ other
+same_body body other uber free =
+    let made : ◌≡◌ {A = Body} (record { uber = body.uber; free = body.free }) (record { uber = other.uber; free = other.free }) = cc (uber, free) in
+    made
+
+-- two bodies that an image has as its latest are one, with their free extents
+pub one_body : {tight : Bool} → ExtentsAreOne → (body other : Body) (rows others : Rows) (pool another : Pool) (image : List ℕ) → ReadsAs tight body rows pool image → ReadsAs tight other others another image → body ≡ other
+one_body one body other rows others pool another image first second =
+    let same = one_uber body other rows others pool another image first second in
+    let uber = body.uber in
+    let again : HasExtents (Has image (behind_end uber)) uber.free_levels uber.free_root uber.free_count other.free =
+    subst (λ (u : Uber). HasExtents (Has image (behind_end u)) u.free_levels u.free_root u.free_count other.free) (sym same) (behind image other second.described.extents) in
+    let apart : Apart 8 other.free uber.end = subst (λ (u : Uber). Apart 8 other.free u.end) (sym same) second.described.apart in
+    same_body body other same
+    (one image (behind_end uber) uber.free_levels uber.free_root uber.free_count uber.end body.free other.free (omega (arith, first.fits.end)) first.described.apart apart (behind image body first.described.extents) again)
 
 -- bytes are those of one directory
 abbrev pub BytesAreOne : Type 0
 BytesAreOne = (rows others : Rows) (bytes : List ℕ) → length bytes < 2 ^ 64 → IsDir rows bytes → IsDir others bytes → rows ≡ others
 
 -- two directories that a body names are one
-one_dir : RootsHaveOne → BytesAreOne → (uber : Uber) (rows others : Rows) (image : List ℕ) → uber.dir_bytes < 2 ^ 64 → HasDir (Has image (free_by uber)) uber rows → HasDir (Has image (free_by uber)) uber others → rows ≡ others
-one_dir one_text one_directory uber rows others image short first second =
-    let text = one_text image (free_by uber) uber.dir_levels uber.dir_root (dir_bytes rows) (dir_bytes others) (sym first.count_is ∙ second.count_is) first.leaves second.leaves in
+one_dir : RootsHaveOne → BytesAreOne → (body : Body) (rows others : Rows) (image : List ℕ) → body.uber.dir_bytes < 2 ^ 64 → HasDir (Has image (free_by body)) body.uber rows → HasDir (Has image (free_by body)) body.uber others → rows ≡ others
+one_dir one_text one_directory body rows others image short first second =
+    let text = one_text image (free_by body) body.uber.dir_levels body.uber.dir_root (dir_bytes rows) (dir_bytes others) (sym first.count_is ∙ second.count_is) first.leaves second.leaves in
     one_directory rows others (dir_bytes rows) (omega (arith, short, first.count_is)) first.directory (subst (λ (bytes : List ℕ). IsDir others bytes) (sym text) second.directory)
 
 -- and so are the rows by which an image reads as a pool
-pub one_rows : {tight : Bool} → RootsHaveOne → BytesAreOne → (uber other : Uber) (rows others : Rows) (pool another : Pool) (image : List ℕ) → ReadsAs tight uber rows pool image → ReadsAs tight other others another image → rows ≡ others
-one_rows {tight = tight} one_text one_directory uber other rows others pool another image first second =
-    let body = one_body uber other rows others pool another image first second in
-    let again = subst (λ (u : Uber). ReadsAs tight u others another image) (sym body) second in
-    one_dir one_text one_directory uber rows others image first.fits.trees.dir_bytes first.described.directory again.described.directory
+pub one_rows : {tight : Bool} → ExtentsAreOne → RootsHaveOne → BytesAreOne → (body other : Body) (rows others : Rows) (pool another : Pool) (image : List ℕ) → ReadsAs tight body rows pool image → ReadsAs tight other others another image → rows ≡ others
+one_rows {tight = tight} one one_text one_directory body other rows others pool another image first second =
+    let same = one_body one body other rows others pool another image first second in
+    let again = subst (λ (b : Body). ReadsAs tight b others another image) (sym same) second in
+    one_dir one_text one_directory body rows others image first.fits.trees.dir_bytes first.described.directory again.described.directory
 
 -- lists that match the same are one, where each row stands for one thing
 Match-one : {A B : Type 0} (Is : A → B → Type 0) → ((x : A) (y z : B) → Is x y → Is x z → y ≡ z) → (xs : List A) (ys zs : List B) → Match Is xs ys → Match Is xs zs → ys ≡ zs
@@ -120,11 +156,11 @@ module _ (one : SetsHoldOne) (bound : Option ℕ) (image : List ℕ) (space : Fr
       one_partial y z (first.named.target ∙ sym second.named.target) (first.named.component ∙ sym second.named.component) (first.named.keep ∙ sym second.named.keep) (first.named.header ∙ sym second.named.header) (first.named.base ∙ sym second.named.base) objects (first.named.point ∙ sym second.named.point)
 
 -- the pool by one body and these rows
-pool_by : {tight : Bool} → SetsHoldOne → ListsAreOne → (uber : Uber) (rows : Rows) (pool another : Pool) (image : List ℕ) → ReadsAs tight uber rows pool image → ReadsAs tight uber rows another image → pool ≡ another
-pool_by {tight = tight} one one_list uber rows pool another image first second =
+pool_by : {tight : Bool} → SetsHoldOne → ListsAreOne → (body : Body) (rows : Rows) (pool another : Pool) (image : List ℕ) → ReadsAs tight body rows pool image → ReadsAs tight body rows another image → pool ≡ another
+pool_by {tight = tight} one one_list body rows pool another image first second =
     let a = first.described in
     let b = second.described in
-    let space = free_by uber in
+    let space = free_by body in
     let number = a.number ∙ sym b.number in
     let bound = bound_of tight pool.number in
     let others = subst (λ (n : ℕ). RowsAre (bound_of tight n) (Has image space) rows another) (sym number) b.rows_are in
@@ -135,8 +171,8 @@ pool_by {tight = tight} one one_list uber rows pool another image first second =
     one_pool_is pool another (a.id ∙ sym b.id) number (a.guids ∙ sym b.guids) datasets snapshots bookmarks partials
 
 -- an image reads as one pool
-pub one_pool : {tight : Bool} → RootsHaveOne → BytesAreOne → SetsHoldOne → ListsAreOne → (uber other : Uber) (rows others : Rows) (pool another : Pool) (image : List ℕ) → ReadsAs tight uber rows pool image → ReadsAs tight other others another image → pool ≡ another
-one_pool {tight = tight} one_text one_directory one_state one_list uber other rows others pool another image first second =
-    let body = one_body uber other rows others pool another image first second in
-    let same = one_rows one_text one_directory uber other rows others pool another image first second in
-    pool_by one_state one_list uber rows pool another image first (subst (λ (u : Uber). ReadsAs tight u rows another image) (sym body) (subst (λ (r : Rows). ReadsAs tight other r another image) (sym same) second))
+pub one_pool : {tight : Bool} → ExtentsAreOne → RootsHaveOne → BytesAreOne → SetsHoldOne → ListsAreOne → (body other : Body) (rows others : Rows) (pool another : Pool) (image : List ℕ) → ReadsAs tight body rows pool image → ReadsAs tight other others another image → pool ≡ another
+one_pool {tight = tight} one one_text one_directory one_state one_list body other rows others pool another image first second =
+    let first_body = one_body one body other rows others pool another image first second in
+    let same = one_rows one one_text one_directory body other rows others pool another image first second in
+    pool_by one_state one_list body rows pool another image first (subst (λ (b : Body). ReadsAs tight b rows another image) (sym first_body) (subst (λ (r : Rows). ReadsAs tight other r another image) (sym same) second))

@@ -2,7 +2,6 @@
 use Rattle.std.proofs.Common.{ℕ, Bool, false, List, Option, None}
 use Rattle.zst_outside.specs.Images.{DiskState}
 use Rattle.zst_block.specs.Blocks.{Has}
-use Rattle.zst_uber.specs.declared.uber.Uber.{Uber}
 use Rattle.zst_model.specs.pools.Pool.{Pool}
 use Rattle.zst_model.specs.pools.Pool as plain
 use Rattle.zst_tree.specs.Indices.{Blocks}
@@ -10,7 +9,8 @@ use Rattle.zst_dir.specs.Rows.{Rows}
 use Rattle.zst_dir.specs.declared.rows.Dataset.{Dataset}
 use Rattle.zst_dir.specs.declared.rows.Snapshot.{Snapshot}
 use Rattle.zst_dir.specs.declared.rows.Partial.{Partial}
-use Rattle.zst_image.specs.Reads.{DatasetIs, SnapshotIs, PartialIs, RunsBy, ReadsAs, Rests, free_by, kept_rows}
+use Rattle.zst_image.specs.Bodies.{Body, free_by}
+use Rattle.zst_image.specs.Reads.{DatasetIs, SnapshotIs, PartialIs, RunsBy, ReadsAs, Rests, kept_rows}
 use Rattle.zst_image.proofs.Growth.{Match-weaker}
 use Rattle.zst_image.proofs.OnePool.{SetIs-holds}
 
@@ -32,8 +32,8 @@ RunsBy-plain {bound = bound} has rows pool is = record {
   partials = Match-weaker (PartialIs bound has) (PartialIs None has) (PartialIs-plain bound has) rows.partials pool.partials is.partials;
 }
 
-pub ReadsAs-plain : {tight : Bool} (uber : Uber) (rows : Rows) (pool : Pool) (image : List ℕ) → ReadsAs tight uber rows pool image → ReadsAs false uber rows pool image
-ReadsAs-plain uber rows pool image is =
+pub ReadsAs-plain : {tight : Bool} (body : Body) (rows : Rows) (pool : Pool) (image : List ℕ) → ReadsAs tight body rows pool image → ReadsAs false body rows pool image
+ReadsAs-plain body rows pool image is =
     let described = is.described in
     record {
       stands = is.stands;
@@ -44,11 +44,12 @@ ReadsAs-plain uber rows pool image is =
         number = described.number;
         guids = described.guids;
         extents = described.extents;
+        apart = described.apart;
         directory = described.directory;
-        rows_are = RunsBy-plain (Has image (free_by uber)) (kept_rows rows) pool described.rows_are;
+        rows_are = RunsBy-plain (Has image (free_by body)) (kept_rows rows) pool described.rows_are;
         lawful = described.lawful;
       };
     }
 
-pub Rests-plain : {tight : Bool} (disk : DiskState) (uber : Uber) (rows : Rows) (pool : Pool) → Rests tight disk uber rows pool → Rests false disk uber rows pool
-Rests-plain disk uber rows pool is = record { reads = ReadsAs-plain uber rows pool disk.seen is.reads; each = λ c image. ReadsAs-plain uber rows pool c (is.each c image) }
+pub Rests-plain : {tight : Bool} (disk : DiskState) (body : Body) (rows : Rows) (pool : Pool) → Rests tight disk body rows pool → Rests false disk body rows pool
+Rests-plain disk body rows pool is = record { reads = ReadsAs-plain body rows pool disk.seen is.reads; each = λ c image. ReadsAs-plain body rows pool c (is.each c image) }

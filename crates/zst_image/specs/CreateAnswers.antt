@@ -1,5 +1,5 @@
 -- What making a pool answers, and where.
-use Rattle.std.specs.Prelude.{◌≡◌, ◌≢◌, ◌*◌, ◌<◌, ℕ, List, Option, None, Result, Ok, Err}
+use Rattle.std.specs.Prelude.{◌≡◌, ◌≢◌, ◌*◌, ◌<◌, ℕ, List, [], Option, None, Result, Ok, Err}
 use Rattle.zst_outside.specs.Images.{DiskState, OnlyReads}
 use Rattle.zst_uber.specs.Slots.{latest}
 use Rattle.zst_image.specs.declared.create_fault.CreateFault.{CreateFault}
@@ -24,10 +24,11 @@ CreateAnswers size body sectors (Err (TooSmall asked)) = (body ≡ None) × (siz
 CreateAnswers size body sectors (Err DiskFault) = Unit {0}
 CreateAnswers size body sectors (Err OutOfMemory) = (body ≡ None) × (¬ (size < 512 * sectors))
 
--- what is kept of a pool that was just made: it has so many sectors, and 24 of them are taken, the first 8 and the one leaf of a directory without rows
+-- what is kept of a pool that was just made: it has so many sectors, and 24 of them are taken, the first 8 and the one leaf of a directory without rows; below its end none is free
 pub record IsNew (sectors : ℕ) (kept : PoolState) : Type 0 where
-  pub sectors_are : kept.body.sectors ≡ sectors
-  pub end : kept.body.end ≡ 24
+  pub sectors_are : kept.body.uber.sectors ≡ sectors
+  pub end : kept.body.uber.end ≡ 24
+  pub free : kept.body.free ≡ []
 
 -- what stands after making a pool was refused: after its checks all is as it was; without memory there still is no pool
 abbrev pub RefusedLeaves : DiskState → DiskState → CreateFault → Type 0

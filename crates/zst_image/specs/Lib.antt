@@ -1,3 +1,4 @@
+pub mod Bodies
 pub mod Commits
 pub mod CreateAnswers
 pub mod Faults

@@ -1,12 +1,13 @@
 -- What an image reads as: the pool that its latest body, its directory and its object sets describe.
 use Rattle.std.specs.Prelude.{◌≡◌, ◌+◌, ◌*◌, ◌/◌, ℕ, Bool, true, false, List, [], length, filter, Option, Some, None}
 use Rattle.zst_outside.specs.Images.{DiskState}
-use Rattle.zst_space.specs.FreeSectors.{FreeSectors}
 use Rattle.zst_block.specs.Blocks.{Has}
 use Rattle.zst_block.specs.declared.ptr.Ptr.{Ptr}
 use Rattle.zst_uber.specs.Body.{UberFits, InRange}
 use Rattle.zst_uber.specs.Slots.{Stands}
 use Rattle.zst_uber.specs.declared.uber.Uber.{Uber}
+use Rattle.zst_marks.specs.Marks.{Apart}
+use Rattle.zst_extents.specs.StoredExtents.{HasExtents}
 use Rattle.zst_model.specs.pools.Pool.{Pool, IsPool}
 use Rattle.zst_model.specs.pools.Pool as plain
 use Rattle.zst_model.specs.pools.Soundness.{DatedUpTo}
@@ -23,6 +24,8 @@ use Rattle.zst_dir.specs.declared.rows.Bookmark.{Bookmark}
 use Rattle.zst_dir.specs.declared.rows.Partial.{Partial}
 use Rattle.zst_objset.specs.Sets.{SetHolds}
 use Rattle.zst_objset.specs.TightSets.{SetIsTight}
+use Rattle.zst_image.specs.Bodies.{Body}
+pub use Rattle.zst_image.specs.Bodies.{free_by}
 use Rattle.zst_tree.specs.declared.tree.ObjSet.{ObjSet}
 
 -- how well a set is known: with None it holds the state; with a number it is tight besides, and no date of the state is above the number
@@ -57,10 +60,10 @@ pub record PartialIs (bound : Option ℕ) (has : Blocks) (row : Partial) (partia
   pub objects : SetIs bound has row.objects partial.objects
 
 -- the body has the pool's id, number and guid counter, and the rows name what the pool lists
-pub record IsNamedBy (uber : Uber) (rows : Rows) (pool : Pool) : Type 0 where
-  pub id : pool.id ≡ uber.id
-  pub number : pool.number ≡ uber.number
-  pub guids : pool.guids ≡ uber.guids
+pub record IsNamedBy (body : Body) (rows : Rows) (pool : Pool) : Type 0 where
+  pub id : pool.id ≡ body.uber.id
+  pub number : pool.number ≡ body.uber.number
+  pub guids : pool.guids ≡ body.uber.guids
   pub are_named : AreNamed rows pool
 
 -- the rows stand for what a pool that runs lists, also for its partial states that last no longer than their sessions
@@ -92,35 +95,33 @@ pub record DirStands (has : Blocks) (levels : ℕ) (root : Ptr) (count : ℕ) (r
 abbrev pub HasDir : Blocks → Uber → Rows → Type 0
 HasDir has uber rows = DirStands has uber.dir_levels uber.dir_root uber.dir_bytes rows
 
--- the body, the rows of the directory and the blocks describe this pool, by tight sets where that is said; as long as no sector is freed there are no free extents
-pub record Describes (tight : Bool) (uber : Uber) (rows : Rows) (pool : Pool) (has : Blocks) : Type 0 where
-  pub id : pool.id ≡ uber.id
-  pub number : pool.number ≡ uber.number
-  pub guids : pool.guids ≡ uber.guids
-  pub extents : uber.free_count ≡ 0
-  pub directory : HasDir has uber rows
+-- the body, its free extents, the rows of the directory and the blocks describe this pool, by tight sets where that is said
+pub record Describes (tight : Bool) (body : Body) (rows : Rows) (pool : Pool) (has : Blocks) : Type 0 where
+  pub id : pool.id ≡ body.uber.id
+  pub number : pool.number ≡ body.uber.number
+  pub guids : pool.guids ≡ body.uber.guids
+  -- the extents stand below the root that the body names: they rise from sector 8 on up to its end, none is empty, and no two touch
+  pub extents : HasExtents has body.uber.free_levels body.uber.free_root body.uber.free_count body.free
+  pub apart : Apart 8 body.free body.uber.end
+  pub directory : HasDir has body.uber rows
   pub rows_are : RowsAre (bound_of tight pool.number) has rows pool
   pub lawful : IsPool pool
 
--- the sectors that are free by a body: those from its end on
-abbrev pub free_by : Uber → FreeSectors
-free_by uber = record { end = uber.end; sectors = uber.sectors; free = [] }
-
 -- the image reads as this pool by its latest body, which is in its ranges, and by these rows
-pub record ReadsAs (tight : Bool) (uber : Uber) (rows : Rows) (pool : Pool) (image : List ℕ) : Type 0 where
-  pub stands : Stands uber image
-  pub fits : UberFits uber
-  pub in_range : InRange (length image) uber
-  pub described : Describes tight uber rows pool (Has image (free_by uber))
+pub record ReadsAs (tight : Bool) (body : Body) (rows : Rows) (pool : Pool) (image : List ℕ) : Type 0 where
+  pub stands : Stands body.uber image
+  pub fits : UberFits body.uber
+  pub in_range : InRange (length image) body.uber
+  pub described : Describes tight body rows pool (Has image (free_by body))
 
 -- the image reads as this pool: whatever its object sets are that hold its states, or by tight ones, as each image does that commands made
 abbrev pub Reads : (tight : Bool) → Pool → List ℕ → Type 0
-Reads tight pool image = (uber : Uber) × (rows : Rows) × ReadsAs tight uber rows pool image
+Reads tight pool image = (body : Body) × (rows : Rows) × ReadsAs tight body rows pool image
 
 -- a read of the disk gives this pool by this body and these rows, and so does each image that a crash may leave
-pub record Rests (tight : Bool) (disk : DiskState) (uber : Uber) (rows : Rows) (pool : Pool) : Type 0 where
-  pub reads : ReadsAs tight uber rows pool disk.seen
-  pub each : (c : List ℕ) → disk.images c → ReadsAs tight uber rows pool c
+pub record Rests (tight : Bool) (disk : DiskState) (body : Body) (rows : Rows) (pool : Pool) : Type 0 where
+  pub reads : ReadsAs tight body rows pool disk.seen
+  pub each : (c : List ℕ) → disk.images c → ReadsAs tight body rows pool c
 
 -- a new pool: its first commit, and nothing in it
 abbrev pub new_pool : ℕ → Pool

@@ -1,5 +1,5 @@
 // How a pool is made in an image.
-ghost use Rattle.std.specs.Prelude.{◌≡◌, ◌⊎◌, ◌<◌, ◌≤◌, ◌^◌, ℕ, Bool, List, OnOk, IfOk, IfErr, Err};
+ghost use Rattle.std.specs.Prelude.{◌≡◌, ◌⊎◌, ◌<◌, ◌≤◌, ◌^◌, ℕ, Bool, List, [], OnOk, IfOk, IfErr, Err};
 ghost use Rattle.zst_outside.specs.Images.{Leaves};
 ghost use Rattle.zst_block.specs.Ptr.{hole_of};
 ghost use Rattle.zst_uber.specs.Commit.{LabelSettled};
@@ -9,6 +9,7 @@ ghost use Rattle.zst_image.specs.Commits.{Ready};
 ghost use Rattle.zst_image.specs.CreateAnswers.{CreateAnswers, IsMade, IsNew, NoneAnswers, RefusedLeaves};
 ghost use Rattle.zst_image.specs.Reads.{Reads, Rests, new_pool};
 
+use crate::body::Body;
 use crate::commit_fault::CommitFault;
 use crate::commits::commit_dir;
 use crate::create_fault::CreateFault;
@@ -50,7 +51,13 @@ impl PoolState {
         }
         let space = Space::new(8, sectors, Vec::new(alloc));
         let mut io = Io::new(alloc, disk, space);
-        let made = commit_dir(&mut io, alloc, &unborn(sectors, id), 0, Dir::new(alloc));
+        let made = commit_dir(
+            &mut io,
+            alloc,
+            &unborn(alloc, sectors, id),
+            0,
+            Dir::new(alloc),
+        );
         // Only of a disk that was given back is it known what stands on it.
         io.into_disk();
         answer(made)
@@ -83,11 +90,12 @@ fn answer(made: Result<PoolState, CommitFault>) -> Result<PoolState, CreateFault
     }
 }
 
-// What stands before a pool's first commit: a body without a number, guids and a directory.
-fn unborn(sectors: u64, id: u32) -> Uber
-    ensures { result ≡ record { version = VERSION; id = id; number = 0; guids = 0; sectors = sectors; end = 8; dir_levels = 0; dir_bytes = 0; dir_root = hole_of 0; free_count = 0; free_levels = 0; free_root = hole_of 0 } }
+// What stands before a pool's first commit: a body without a number, guids, free extents and a
+// directory.
+fn unborn(alloc: Global, sectors: u64, id: u32) -> Body
+    ensures { result ≡ record { uber = record { version = VERSION; id = id; number = 0; guids = 0; sectors = sectors; end = 8; dir_levels = 0; dir_bytes = 0; dir_root = hole_of 0; free_count = 0; free_levels = 0; free_root = hole_of 0 }; free = [] } }
 {
-    Uber {
+    let uber = Uber {
         version: VERSION,
         id,
         number: 0,
@@ -100,5 +108,6 @@ fn unborn(sectors: u64, id: u32) -> Uber
         free_count: 0,
         free_levels: 0,
         free_root: Ptr::hole(0),
-    }
+    };
+    Body::new(uber, Vec::new(alloc))
 }

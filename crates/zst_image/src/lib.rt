@@ -1,6 +1,7 @@
 //! The pool of an image: what it reads as, how it is made and opened, and the commit of its directory.
 #![tactic(auto)]
 
+mod body;
 mod commit_fault;
 mod commits;
 mod create_fault;
@@ -10,6 +11,7 @@ mod open_fault;
 mod pool_reads;
 mod pool_state;
 
+pub use body::Body;
 pub use commit_fault::CommitFault;
 pub use commits::commit_dir;
 pub use create_fault::CreateFault;

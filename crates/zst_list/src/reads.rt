@@ -1,5 +1,5 @@
 // A list is read from its leaves.
-ghost use Rattle.std.specs.Prelude.{◌≡◌, ◌≤◌, [], IfOk};
+ghost use Rattle.std.specs.Prelude.{◌≡◌, ◌≤◌, IfOk};
 ghost use Rattle.zst_fletcher.specs.WeightSum.{parts_of};
 ghost use Rattle.zst_block.specs.IoCalls.{Looks};
 ghost use Rattle.zst_block.specs.IoStates.{IsHonest, blocks_of, disk_of, io_of};
@@ -7,6 +7,7 @@ ghost use Rattle.zst_block.specs.declared.fault.BlockFault.TheVariants.{Damaged}
 ghost use Rattle.zst_tree.specs.Faults.{fault_of};
 ghost use Rattle.zst_tree.specs.declared.or_memory.OrMemory.TheVariants.{Fault};
 ghost use Rattle.zst_model.specs.fields.Lists.{Runs};
+ghost use Rattle.zst_leaves.specs.Leaves.{BlocksBefore};
 ghost use Rattle.zst_list.specs.declared.reads.TheConstants.{MOST_RUNS};
 ghost use Rattle.zst_list.specs.StoredLists.{GivesList, HasList, TellsList, list_length};
 
@@ -49,7 +50,7 @@ pub fn read_list<D: Disk>(
 ) -> Result<List, OrMemory<BlockFault>>
     // A list that is there is read, unless the disk or the memory fails, and what is read is there.
     ensures there { (runs : Runs) → IsHonest io.new → HasList (blocks_of io.old) levels root count runs → GivesList runs (λ list. list) result }
-    ensures stands { IsHonest io.new → io.old.space.free ≡ [] → IfOk result (λ list. HasList (blocks_of io.old) levels root count list) }
+    ensures only { IsHonest io.new → IfOk result (λ list. HasList (BlocksBefore io.old.space.end (disk_of io.old).seen) levels root count list) }
 
     // What is damaged is a block to which the root leads. The root itself is told with both sums alike only where it
     // can't be one of such a text, or where all leaves below it were read and are the text of no list.

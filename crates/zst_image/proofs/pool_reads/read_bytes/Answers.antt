@@ -1,16 +1,16 @@
 use Rattle.std.specs.Prelude.{Vec, Err}
 use Rattle.std.specs.declared.alloc.Global.{Global}
-use Rattle.std.proofs.Common.{rules, ◌≡◌, ◌∙◌, ℕ, List, [], refl, sym, ap, subst}
+use Rattle.std.proofs.Common.{rules, ◌≡◌, ◌∙◌, ℕ, List, refl, sym, ap, subst}
 use Rattle.zst_outside.specs.Images.{DiskState}
 use Rattle.zst_space.specs.FreeSectors.{FreeSectors}
 use Rattle.zst_block.specs.Blocks.{Has}
 use Rattle.zst_block.specs.IoStates.{IsHonest, disk_of}
 use Rattle.zst_leaves.specs.Damage.{TellsText}
-use Rattle.zst_leaves.specs.Leaves.{HasLeaves}
+use Rattle.zst_leaves.specs.Leaves.{BlocksBefore, HasLeaves}
 use Rattle.zst_tree.specs.Faults.{fault_of}
 use Rattle.zst_tree.specs.declared.or_memory.OrMemory.{OrMemory}
 use Rattle.zst_block.specs.declared.fault.BlockFault.{BlockFault}
-use Rattle.zst_image.specs.Reads.{free_by}
+use Rattle.zst_image.specs.Bodies.{behind_end}
 use Rattle.zst_image.proofs.Causes.{leaves_cause, leaves_load, leaves_read, tells_leaves}
 use Rattle.zst_image.proofs.pool_reads.read_bytes.Goals as goal
 
@@ -20,23 +20,22 @@ on_same P old new space left disk sectors is = subst (λ (d : DiskState). P d.se
 
 pub new-io-requires : goal.new-io-requires
 new-io-requires g c =
-    let space : c.new-space.result ≡ free_by c.args.body.now = rw (c.new-space.ensures, c.new.ensures.items) refl in
+    let space : c.new-space.result ≡ behind_end c.args.uber.now = rw (c.new-space.ensures, c.new.ensures.items) refl in
     rw space (record { extents = record { end = c.requires.end.1; extents = c.requires.end.0 }; sectors = c.requires.sectors })
 
 pub returns-in-Ok-clause-there : goal.returns-in-Ok-clause-there
 returns-in-Ok-clause-there g c = λ text told has long.
     let here : IsHonest c.read_leaves-read.new.io = search (rules, told) in
-    let space : c.new-space.result ≡ free_by c.args.body.now = rw (c.new-space.ensures, c.new.ensures.items) refl in
-    c.in-Ok.ensures.there text here (on_same (λ (seen : List ℕ) (left : FreeSectors). HasLeaves (Has seen left) c.args.body.now.dir_levels c.args.body.now.dir_root text) (g.D.Disk.state c.args.disk.now) (disk_of c.new-io.result) (free_by c.args.body.now) c.new-io.result.space
+    let space : c.new-space.result ≡ behind_end c.args.uber.now = rw (c.new-space.ensures, c.new.ensures.items) refl in
+    c.in-Ok.ensures.there text here (on_same (λ (seen : List ℕ) (left : FreeSectors). HasLeaves (Has seen left) c.args.uber.now.dir_levels c.args.uber.now.dir_root text) (g.D.Disk.state c.args.disk.now) (disk_of c.new-io.result) (behind_end c.args.uber.now) c.new-io.result.space
     (ap g.D.Disk.state c.new-io.ensures.disk) (c.new-io.ensures.space ∙ space) has) long
 
 pub returns-in-Ok-clause-only : goal.returns-in-Ok-clause-only
 returns-in-Ok-clause-only g c = λ told.
     let here : IsHonest c.read_leaves-read.new.io = search (rules, told) in
-    let space : c.new-space.result ≡ free_by c.args.body.now = rw (c.new-space.ensures, c.new.ensures.items) refl in
-    let none : c.new-io.result.space.free ≡ [] = rw (c.new-io.ensures.space, space) refl in
-    on_same (λ (seen : List ℕ) (left : FreeSectors). HasLeaves (Has seen left) c.args.body.now.dir_levels c.args.body.now.dir_root c.in-Ok.bytes.items) (disk_of c.new-io.result) (g.D.Disk.state c.args.disk.now) c.new-io.result.space (free_by c.args.body.now)
-    (sym (ap g.D.Disk.state c.new-io.ensures.disk)) (sym (c.new-io.ensures.space ∙ space)) (c.in-Ok.ensures.stands here none)
+    let space : c.new-space.result ≡ behind_end c.args.uber.now = rw (c.new-space.ensures, c.new.ensures.items) refl in
+    on_same (λ (seen : List ℕ) (left : FreeSectors). HasLeaves (BlocksBefore left.end seen) c.args.uber.now.dir_levels c.args.uber.now.dir_root c.in-Ok.bytes.items) (disk_of c.new-io.result) (g.D.Disk.state c.args.disk.now) c.new-io.result.space (behind_end c.args.uber.now)
+    (sym (ap g.D.Disk.state c.new-io.ensures.disk)) (sym (c.new-io.ensures.space ∙ space)) (c.in-Ok.ensures.only here)
 
 pub of_leaves-requires : goal.of_leaves-requires
 of_leaves-requires g c = λ need largest is. c.in-Err.ensures.looks.looks.never_full need largest (ap (λ (f : OrMemory BlockFault). fault_of {T = Vec ℕ Global} (Err f)) is)
@@ -44,9 +43,9 @@ of_leaves-requires g c = λ need largest is. c.in-Err.ensures.looks.looks.never_
 pub returns-in-Err-clause-there : goal.returns-in-Err-clause-there
 returns-in-Err-clause-there g c = λ text told has long.
     let here : IsHonest c.read_leaves-read.new.io = search (rules, told) in
-    let space : c.new-space.result ≡ free_by c.args.body.now = rw (c.new-space.ensures, c.new.ensures.items) refl in
-    leaves_read (Vec ℕ Global) text (λ read. read.items) c.in-Err.fault c.of_leaves.result c.of_leaves.ensures
-    (c.in-Err.ensures.there text here (on_same (λ (seen : List ℕ) (left : FreeSectors). HasLeaves (Has seen left) c.args.body.now.dir_levels c.args.body.now.dir_root text) (g.D.Disk.state c.args.disk.now) (disk_of c.new-io.result) (free_by c.args.body.now) c.new-io.result.space
+    let space : c.new-space.result ≡ behind_end c.args.uber.now = rw (c.new-space.ensures, c.new.ensures.items) refl in
+    leaves_read (Vec ℕ Global) (λ read. read.items ≡ text) c.in-Err.fault c.of_leaves.result c.of_leaves.ensures
+    (c.in-Err.ensures.there text here (on_same (λ (seen : List ℕ) (left : FreeSectors). HasLeaves (Has seen left) c.args.uber.now.dir_levels c.args.uber.now.dir_root text) (g.D.Disk.state c.args.disk.now) (disk_of c.new-io.result) (behind_end c.args.uber.now) c.new-io.result.space
     (ap g.D.Disk.state c.new-io.ensures.disk) (c.new-io.ensures.space ∙ space) has) long)
 
 pub returns-in-Err-clause-fault : goal.returns-in-Err-clause-fault
@@ -55,12 +54,12 @@ returns-in-Err-clause-fault g c = leaves_load c.in-Err.fault c.of_leaves.result 
 pub returns-in-Err-clause-damaged : goal.returns-in-Err-clause-damaged
 returns-in-Err-clause-damaged g c = λ told.
     let here : IsHonest c.read_leaves-read.new.io = search (rules, told) in
-    let space : c.new-space.result ≡ free_by c.args.body.now = rw (c.new-space.ensures, c.new.ensures.items) refl in
-    let body = c.args.body.now in
+    let space : c.new-space.result ≡ behind_end c.args.uber.now = rw (c.new-space.ensures, c.new.ensures.items) refl in
+    let uber = c.args.uber.now in
     let disk = g.D.Disk.state c.args.disk.now in
-    tells_leaves (Vec ℕ Global) disk body c.in-Err.fault c.of_leaves.result c.of_leaves.ensures
-    (subst (λ (s : FreeSectors). TellsText {T = Vec ℕ Global} s.end disk.seen disk.size body.dir_levels body.dir_root body.dir_bytes (Err c.in-Err.fault)) (c.new-io.ensures.space ∙ space)
-    (subst (λ (d : DiskState). TellsText {T = Vec ℕ Global} c.new-io.result.space.end d.seen d.size body.dir_levels body.dir_root body.dir_bytes (Err c.in-Err.fault)) (ap g.D.Disk.state c.new-io.ensures.disk)
+    tells_leaves (Vec ℕ Global) disk uber c.in-Err.fault c.of_leaves.result c.of_leaves.ensures
+    (subst (λ (s : FreeSectors). TellsText {T = Vec ℕ Global} s.end disk.seen disk.size uber.dir_levels uber.dir_root uber.dir_bytes (Err c.in-Err.fault)) (c.new-io.ensures.space ∙ space)
+    (subst (λ (d : DiskState). TellsText {T = Vec ℕ Global} c.new-io.result.space.end d.seen d.size uber.dir_levels uber.dir_root uber.dir_bytes (Err c.in-Err.fault)) (ap g.D.Disk.state c.new-io.ensures.disk)
     (c.in-Err.ensures.damaged here)))
 
 pub returns-in-Ok-clause-length : goal.returns-in-Ok-clause-length

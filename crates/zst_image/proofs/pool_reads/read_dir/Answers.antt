@@ -1,5 +1,5 @@
 use Rattle.std.specs.Prelude.{Some}
-use Rattle.std.proofs.Common.{◌≡◌, inl, inr, sym, ◌∙◌, subst, arith, rules}
+use Rattle.std.proofs.Common.{◌≡◌, sym, ◌∙◌, subst}
 use Rattle.std.proofs.lemmas.Option.{MatchOption-at_some}
 use Rattle.zst_dir.specs.Rows.{Rows}
 use Rattle.zst_dir.specs.Spelling.{IsDir}
@@ -8,65 +8,31 @@ use Rattle.zst_image.proofs.Directories.{DirStands-bytes}
 use Rattle.zst_image.proofs.pool_reads.read_dir.Goals as goal
 
 pub returns-in-Some-clause-there : goal.returns-in-Some-clause-there
-returns-in-Some-clause-there g c = λ rows told none has.
+returns-in-Some-clause-there g c = λ rows told has.
     let same = c.deref.ensures.value ∙ c.in_ok-bytes.ensures.there _ told has.leaves (sym has.count_is) in
     let found : c.in_ok-dir.field-0 ≡ Some rows = c.in_ok-dir.ensures.found rows (subst (IsDir rows) (sym same) has.directory) in
     cc (found, c.in-Some.is)
 
 pub returns-clause-there : goal.returns-clause-there
-returns-clause-there g c = λ rows told none has.
+returns-clause-there g c = λ rows told has.
     let same = c.deref.ensures.value ∙ c.in_ok-bytes.ensures.there _ told has.leaves (sym has.count_is) in
     let found : c.in_ok-dir.field-0 ≡ Some rows = c.in_ok-dir.ensures.found rows (subst (IsDir rows) (sym same) has.directory) in
     cc (found, c.in-None.is)
 
 pub returns-in-Some-clause-only : goal.returns-in-Some-clause-only
 returns-in-Some-clause-only g c = λ told.
-    let body = c.args.body.now in
+    let uber = c.args.uber.now in
     let is = MatchOption-at_some (Unit {0}) (λ (rows : Rows). IsDir rows c.deref.result.now) _ c.in-Some.is c.in_ok-dir.ensures.only in
-    (omega arith, DirStands-bytes _ body.dir_levels body.dir_root body.dir_bytes _ _ (subst (IsDir _) c.deref.ensures.value is) c.in_ok-bytes.ensures.length (c.in_ok-bytes.ensures.only told))
-
-pub returns-then-body-ne0-clause-damaged : goal.returns-then-body-ne0-clause-damaged
-returns-then-body-ne0-clause-damaged g c = λ told.
-    tells_root (g.D.Disk.state c.args.disk.now) c.args.body.now c.of_layout.result (inl (λ none. omega (arith, none))) c.of_layout.ensures
+    DirStands-bytes _ uber.dir_levels uber.dir_root uber.dir_bytes _ _ (subst (IsDir _) c.deref.ensures.value is) c.in_ok-bytes.ensures.length (c.in_ok-bytes.ensures.only told)
 
 pub returns-clause-damaged : goal.returns-clause-damaged
 returns-clause-damaged g c = λ told.
     let read = c.in_ok-bytes.ensures in
-    tells_root (g.D.Disk.state c.args.disk.now) c.args.body.now c.of_layout-in-None.result (inr (record {
+    tells_root (g.D.Disk.state c.args.disk.now) c.args.uber.now c.of_layout.result (record {
       text = _;
       leaves = read.only told;
       long = read.length;
       no_dir = λ rows is.
           let found : c.in_ok-dir.field-0 ≡ Some rows = c.in_ok-dir.ensures.found rows (subst (IsDir rows) (sym c.deref.ensures.value) is) in
           absurd (cc (found, c.in-None.is));
-    })) c.of_layout-in-None.ensures
-
-pub returns-then-body-ne0-clause-there : goal.returns-then-body-ne0-clause-there
-returns-then-body-ne0-clause-there g c = search rules
-
-pub returns-then-body-ne0-clause-only : goal.returns-then-body-ne0-clause-only
-returns-then-body-ne0-clause-only g c = search rules
-
-pub returns-then-body-ne0-clause-fault : goal.returns-then-body-ne0-clause-fault
-returns-then-body-ne0-clause-fault g c = search rules
-
-pub returns-then-body-ne0-clause-reads : goal.returns-then-body-ne0-clause-reads
-returns-then-body-ne0-clause-reads g c = search rules
-
-pub returns-in-Some-clause-damaged : goal.returns-in-Some-clause-damaged
-returns-in-Some-clause-damaged g c = search rules
-
-pub returns-in-Some-clause-fault : goal.returns-in-Some-clause-fault
-returns-in-Some-clause-fault g c = search rules
-
-pub returns-in-Some-clause-reads : goal.returns-in-Some-clause-reads
-returns-in-Some-clause-reads g c = search rules
-
-pub returns-clause-only : goal.returns-clause-only
-returns-clause-only g c = search rules
-
-pub returns-clause-fault : goal.returns-clause-fault
-returns-clause-fault g c = search rules
-
-pub returns-clause-reads : goal.returns-clause-reads
-returns-clause-reads g c = search rules
+    }) c.of_layout.ensures

@@ -6,7 +6,7 @@ use Rattle.zst_space.specs.FreeSectors.{FreeSectors}
 use Rattle.zst_block.specs.IoStates.{IsHonest, disk_of, io_of}
 use Rattle.zst_uber.specs.DiskCalls.{HasDiskCause}
 use Rattle.zst_uber.specs.Slots.{latest}
-use Rattle.zst_uber.specs.declared.uber.Uber.{Uber}
+use Rattle.zst_image.specs.Bodies.{Body}
 use Rattle.zst_image.specs.Commits.{OldOrNext, Ready, Stays}
 use Rattle.zst_image.specs.Reads.{new_pool}
 use Rattle.zst_image.specs.declared.commit_fault.CommitFault.TheVariants.{DiskFault}
@@ -36,7 +36,7 @@ returns-clause-answer g c = λ told.
 pub returns-clause-made : goal.returns-clause-made
 returns-clause-made g c = λ tight told.
     let here : IsHonest c.commit_dir-made.new.io = search (rules, told) in
-    let next = NextIs-new {tight = tight} _ c.unborn.result c.new-2.result c.args.id c.requires.id (ap (λ (u : Uber). u.id) c.unborn.ensures) (ap (λ (u : Uber). u.number) c.unborn.ensures) c.new-2.ensures in
+    let next = NextIs-new {tight = tight} _ c.unborn.result c.new-2.result c.args.id c.requires.id (ap (λ (b : Body). b.uber.id) c.unborn.ensures) (ap (λ (b : Body). b.uber.number) c.unborn.ensures) c.new-2.ensures in
     let over = c.commit_dir-made.ensures.over tight _ here next in
     let made = IfOk-made _ c.commit_dir-made.result c.answer.result c.answer.ensures (IfOk-commit _ _ c.commit_dir-made.result over.answer) in
     search (rules, made)
@@ -52,7 +52,7 @@ pub returns-clause-moments : goal.returns-clause-moments
 returns-clause-moments g c = λ tight told.
     let here : IsHonest c.commit_dir-made.new.io = search (rules, told) in
     let old = g.D.Disk.state c.args.disk.now in
-    let next = NextIs-new {tight = tight} _ c.unborn.result c.new-2.result c.args.id c.requires.id (ap (λ (u : Uber). u.id) c.unborn.ensures) (ap (λ (u : Uber). u.number) c.unborn.ensures) c.new-2.ensures in
+    let next = NextIs-new {tight = tight} _ c.unborn.result c.new-2.result c.args.id c.requires.id (ap (λ (b : Body). b.uber.id) c.unborn.ensures) (ap (λ (b : Body). b.uber.number) c.unborn.ensures) c.new-2.ensures in
     let over = c.commit_dir-made.ensures.over tight _ here next in
     let moments = subst (λ (d : DiskState). Leaves d (disk_of c.commit_dir-made.new.io) (OldOrNext tight c.new-io.result.space d (new_pool c.args.id))) (ap g.D.Disk.state c.new-io.ensures.disk) over.moments in
     create-moments old _ _ _ c.new-io.result.space _ (search rules) c.find_none.ensures.reads.reads moments
@@ -79,8 +79,7 @@ returns-clause-new g c =
     let start : FreeSectors = record { end = 8; sectors = c.args.sectors; free = [] } in
     let space : c.new-io.result.space ≡ start = rw (c.new-io.ensures.space, c.new-space.ensures, c.new.ensures.items) refl in
     IfOk-made _ c.commit_dir-made.result c.answer.result c.answer.ensures
-    (new-made c.args.sectors (io_of c.new-io.result) (io_of c.commit_dir-made.new.io) c.unborn.result c.new-2.result c.commit_dir-made.result space c.new-2.ensures c.requires.sectors.0 (ap (λ (u : Uber). u.sectors) c.unborn.ensures)
-    commit.takes commit.made)
+    (new-made c.args.sectors (io_of c.new-io.result) (io_of c.commit_dir-made.new.io) c.unborn.result c.new-2.result c.commit_dir-made.result space c.new-2.ensures c.requires.sectors.0 commit.takes commit.made)
 
 pub returns-in_err-find_none-clause-answer : goal.returns-in_err-find_none-clause-answer
 returns-in_err-find_none-clause-answer g c = search rules
