@@ -1,6 +1,6 @@
 -- What a call of a receive did, from what its commit did.
-use Rattle.std.specs.Prelude.{Result, Ok, Err, IfErr, IfOk, OnOk, OnErr, true, false}
-use Rattle.std.proofs.Common.{◌≡◌, ◌⊎◌, inl, inr, ⊎_elim, ℕ, ◌+◌, ◌<◌, ◌≤◌, ◌||◌, List, refl, sym, ap, subst, ◌∙◌, Bool}
+use Rattle.std.specs.Prelude.{Result, Ok, Err, IfErr, IfOk, OnOk, OnErr, false}
+use Rattle.std.proofs.Common.{◌≡◌, ◌⊎◌, inl, inr, ⊎_elim, ℕ, ◌+◌, ◌<◌, ◌≤◌, List, refl, sym, ap, subst, ◌∙◌, Bool}
 use Rattle.zst_outside.specs.Causes.{Rose}
 use Rattle.zst_outside.specs.Images.{DiskState, Leaves, Leaves-weaker}
 use Rattle.zst_space.specs.FreeSectors.{FreeSectors}
@@ -9,13 +9,13 @@ use Rattle.zst_model.specs.declared.refusals.refusal.Refusal.{Refusal}
 use Rattle.zst_model.specs.pools.KeptPool.{kept_of}
 use Rattle.zst_model.specs.pools.Pool.{Pool}
 use Rattle.zst_block.specs.IoStates.{IoState}
-use Rattle.zst_uber.specs.declared.uber.Uber.{Uber}
+use Rattle.zst_image.specs.Bodies.{Body, free_by}
 use Rattle.zst_dir.specs.Rows.{Rows}
 use Rattle.zst_pool.specs.Calls.{CallDid, CallFault, CanCommit, IsAtRest, IsUnderWay, keeping}
-use Rattle.zst_pool.specs.Faults.{HasDiskCause, is_disk_fault, is_full, of_committed}
+use Rattle.zst_pool.specs.Faults.{HasDiskCause, is_disk_fault, of_committed}
 use Rattle.zst_image.specs.declared.commit_fault.CommitFault.{CommitFault}
 use Rattle.zst_image.specs.declared.commit_fault.CommitFault.TheVariants as commits
-use Rattle.zst_image.specs.Reads.{Reads, free_by}
+use Rattle.zst_image.specs.Reads.{Reads}
 use Rattle.zst_image.specs.Commits.{Commits, CommittedDir, Ready}
 use Rattle.zst_pool.specs.Queries.{stop_of}
 use Rattle.zst_pool.specs.declared.fault.PoolFault.{PoolFault}
@@ -54,7 +54,7 @@ module _ (start now : DiskState) (kept : PoolState) (rows : Rows) (running next 
       (λ c either. ⊎_elim (λ before. inl before) (λ after. inr (next, is, after)) either)
 
   pub call_did : {tight : Bool} (made : Result PoolState CommitFault) → ((need largest : ℕ) → made ≡ Err (commits.Full need largest) → largest < need) → Commits tight start now kept.body rows (kept_of running) (kept_of next) made
-      → IfOk made (λ after. after.body.number ≡ next.number) → IfOk made (λ after. IsAtRest tight now after next) → (¬ (made ≡ Err commits.DiskFault) → OnErr made (IsAtRest tight now kept running))
+      → IfOk made (λ after. after.body.uber.number ≡ next.number) → IfOk made (λ after. IsAtRest tight now after next) → (¬ (made ≡ Err commits.DiskFault) → OnErr made (IsAtRest tight now kept running))
       → CallDid tight start now kept running definition (of_committed made)
   call_did (Ok after) shorter event number rests before = record { moments = moments_of (Ok after) event; answer = (next, is, number, rests) }
   call_did (Err (commits.Full need largest)) shorter event number rests before = record {
@@ -65,7 +65,7 @@ module _ (start now : DiskState) (kept : PoolState) (rows : Rows) (running next 
   call_did (Err commits.OutOfMemory) shorter event number rests before = record { moments = moments_of (Err commits.OutOfMemory) event; answer = before (λ disk. cc) }
 
 -- the number that was committed is the next pool's
-pub number_after : (old new : IoState) (body : Uber) (dir : Rows) (made : Result PoolState CommitFault) (next : ℕ) → next ≡ body.number → IfOk made (CommittedDir body dir old new) → IfOk made (λ kept. kept.body.number ≡ next + 1)
+pub number_after : (old new : IoState) (body : Body) (dir : Rows) (made : Result PoolState CommitFault) (next : ℕ) → next ≡ body.uber.number → IfOk made (CommittedDir body dir old new) → IfOk made (λ kept. kept.body.uber.number ≡ next + 1)
 number_after old new body dir (Ok kept) next same is = is.number ∙ ap (λ n. n + 1) (sym same)
 number_after old new body dir (Err fault) next same is = tt
 
@@ -77,19 +77,16 @@ kept_has P kept answer made is holds = by_answer answer (subst (λ (r : Result P
     by_answer (Ok number) h = h
     by_answer (Err fault) h = tt
 
--- the blocks that were there before still are, over what the latest body leaves free
-pub blocks_last : (old mid new : List ℕ) (space less : FreeSectors) (kept : PoolState) (answer : Result ℕ PoolFault) (made : Result PoolState PoolFault) → keeping kept answer ≡ made
-    → IfOk made (λ next. KeepsBlocks old space mid (free_by next.body)) → (is_full made ≡ false → less ≡ free_by kept.body) → new ≡ mid → OnOk answer (KeepsBlocks old space new less)
-blocks_last old mid new space less kept answer made is keeps free same =
-    by_answer answer (subst (λ (r : Result PoolState PoolFault). IfOk r (λ next. KeepsBlocks old space mid (free_by next.body))) (sym is) keeps) (subst (λ (r : Result PoolState PoolFault). is_full r ≡ false → less ≡ free_by kept.body) (sym is) free)
-  where
-    by_answer : (a : Result ℕ PoolFault) → IfOk (keeping kept a) (λ next. KeepsBlocks old space mid (free_by next.body)) → (is_full (keeping kept a) ≡ false → less ≡ free_by kept.body) → OnOk a (KeepsBlocks old space new less)
-    by_answer (Ok number) h f = subst (λ (s : FreeSectors). KeepsBlocks old space new s) (sym (f refl)) (subst (λ (i : List ℕ). KeepsBlocks old space i (free_by kept.body)) (sym same) h)
-    by_answer (Err fault) h f = tt
+-- over what is left, which the body that was committed leaves free, the blocks that were there before still are
+pub blocks_left : (old new : List ℕ) (space less : FreeSectors) (made : Result PoolState PoolFault) → IfOk made (λ next. KeepsBlocks old space new (free_by next.body)) → IfOk made (λ next. less ≡ free_by next.body)
+    → IfOk made (λ next. KeepsBlocks old space new less)
+blocks_left old new space less (Ok next) keeps free = subst (KeepsBlocks old space new) (sym free) keeps
+blocks_left old new space less (Err fault) keeps free = tt
 
-neither : (a b : Bool) → (a || b) ≡ false → (a ≡ false) × (b ≡ false)
-neither true b h = absurd (cc)
-neither false b h = (refl, h)
+-- and the next commit can be made over it
+pub commits_left : (disk : DiskState) (less : FreeSectors) (made : Result PoolState PoolFault) → IfOk made (λ next. less ≡ free_by next.body) → IfOk made (λ next. Ready disk next.body) → IfOk made (λ next. CanCommit disk less next.body)
+commits_left disk less (Ok next) free ready = commit_next_of disk less next.body free ready
+commits_left disk less (Err fault) free ready = tt
 
 -- what a call answers, where a pool settled what its commit made
 module _ (kept : PoolState) (answer : Result ℕ PoolFault) (made : Result PoolState PoolFault) (is : keeping kept answer ≡ made) where
@@ -104,14 +101,7 @@ module _ (kept : PoolState) (answer : Result ℕ PoolFault) (made : Result PoolS
       by_answer (Ok number) h = tt
       by_answer (Err fault) h = h
 
-  -- it tells a full disk, a disk that failed, and the block fault at which it stopped, where the commit does
-  pub tells_full : is_full made ≡ is_full answer
-  tells_full = ap is_full (sym is) ∙ by_answer answer
-    where
-      by_answer : (a : Result ℕ PoolFault) → is_full (keeping kept a) ≡ is_full a
-      by_answer (Ok number) = refl
-      by_answer (Err fault) = refl
-
+  -- it tells a disk that failed, and the block fault at which it stopped, where the commit does
   pub tells_disk : is_disk_fault made ≡ is_disk_fault answer
   tells_disk = ap is_disk_fault (sym is) ∙ by_answer answer
     where
@@ -139,10 +129,6 @@ module _ (kept : PoolState) (answer : Result ℕ PoolFault) (made : Result PoolS
     fault = λ fell. subst (Rose before) (sym same) (cause.fault (fault_made DiskFault fell));
   }
 
-  -- the sectors are free again by the latest body, but where the disk is full
-  pub free_again : (failed : Bool) (space : FreeSectors) → (is_full made ≡ false → space ≡ free_by kept.body) → (failed || is_full answer) ≡ false → space ≡ free_by kept.body
-  free_again failed space free works = free (tells_full ∙ (neither failed (is_full answer) works).1)
-
   -- the disk is ready for the commit that follows
   pub ready_still : (old : PoolState) (disk new : DiskState) (fell after : Bool) → new ≡ disk → after ≡ fell → IfOk made (λ next. Ready disk next.body) → (fell ≡ false → OnErr made (Ready disk old.body))
       → OnErr answer (kept ≡ old) → after ≡ false → Ready new kept.body
@@ -152,7 +138,3 @@ module _ (kept : PoolState) (answer : Result ℕ PoolFault) (made : Result PoolS
       by_answer : (a : Result ℕ PoolFault) → IfOk (keeping kept a) (λ next. Ready disk next.body) → OnErr (keeping kept a) (Ready disk old.body) → OnErr a (kept ≡ old) → Ready disk kept.body
       by_answer (Ok number) after before same = after
       by_answer (Err fault) after before same = subst (λ (k : PoolState). Ready disk k.body) (sym same) before
-
-  -- the next commit can be made where the disk works and isn't full
-  pub can_still : (disk : DiskState) (space : FreeSectors) (failed : Bool) → (is_full made ≡ false → space ≡ free_by kept.body) → (failed ≡ false → Ready disk kept.body) → (failed || is_full answer) ≡ false → CanCommit disk space kept.body
-  can_still disk space failed free ready works = commit_next_of disk space kept.body (free_again failed space free works) (ready (neither failed (is_full answer) works).0)

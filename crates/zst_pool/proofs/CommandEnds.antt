@@ -73,7 +73,7 @@ names_next has definition running guids rows makes =
 
 -- a command that came to the commit of the rows that its definition makes
 pub did_rows : {tight : Bool} (start : DiskState) (old new : IoState) (kept : PoolState) (running : Pool) (definition : Result Stepped Refusal) (guids : ℕ) (dir : Rows) (made : Result PoolState CommitFault)
-    → (way : IsUnderWay tight start old.disk old.space kept running) → MakesRows tight (Has old.disk.seen old.space) definition running guids dir → IsLawful dir → kept.body.number < 2 ^ 63
+    → (way : IsUnderWay tight start old.disk old.space kept running) → MakesRows tight (Has old.disk.seen old.space) definition running guids dir → IsLawful dir → kept.body.uber.number < 2 ^ 63
     → ((next : Pool) → NextIs tight (Has old.disk.seen old.space) kept.body guids dir next → Commits tight start new.disk kept.body way.rested.rows (kept_of running) next made)
     → IfOk made (CommittedDir kept.body dir old new) → RefusedDir kept.body old new made → Did tight start new.disk kept running definition (of_committed made)
 did_rows start old new kept running definition guids dir made way makes lawful below commit done refused =

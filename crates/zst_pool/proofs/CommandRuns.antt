@@ -34,9 +34,10 @@ use Rattle.zst_pool.specs.Faults.{StepFault, is_disk_fault, of_committed}
 use Rattle.zst_pool.specs.Heads.{ChangedHead, ChangesHead, Stops, Works, rested}
 use Rattle.zst_objset.specs.OrMemory.{IfTold, stop_of}
 use Rattle.zst_dir.specs.RowNames.{AreNamed}
-use Rattle.zst_image.specs.Reads.{DatasetIs, RunsBy, SetIs, bound_of, free_by}
+use Rattle.zst_image.specs.Bodies.{free_by}
+use Rattle.zst_image.specs.Reads.{DatasetIs, RunsBy, SetIs, bound_of}
 use Rattle.zst_pool.specs.CommandRuns.{Did, Ran, Runs, as_kept}
-use Rattle.zst_image.specs.Commits.{CommittedDir, KeepsDisk, Ready, RefusedDir, TakesForDir}
+use Rattle.zst_image.specs.Commits.{CommittedDir, HasItsExtents, KeepsDisk, Ready, RefusedDir, TakesForDir}
 use Rattle.zst_pool.specs.declared.fault.PoolFault.{PoolFault}
 use Rattle.zst_pool.specs.declared.fault.PoolFault.TheVariants.{Damaged, DiskFault, OutOfMemory, Plan}
 use Rattle.zst_tree.specs.declared.or_memory.OrMemory.{OrMemory}
@@ -53,7 +54,8 @@ use Rattle.zst_pool.proofs.CommitAnswers.{committed_cause, committed_err, commit
 use Rattle.zst_dir.proofs.Matches.{Match-alike}
 use Rattle.zst_pool.proofs.NamedPools.{rows_named}
 use Rattle.zst_pool.proofs.CommandParts.{disk_fault_same, failed_then}
-use Rattle.zst_pool.proofs.Room.{TakesSo, spends_fell, spends_full, spends_grows}
+use Rattle.zst_pool.proofs.Room.{TakesSo, commit-more, spends_fell, spends_full, spends_grows}
+use Rattle.zst_pool.proofs.TakenSectors.{fewer_extents}
 
 -- what a command wrote before it fell or came to its commit: at most so much, and in a pool as much as it costs there
 abbrev pub Wrote : PoolState → Cost → (old new : IoState) → Option BlockFault → Type 0
@@ -94,6 +96,8 @@ module _ (definition : Pool → Result Stepped Refusal) (cost : Cost) (kept : Po
             same = works.same;
           };
           cause = record { later = works.cause.later; fault = λ is. works.cause.fault (stops.disk (cc)) };
+          space = tt;
+          extents = tt;
         };
         blocks = tt;
       } in
@@ -101,12 +105,12 @@ module _ (definition : Pool → Result Stepped Refusal) (cost : Cost) (kept : Po
 
   -- one that came to its commit
   pub runs_committed : (old mid new : IoState) (dir : Rows) (made : Result PoolState CommitFault) {answer : Result PoolState PoolFault} → answer ≡ of_committed made
-      → Ready mid.disk kept.body → Wrote kept cost old mid None
+      → Wrote kept cost old mid None
       → ((tight : Bool) (running : Pool) → new.disk.honest → IsAtRest tight old.disk kept running → Did tight old.disk new.disk kept running (definition running) (of_committed made))
       → length (dir_bytes dir) ≤ length (dir_bytes kept.dir) + 1024 → ((running : Pool) → new.disk.honest → IsAtRest false old.disk kept running → MakesNamed (definition running) dir)
       → IfOk made (CommittedDir kept.body dir mid new) → TakesForDir dir mid.space new.space made → RefusedDir kept.body mid new made → KeepsDisk (blocks.fails (stop_of_commit made)) false mid new
       → HasDiskCause commits.DiskFault mid.disk.faults new.disk.faults made → Ran definition cost kept old new answer
-  runs_committed old mid new dir made is old_ready wrote did grows makes done takes refused keeps cause =
+  runs_committed old mid new dir made is wrote did grows makes done takes refused keeps cause =
       let one = wrote.0 in
       let works = one.2 in
       let answer = of_committed made in
@@ -116,8 +120,8 @@ module _ (definition : Pool → Result Stepped Refusal) (cost : Cost) (kept : Po
       let runs : Ran definition cost kept old new answer = record {
         did = did;
         open_still = committed_open made;
-        spends = (one.0, one.1, spends made done takes refused one.0 cost.most_list works);
-        exact = λ running told rests. spends made done takes refused (cost.block running) (cost.list running) (wrote.1 running (keeps.honest told) rests);
+        spends = (one.0, one.1, spends made done takes one.0 cost.most_list works);
+        exact = λ running told rests. spends made done takes (cost.block running) (cost.list running) (wrote.1 running (keeps.honest told) rests);
         short = λ running told rests. finds_less made takes running (makes running told rests) (wrote.1 running (keeps.honest told) rests);
         spares = λ apart. spares made works.fills refused apart;
         commits = record {
@@ -131,6 +135,8 @@ module _ (definition : Pool → Result Stepped Refusal) (cost : Cost) (kept : Po
             same = keeps.same ∙ works.same;
           };
           cause = record { later = omega (arith, works.cause.later, disk.later); fault = λ is. Rose-earlier old.disk.faults mid.disk.faults new.disk.faults works.cause.later (disk.fault is) };
+          space = committed_ok (λ next. new.space ≡ free_by next.body) made (IfOk-weaker made (CommittedDir kept.body dir mid new) (λ next. new.space ≡ free_by next.body) (λ next is. sym is.space) done);
+          extents = committed_ok (λ next. HasItsExtents new.disk next.body) made (IfOk-weaker made (CommittedDir kept.body dir mid new) (λ next. HasItsExtents new.disk next.body) (λ next is. is.extents) done);
         };
         blocks =
             committed_ok Stand made
@@ -138,13 +144,12 @@ module _ (definition : Pool → Result Stepped Refusal) (cost : Cost) (kept : Po
       } in
       subst (Ran definition cost kept old new) (sym is) runs
     where
-      spends : (r : Result PoolState CommitFault) → IfOk r (CommittedDir kept.body dir mid new) → TakesForDir dir mid.space new.space r → RefusedDir kept.body mid new r
+      spends : (r : Result PoolState CommitFault) → IfOk r (CommittedDir kept.body dir mid new) → TakesForDir dir mid.space new.space r
           → (block list : ℕ) → TakesSo cost.cells block list (rested old.disk old.failed old.checksum_errors old.reference kept) mid None → Spends cost.cells block list kept new.space as_kept (of_committed r)
-      spends (Ok next) done takes refused block list works =
-          record { full = tt; grows = spends_grows kept cost.cells block list dir works takes.takes grows next old_ready.in_range.end.1 done.ready.in_range.end.1 done.ends.0 done.ends.1 }
-      spends (Err (commits.Full need largest)) done takes refused block list works =
-          let apart : ¬ (◌≡◌ {A = Result PoolState CommitFault} (Err (commits.Full need largest)) (Err commits.DiskFault)) = λ is. cc in
-          let told = spends_full kept cost.cells block list dir works takes.takes grows need largest (refused.fills apart) (takes.full need largest refl) in
+      spends (Ok next) done takes block list works =
+          record { full = tt; grows = spends_grows kept cost.cells block list dir works takes.takes grows next (sym done.space) }
+      spends (Err (commits.Full need largest)) done takes block list works =
+          let told = spends_full kept cost.cells block list dir works takes.takes grows need largest (takes.full need largest refl) in
           record {
             full = λ n l same.
                 let needed : need ≡ n = cc in
@@ -152,14 +157,16 @@ module _ (definition : Pool → Result Stepped Refusal) (cost : Cost) (kept : Po
                 subst (λ (m : ℕ). HasNoRoom cost.cells block list kept.body kept.dir new.space m l) needed (subst (λ (m : ℕ). HasNoRoom cost.cells block list kept.body kept.dir new.space need m) left told);
             grows = tt;
           }
-      spends (Err commits.DiskFault) done takes refused block list works = record { full = λ n l same. absurd (cc); grows = tt }
-      spends (Err commits.OutOfMemory) done takes refused block list works = record { full = λ n l same. absurd (cc); grows = tt }
+      spends (Err commits.DiskFault) done takes block list works = record { full = λ n l same. absurd (cc); grows = tt }
+      spends (Err commits.OutOfMemory) done takes block list works = record { full = λ n l same. absurd (cc); grows = tt }
 
       finds_less : (r : Result PoolState CommitFault) → TakesForDir dir mid.space new.space r → (running : Pool) → MakesNamed (definition running) dir
           → TakesSo cost.cells (cost.block running) (cost.list running) (rested old.disk old.failed old.checksum_errors old.reference kept) mid None → IfErr (of_committed r) (FindsLess cost.cells (cost.block running) (cost.list running) kept.body (definition running))
       finds_less (Ok next) takes running named works = tt
       finds_less (Err (commits.Full need largest)) takes running named works = λ n l same.
-          let told = takes.full need largest refl in inr (dir, named, omega (arith, told.before, works.takes.longest))
+          let told = takes.full need largest refl in
+          let more = commit-more (length (dir_bytes dir)) (length (dir_bytes dir)) (length mid.space.free) (length kept.body.free) (omega arith) (fewer_extents works.takes) in
+          inr (dir, named, omega (arith, told.before, works.takes.longest, more))
       finds_less (Err commits.DiskFault) takes running named works = λ n l same. absurd (cc)
       finds_less (Err commits.OutOfMemory) takes running named works = λ n l same. absurd (cc)
 
@@ -234,7 +241,7 @@ head_there {bound = bound} kept name io was pool runs_by there =
 
 -- a head that was opened and changed
 pub changed_head : (kept : PoolState) (name : List ℕ) (make : Pool → DatedState → Result DatedState Refusal) (cost : Cost) (old new : IoState) {number : ℕ} {was set : ObjSet} {changed : Result (Unit {0}) (OrMemory ObjFault)}
-    → old.space ≡ free_by kept.body → (kept.body.number ≤ 2 ^ 63 → number ≡ kept.body.number + 1)
+    → old.space ≡ free_by kept.body → (kept.body.uber.number ≤ 2 ^ 63 → number ≡ kept.body.uber.number + 1)
     → ((pool : Pool) → AreNamed kept.dir pool → FindsHead kept.dir name pool (Ok was))
     → ((tight : Bool) (pool : Pool) (head : DatedState) → new.disk.honest → pool.number + 1 ≡ number → SetIs (bound_of tight number) (Has old.disk.seen old.space) was head
     → ChangesHead (bound_of tight number) (Has new.disk.seen new.space) set (make pool head) changed)
@@ -265,7 +272,7 @@ changed_head kept name make cost old new {number = number} {was = was} {set = se
     made_so {tight = tight} running told rests =
         let runs = way_runs old.disk old.disk old.space kept running (begun old.disk kept running rests old.space free) in
         let there = head_of running rests in
-        let is = number_is kept.body.number number running runs.lawful runs.number next in
+        let is = number_is kept.body.uber.number number running runs.lawful runs.number next in
         let known = SetIs-later tight running.number number (omega (arith, is)) (Has old.disk.seen old.space) was there.0 there.1 in
         let changed_so = changes tight running there.0 told is known in
         (there.0, subst (λ (n : ℕ). ChangesHead (bound_of tight n) (Has new.disk.seen new.space) set (make running there.0) changed) (sym is) changed_so, there.2 (make running))

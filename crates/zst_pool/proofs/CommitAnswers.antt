@@ -5,13 +5,15 @@ use Rattle.std.proofs.lemmas.Result.{IfOk-weaker}
 use Rattle.zst_space.specs.FreeSectors.{FreeSectors}
 use Rattle.zst_block.specs.Blocks.{SparesTaken}
 use Rattle.zst_block.specs.IoCalls as blocks
+use Rattle.zst_block.specs.IoCalls.{IsBlockLength, TakesAtMost}
+use Rattle.zst_block.proofs.TakenSectors.{takes_more}
 use Rattle.zst_block.specs.IoStates.{IoState}
 use Rattle.zst_dir.specs.Rows.{Rows}
 use Rattle.zst_dir.specs.Spelling.{dir_bytes}
-use Rattle.zst_image.specs.Commits.{CommittedDir, KeepsDisk, Ready, RefusedDir}
+use Rattle.zst_image.specs.Commits.{CommittedDir, HasItsExtents, KeepsDisk, Ready, RefusedDir, commit_sectors}
+use Rattle.zst_image.specs.Bodies.{free_by, Body}
 use Rattle.zst_image.specs.Faults.{stop_of_commit}
 use Rattle.zst_uber.specs.DiskCalls as calls
-use Rattle.zst_uber.specs.declared.uber.Uber.{Uber}
 use Rattle.zst_image.specs.declared.commit_fault.CommitFault.{CommitFault}
 use Rattle.zst_image.specs.declared.commit_fault.CommitFault.TheVariants.{Full, DiskFault, OutOfMemory}
 use Rattle.zst_image.specs.declared.pool_state.PoolState.{PoolState}
@@ -22,7 +24,7 @@ use Rattle.zst_pool.specs.declared.fault.PoolFault.{PoolFault}
 use Rattle.zst_pool.specs.declared.fault.PoolFault.TheVariants.{Damaged, Failed}
 use Rattle.zst_pool.specs.declared.fault.PoolFault.TheVariants as faults
 use Rattle.zst_pool.proofs.CommandParts.{or_false}
-use Rattle.zst_pool.proofs.Room.{dir-more}
+use Rattle.zst_pool.proofs.Room.{commit-more}
 
 pub committed_open : (made : Result PoolState CommitFault) → ¬ (of_committed made ≡ Err Failed)
 committed_open (Ok kept) = λ is. cc
@@ -70,7 +72,7 @@ committed_known (Err DiskFault) shorter = tt
 committed_known (Err OutOfMemory) shorter = tt
 
 -- a refused commit wrote into free sectors alone, unless the disk failed
-committed_spares : (made : Result PoolState CommitFault) (body : Uber) (old new : IoState) → RefusedDir body old new made → ¬ (of_committed made ≡ Err faults.DiskFault) → OnErr (of_committed made) (SparesTaken old.space old.disk.seen new.disk.seen)
+committed_spares : (made : Result PoolState CommitFault) (body : Body) (old new : IoState) → RefusedDir body old new made → ¬ (of_committed made ≡ Err faults.DiskFault) → OnErr (of_committed made) (SparesTaken old.space old.disk.seen new.disk.seen)
 committed_spares (Ok kept) body old new refused apart = tt
 committed_spares (Err (Full need largest)) body old new refused apart = let fills = refused.fills (λ is. cc) in fills.seen
 committed_spares (Err DiskFault) body old new refused apart = absurd (apart refl)
@@ -84,7 +86,7 @@ module _ (made : Result PoolState CommitFault) (answer : Result PoolState PoolFa
   pub answers_err : (P : Type 0) → OnErr made P → OnErr answer P
   answers_err P holds = subst (λ (r : Result PoolState PoolFault). OnErr r P) (sym is) (committed_err P made holds)
 
-  pub answers_spares : (body : Uber) (old new : IoState) → RefusedDir body old new made → ¬ (answer ≡ Err faults.DiskFault) → OnErr answer (SparesTaken old.space old.disk.seen new.disk.seen)
+  pub answers_spares : (body : Body) (old new : IoState) → RefusedDir body old new made → ¬ (answer ≡ Err faults.DiskFault) → OnErr answer (SparesTaken old.space old.disk.seen new.disk.seen)
   answers_spares body old new refused apart =
       subst (λ (r : Result PoolState PoolFault). OnErr r (SparesTaken old.space old.disk.seen new.disk.seen)) (sym is) (committed_spares made body old new refused (λ fell. apart (is ∙ fell)))
 
@@ -108,16 +110,25 @@ module _ (made : Result PoolState CommitFault) (answer : Result PoolState PoolFa
     stays = λ works. answers_err (Ready new.disk kept.body) (refused.stays works);
     disk = record { size = disk.size; failed = answers_fails old.failed disk.failed; told = λ whole. disk.told refl; honest = disk.honest; same = disk.same };
     cause = answers_cause old.disk.faults new.disk.faults cause;
+    space = answers_ok (λ next. new.space ≡ free_by next.body) (IfOk-weaker made (CommittedDir kept.body dir old new) (λ next. new.space ≡ free_by next.body) (λ next is. sym is.space) done);
+    extents = answers_ok (λ next. HasItsExtents new.disk next.body) (IfOk-weaker made (CommittedDir kept.body dir old new) (λ next. HasItsExtents new.disk next.body) (λ next is. is.extents) done);
   }
 
   -- what is kept then has the rows that were committed
-  pub answers_rows : (body : Uber) (dir : Rows) (old new : IoState) → IfOk made (CommittedDir body dir old new) → IfOk answer (λ next. next.dir ≡ dir)
+  pub answers_rows : (body : Body) (dir : Rows) (old new : IoState) → IfOk made (CommittedDir body dir old new) → IfOk answer (λ next. next.dir ≡ dir)
   answers_rows body dir old new done = answers_ok (λ next. next.dir ≡ dir) (IfOk-weaker made (CommittedDir body dir old new) (λ next. next.dir ≡ dir) (λ next is. is.dir) done)
 
   -- and follows by the directory that was committed
-  pub answers_follows : (kept : PoolState) (dir : Rows) (old new : IoState) → kept.body.number < 2 ^ 63 → IfOk made (CommittedDir kept.body dir old new) → IfOk answer (FollowsBy old.space kept dir)
-  answers_follows kept dir old new below done = answers_ok (FollowsBy old.space kept dir)
-      (IfOk-weaker made (CommittedDir kept.body dir old new) (FollowsBy old.space kept dir) (λ next is. record { rows = is.dir; number = is.number; below = below; sectors = is.ends.1; ends = is.bounded }) done)
+  pub answers_follows : (kept : PoolState) (dir : Rows) (old new : IoState) → kept.body.uber.number < 2 ^ 63 → old.space.sectors ≡ kept.body.uber.sectors → TakesAtMost (commit_sectors (length (dir_bytes dir)) (length old.space.free)) (IsBlockLength 16) old.space new.space
+      → IfOk made (CommittedDir kept.body dir old new) → IfOk answer (FollowsBy old.space kept dir)
+  answers_follows kept dir old new below sectors takes done = answers_ok (FollowsBy old.space kept dir)
+      (IfOk-weaker made (CommittedDir kept.body dir old new) (FollowsBy old.space kept dir) (λ next is. record {
+        rows = is.dir;
+        number = is.number;
+        below = below;
+        sectors = ap (λ (s : FreeSectors). s.sectors) is.space ∙ takes.sectors ∙ sectors;
+        takes = subst (TakesAtMost (commit_sectors (length (dir_bytes dir)) (length old.space.free)) (IsBlockLength 16) old.space) (sym is.space) takes;
+      }) done)
 
 -- rows that were committed have the partial states of the rows that they are
 pub rows_left : {dir rows : Rows} → dir ≡ rows → (answer : Result PoolState PoolFault) → IfOk answer (λ next. next.dir ≡ dir) → IfOk answer (λ next. next.dir.partials ≡ rows.partials)
@@ -134,6 +145,8 @@ ends_idle kept io fault answer fell apart ready = record {
   stays = λ works. subst (λ (r : Result PoolState PoolFault). OnErr r (Ready io.disk kept.body)) (sym fell) ready;
   disk = record { size = refl; failed = or_false io.failed ∙ ap (λ b. io.failed || b) (sym never); told = λ whole. refl; honest = λ told. told; same = refl };
   cause = record { later = omega arith; fault = λ disk. absurd (disk_told (sym never ∙ ap is_disk_fault disk)) };
+  space = subst (λ (r : Result PoolState PoolFault). IfOk r (λ next. io.space ≡ free_by next.body)) (sym fell) tt;
+  extents = subst (λ (r : Result PoolState PoolFault). IfOk r (λ next. HasItsExtents io.disk next.body)) (sym fell) tt;
 }
   where
     never : is_disk_fault answer ≡ false
@@ -143,6 +156,12 @@ ends_idle kept io fault answer fell apart ready = record {
 pub call_grows : (space : FreeSectors) (kept : PoolState) (dir : Rows) (answer : Result PoolState PoolFault) → length (dir_bytes dir) ≤ length (dir_bytes kept.dir) + 2048 → IfOk answer (FollowsBy space kept dir) → IfOk answer (CallGrows space kept)
 call_grows space kept dir (Ok next) longer follows =
     let same = ap (λ (rows : Rows). length (dir_bytes rows)) follows.rows in
-    let more = dir-more (length (dir_bytes dir)) (length (dir_bytes kept.dir) + 2048) longer in
-    record { number = follows.number; directory = omega (arith, same, longer); sectors = follows.sectors; end = λ none. omega (arith, follows.ends none, more) }
+    let extents = length space.free in
+    let more = commit-more (length (dir_bytes dir)) (length (dir_bytes kept.dir) + 2048) extents extents longer (omega arith) in
+    record {
+      number = follows.number;
+      directory = omega (arith, same, longer);
+      sectors = follows.sectors;
+      takes = takes_more (commit_sectors (length (dir_bytes dir)) extents) (commit_sectors (length (dir_bytes kept.dir) + 2048) extents) space (free_by next.body) more follows.takes;
+    }
 call_grows space kept dir (Err fault) longer follows = tt

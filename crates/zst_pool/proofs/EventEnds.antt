@@ -1,10 +1,11 @@
 -- How an event of a pool ends, from what its commit did and what the pool then kept.
-use Rattle.std.specs.Prelude.{Result, Ok, Err, IfOk, OnErr}
-use Rattle.std.proofs.Common.{◌≡◌, ℕ, List, [], Bool, false, true, ◌||◌, refl, sym, ap, ◌∙◌, subst, arith}
-use Rattle.zst_outside.specs.Images.{Leaves-none, OnlyReads-none}
+use Rattle.std.specs.Prelude.{Result, Ok, Err, IfErr, IfOk, OnErr, OnOk}
+use Rattle.std.proofs.Common.{◌≡◌, ℕ, ◌≤◌, List, [], Bool, false, true, ◌||◌, refl, sym, ap, ◌∙◌, subst, arith}
+use Rattle.std.proofs.lemmas.Result.{IfOk-weaker}
+use Rattle.zst_outside.specs.Images.{Leaves-none, OnlyReads, OnlyReads-none}
 use Rattle.zst_outside.specs.declared.disk.Disk.{Ghosts}
 use Rattle.zst_space.specs.FreeSectors.{FreeSectors}
-use Rattle.zst_block.specs.Blocks.{SparesTaken}
+use Rattle.zst_block.specs.Blocks.{KeepsBlocks, SparesTaken}
 use Rattle.zst_block.proofs.BlocksLaws.{SparesTaken-same}
 use Rattle.zst_block.specs.IoCalls.{Looks, is_damage}
 use Rattle.zst_block.specs.IoStates.{IoState, disk_of, io_of}
@@ -16,28 +17,26 @@ use Rattle.zst_model.specs.pools.Step.{Stepped, stepped}
 use Rattle.zst_objset.specs.Damage.{DamageFact}
 use Rattle.zst_dir.specs.Rows.{Rows}
 use Rattle.zst_dir.specs.declared.rows.Partial.{Partial}
-use Rattle.zst_image.specs.Commits.{Ready}
-use Rattle.zst_image.specs.Reads.{free_by}
+use Rattle.zst_image.specs.Commits.{HasItsExtents, Ready}
+use Rattle.zst_image.specs.Bodies.{free_by}
 use Rattle.zst_image.specs.declared.pool_state.PoolState.{PoolState}
-use Rattle.zst_pool.specs.Calls.{CallDid, CallGrows, IsCallFault, IsCallFull, keeping}
+use Rattle.zst_pool.specs.Calls.{CallDid, CallGrows, CanCommit, IsCallFault, IsCallFull, keeping}
 use Rattle.zst_pool.specs.CommandRuns.{Runs}
-use Rattle.zst_pool.specs.Cost.{Cost}
+use Rattle.zst_pool.specs.Cost.{Cost, FindsLess, cost_of}
 use Rattle.zst_pool.specs.Events.{CommitsPartial, EndsCommit, LooksUp, PutsPartial, SameDisk, Settles, StepDid}
-use Rattle.zst_pool.specs.Faults.{is_disk_fault, is_full}
+use Rattle.zst_pool.specs.Damage.{IsOf, TellsDamage}
+use Rattle.zst_pool.specs.Faults.{is_disk_fault}
 use Rattle.zst_pool.specs.Queries.{stop_of}
-use Rattle.zst_pool.specs.StepAnswers.{BeforeOrAfter}
+use Rattle.zst_pool.specs.StepAnswers.{BeforeOrAfter, StepAnswer}
 use Rattle.zst_pool.specs.declared.fault.PoolFault.{PoolFault}
 use Rattle.zst_pool.specs.declared.fault.PoolFault.TheVariants.{DiskFault, Failed, OutOfMemory, Full}
 use Rattle.zst_pool.specs.declared.pool.Pool.{Pool}
-use Rattle.zst_pool.proofs.CallLemmas.{blocks_last, call_fell, can_still, cause_told, fault_has, fault_made, free_again, kept_has, ready_still, tells_disk, tells_stop}
+use Rattle.zst_pool.proofs.CallLemmas.{blocks_left, call_fell, cause_told, commits_left, fault_has, fault_made, kept_has, ready_still, tells_disk, tells_stop}
 use Rattle.zst_pool.proofs.CommitAnswers.{disk_told}
 use Rattle.zst_pool.proofs.CommandParts.{disk_fault_same, or_false}
 use Rattle.zst_pool.proofs.PoolsAtRest.{commit_next_of}
-use Rattle.zst_pool.proofs.QuerySteps.{cause_told as cause_looked, fails_told, on_err, ready_read, spares_read}
-
-either_failed : (a b : Bool) → (a || b) ≡ false → a ≡ true → ⊥
-either_failed true b h is = cc
-either_failed false b h is = cc
+use Rattle.zst_pool.proofs.QuerySteps.{cause_told as cause_looked, extents_read, fails_told, on_err, on_ok, ready_read, rests_read, since_read, spares_read}
+use Rattle.zst_pool.proofs.StepCosts.{blocks_spared, spends_apart}
 
 abbrev refused_with : PoolFault → Result ℕ PoolFault
 refused_with fault = Err fault
@@ -55,8 +54,9 @@ module _ {D : Type 0} {g : Ghosts D} where
     stays = refl;
     failed_pool = λ is. refl;
     idle_disk = λ is. refl;
-    space = λ works. absurd (either_failed pool.io.failed (is_full {T = T} (Err Failed)) works failed);
-    works = λ works. absurd (either_failed pool.io.failed (is_full {T = T} (Err Failed)) works failed);
+    space = tt;
+    works = tt;
+    extents = tt;
     ready = λ works. absurd (cc (failed, works));
     failed = or_false pool.io.failed;
     told = λ whole. refl;
@@ -78,19 +78,30 @@ module _ {D : Type 0} {g : Ghosts D} where
     size = refl;
   }
 
-  -- an event whose commit ended so over its disk, whatever sectors it began with, once the pool kept what it committed
-  module _ (old new : Pool D g) (mid : Io D g) (made : Result PoolState PoolFault) (answer : Result ℕ PoolFault) (works : old.io.failed ≡ false) (kept : keeping new.kept answer ≡ made)
-      (free : is_full made ≡ false → new.io.space ≡ free_by new.kept.body) (disk : SameDisk mid new.io) where
+  -- an event whose commit ended so over its Io, whatever sectors it began with, once the pool kept what it committed
+  module _ (old new : Pool D g) (mid : Io D g) (made : Result PoolState PoolFault) (answer : Result ℕ PoolFault) (works : old.io.failed ≡ false) (kept : keeping new.kept answer ≡ made) (over : new.io ≡ mid) where
+    disk : SameDisk mid new.io
+    disk = record {
+      now = ap (λ (io : Io D g). io.disk.now) over;
+      failed = ap (λ (io : Io D g). io.failed) over;
+      checksum_errors = ap (λ (io : Io D g). io.checksum_errors) over;
+      same = ap (λ (io : Io D g). io.disk.ghost_name) over;
+    }
+
     pub settles_committed : (space : FreeSectors) → EndsCommit old.kept (record { disk = disk_of old.io; space = space; failed = old.io.failed; checksum_errors = old.io.checksum_errors; reference = old.io.disk.ghost_name }) (io_of mid) made → OnErr answer (new.kept ≡ old.kept)
         → Settles old new answer
     settles_committed space ends stays =
         let ready = ready_still new.kept answer made kept old.kept (disk_of mid) (disk_of new.io) mid.failed new.io.failed (ap (λ (d : D). g.state d) disk.now) disk.failed ends.ready ends.stays stays in
+        let can = commits_left (disk_of mid) mid.space made ends.space ends.ready in
         record {
           stays = stays;
           failed_pool = λ is. absurd (cc (works, is));
           idle_disk = λ is. absurd (cc (works, is));
-          space = free_again new.kept answer made kept old.io.failed new.io.space free;
-          works = can_still new.kept answer made kept (disk_of new.io) new.io.space new.io.failed free ready;
+          space = kept_has (λ next. new.io.space ≡ free_by next.body) new.kept answer made kept (subst (λ (io : Io D g). IfOk made (λ next. io.space ≡ free_by next.body)) (sym over) ends.space);
+          works = kept_has (λ next. CanCommit (disk_of new.io) new.io.space next.body) new.kept answer made kept (subst (λ (io : Io D g). IfOk made (λ next. CanCommit (disk_of io) io.space next.body)) (sym over) can);
+          extents = kept_has (λ next. HasItsExtents (disk_of old.io) old.kept.body → HasItsExtents (disk_of new.io) next.body) new.kept answer made kept
+              (IfOk-weaker made (λ next. HasItsExtents (disk_of mid) next.body) (λ next. HasItsExtents (disk_of old.io) old.kept.body → HasItsExtents (disk_of new.io) next.body)
+              (λ next has was. subst (λ (io : Io D g). HasItsExtents (disk_of io) next.body) (sym over) has) ends.extents);
           ready = ready;
           failed = disk.failed ∙ ends.disk.failed ∙ ap (λ fell. old.io.failed || fell) (tells_disk new.kept answer made kept);
           told = λ whole. disk.checksum_errors ∙ ends.disk.told (ap is_damage (tells_stop new.kept answer made kept) ∙ whole);
@@ -101,8 +112,8 @@ module _ {D : Type 0} {g : Ghosts D} where
 
     -- and what a partial state's commit did, the call that keeps it did
     pub puts_committed : (definition : PlainPartial → Plain → Result Plain Refusal) (partial : Partial) (dir : Rows) → CommitsPartial definition partial dir old.kept old.io mid made
-        → IfOk answer (λ number. number ≡ new.kept.body.number) → (is_full made ≡ true → new.io.space ≡ mid.space) → PutsPartial definition partial dir old new answer
-    puts_committed definition partial dir puts number left = record {
+        → IfOk made (λ next. mid.space ≡ free_by next.body) → IfOk answer (λ number. number ≡ new.kept.body.uber.number) → PutsPartial definition partial dir old new answer
+    puts_committed definition partial dir puts left number = record {
       did = λ tight start running plain told standing way is.
           let honest = subst (λ (d : D). (g.state d).honest) disk.now told in
           subst (λ (d : D). CallDid tight (g.state start) (g.state d) old.kept running (definition plain running) (keeping new.kept answer)) (sym disk.now)
@@ -112,9 +123,10 @@ module _ {D : Type 0} {g : Ghosts D} where
       known = λ standing. fault_has new.kept answer made kept IsCallFault puts.known;
       full = λ need largest fell.
           let same = fault_made new.kept answer made kept (Full need largest) fell in
-          subst (λ (less : FreeSectors). IsCallFull old.io.space less old.kept.dir need largest) (sym (left (ap is_full same))) (puts.full need largest same);
+          subst (λ (io : Io D g). IsCallFull old.io.space io.space old.kept.dir need largest) (sym over) (puts.full need largest same);
       grows = kept_has (CallGrows old.io.space old.kept) new.kept answer made kept puts.grows;
-      blocks = blocks_last (disk_of old.io).seen (disk_of mid).seen (disk_of new.io).seen old.io.space new.io.space new.kept answer made kept puts.blocks free (ap (λ (d : D). (g.state d).seen) disk.now);
+      blocks = kept_has (λ next. KeepsBlocks (disk_of old.io).seen old.io.space (disk_of new.io).seen new.io.space) new.kept answer made kept
+          (subst (λ (io : Io D g). IfOk made (λ next. KeepsBlocks (disk_of old.io).seen old.io.space (disk_of io).seen io.space)) (sym over) (blocks_left (disk_of old.io).seen (disk_of mid).seen old.io.space mid.space made puts.blocks left));
       spares = λ apart.
           subst (λ (d : D). OnErr answer (SparesTaken old.io.space (disk_of old.io).seen (g.state d).seen)) (sym disk.now)
           (refused_apart (SparesTaken old.io.space (disk_of old.io).seen (disk_of mid).seen) new.kept answer made kept puts.spares apart);
@@ -135,12 +147,11 @@ module _ {D : Type 0} {g : Ghosts D} where
     size = refl;
   })
 
-  -- what was run stands over the disk that the pool then has, as what it kept
-  pub runs_settled : {definition : Plain → Result Stepped Refusal} {cost : Cost} {damage : DamageFact} {kept : PoolState} {old : IoState} (mid new : Io D g) (made answer : Result PoolState PoolFault) → SameDisk mid new → answer ≡ made
-      → Runs definition cost damage kept old (io_of mid) made → Runs definition cost damage kept old (record { disk = disk_of new; space = mid.space; failed = mid.failed; checksum_errors = mid.checksum_errors; reference = mid.disk.ghost_name }) answer
-  runs_settled {definition = definition} {cost = cost} {damage = damage} {kept = kept} {old = old} mid new made answer disk same runs =
-      let over = λ (now : D) (result : Result PoolState PoolFault). Runs definition cost damage kept old (record { disk = g.state now; space = mid.space; failed = mid.failed; checksum_errors = mid.checksum_errors; reference = mid.disk.ghost_name }) result in
-      subst (over new.disk.now) (sym same) (subst (λ (now : D). over now made) (sym disk.now) runs)
+  -- what was run stands over the Io that the pool then has, as what it kept
+  pub runs_settled : {definition : Plain → Result Stepped Refusal} {cost : Cost} {damage : DamageFact} {kept : PoolState} {old : IoState} (mid new : Io D g) (made answer : Result PoolState PoolFault) → new ≡ mid → answer ≡ made
+      → Runs definition cost damage kept old (io_of mid) made → Runs definition cost damage kept old (io_of new) answer
+  runs_settled {definition = definition} {cost = cost} {damage = damage} {kept = kept} {old = old} mid new made answer over same runs =
+      subst (λ (r : Result PoolState PoolFault). Runs definition cost damage kept old (io_of new) r) (sym same) (subst (λ (io : Io D g). Runs definition cost damage kept old (io_of io) made) (sym over) runs)
 
   -- an event that went well, or was refused so, also where it answers something else
   pub settles_ok : {T U : Type 0} (old new : Pool D g) (value : T) (reply : U) → Settles old new (Ok value) → Settles old new (Ok reply)
@@ -150,6 +161,7 @@ module _ {D : Type 0} {g : Ghosts D} where
     idle_disk = settles.idle_disk;
     space = settles.space;
     works = settles.works;
+    extents = settles.extents;
     ready = settles.ready;
     failed = settles.failed;
     told = settles.told;
@@ -168,6 +180,7 @@ module _ {D : Type 0} {g : Ghosts D} where
         idle_disk = settles.idle_disk;
         space = settles.space;
         works = settles.works;
+        extents = settles.extents;
         ready = settles.ready;
         failed = settles.failed ∙ ap (λ (b : Bool). old.io.failed || b) (disk_fault_same T U fault);
         told = settles.told;
@@ -187,8 +200,9 @@ module _ {D : Type 0} {g : Ghosts D} where
         stays = on_err result refl;
         failed_pool = λ is. absurd (cc (works, is));
         idle_disk = λ is. absurd (cc (works, is));
-        space = λ told. space_is;
-        works = λ told. commit_next_of (disk_of io) io.space pool.kept.body space_is after;
+        space = on_ok result space_is;
+        works = on_ok result (commit_next_of (disk_of io) io.space pool.kept.body space_is after);
+        extents = on_ok result (extents_read (disk_of pool.io) (disk_of io) pool.kept looks.reads);
         ready = λ told. after;
         failed = looks.failed ∙ ap (λ (b : Bool). pool.io.failed || b) (fails_told result);
         told = looks.told;
@@ -196,6 +210,46 @@ module _ {D : Type 0} {g : Ghosts D} where
         honest = looks.reads.honest;
         same = looks.same;
       }
+
+  -- a step for which no memory was left before anything was done
+  pub step_starved : (now : ℕ) (command : Command) (old new : Pool D g) (result : Result (List (List ℕ)) PoolFault) → result ≡ Err OutOfMemory → new.kept ≡ old.kept → OnlyReads (disk_of old.io) (disk_of new.io)
+      → StepDid now command old new result
+  step_starved now command old new result fell kept reads =
+      let here = disk_of old.io in
+      let there = disk_of new.io in
+      let cost = cost_of command in
+      let Is = TellsDamage command old.kept.dir here (free_by old.kept.body) in
+      record {
+        moments = λ tight running told rested. since_read here there old.kept reads running rested (stepped [] now command running);
+        answer = λ tight running told standing rested.
+            subst (λ (k : PoolState). StepAnswer tight there k running (stepped [] now command running) result) (sym kept)
+            (subst (StepAnswer tight there old.kept running (stepped [] now command running)) (sym fell) (rests_read here there old.kept reads running rested));
+        open_still = λ standing is. cc (fell, is);
+        spends = λ standing. (0, omega arith, spends_apart cost.cells 0 cost.most_list old.kept new.io.space new.kept OutOfMemory result fell (λ need largest is. cc));
+        exact = λ running told standing rested. spends_apart cost.cells (cost.block running) (cost.list running) old.kept new.io.space new.kept OutOfMemory result fell (λ need largest is. cc);
+        short = λ running told standing rested.
+            subst (λ (r : Result (List (List ℕ)) PoolFault). IfErr r (FindsLess cost.cells (cost.block running) (cost.list running) old.kept.body (stepped [] now command running))) (sym fell) (λ need largest is. absurd (cc));
+        spares = λ apart. on_err result (spares_read here there old.kept reads);
+        damaged = λ told. subst (λ (r : Result (List (List ℕ)) PoolFault). IfErr r (IsOf Is)) (sym fell) (λ sector stated found is. absurd (cc));
+        blocks = λ apart. blocks_spared here.seen there.seen old.kept new.kept kept (spares_read here there old.kept reads);
+      }
+
+  -- and an event
+  pub settles_starved : {T : Type 0} (old new : Pool D g) (result : Result T PoolFault) → result ≡ Err OutOfMemory → old.io.failed ≡ false → Ready (disk_of old.io) old.kept.body → new.kept ≡ old.kept → SameDisk old.io new.io → Settles old new result
+  settles_starved {T = T} old new result fell works ready kept disk = record {
+    stays = on_err result kept;
+    failed_pool = λ is. absurd (cc (is, works));
+    idle_disk = λ is. disk.now;
+    space = subst (λ (r : Result T PoolFault). OnOk r (new.io.space ≡ free_by new.kept.body)) (sym fell) tt;
+    works = subst (λ (r : Result T PoolFault). OnOk r (CanCommit (disk_of new.io) new.io.space new.kept.body)) (sym fell) tt;
+    extents = subst (λ (r : Result T PoolFault). OnOk r (HasItsExtents (disk_of old.io) old.kept.body → HasItsExtents (disk_of new.io) new.kept.body)) (sym fell) tt;
+    ready = λ told. subst (λ (k : PoolState). Ready (disk_of new.io) k.body) (sym kept) (subst (λ (d : D). Ready (g.state d) old.kept.body) (sym disk.now) ready);
+    failed = disk.failed ∙ or_false old.io.failed ∙ ap (λ (b : Bool). old.io.failed || b) (sym (ap is_disk_fault fell));
+    told = λ whole. disk.checksum_errors;
+    cause = record { later = subst (λ (d : D). (disk_of old.io).faults ≤ (g.state d).faults) (sym disk.now) (omega arith); fault = λ is. absurd (cc (fell, is)) };
+    honest = λ told. subst (λ (d : D). (g.state d).honest) disk.now told;
+    same = disk.same;
+  }
 
   -- a step of a pool that has failed
   pub step_failed : (now : ℕ) (command : Command) (pool : Pool D g) → pool.io.failed ≡ true → StepDid now command pool pool (Err Failed)

@@ -1,6 +1,6 @@
 -- What stands for a pool names it.
 use Rattle.std.proofs.Common.{List, [], ◌∷◌, map, refl, Option, ℕ}
-use Rattle.zst_uber.specs.declared.uber.Uber.{Uber}
+use Rattle.zst_image.specs.Bodies.{Body}
 use Rattle.zst_model.specs.pools.Pool.{Pool}
 use Rattle.zst_tree.specs.Indices.{Blocks}
 use Rattle.zst_dir.specs.Rows.{Rows}
@@ -24,8 +24,8 @@ each_made Named make of [] = tt
 each_made Named make of (x ∷ xs) = (of x, each_made Named make of xs)
 
 -- a body and its rows name the pool whose objects nothing touched
-pub bare_is_named : (uber : Uber) (rows : Rows) → IsNamedBy uber rows (bare_pool uber rows)
-bare_is_named uber rows = record {
+pub bare_is_named : (body : Body) (rows : Rows) → IsNamedBy body rows (bare_pool body rows)
+bare_is_named body rows = record {
   id = refl;
   number = refl;
   guids = refl;

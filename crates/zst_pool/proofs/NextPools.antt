@@ -9,7 +9,7 @@ use Rattle.std.proofs.lemmas.Slice.Eq.{bytes_eq-Decides}
 use Rattle.zst_names.specs.Names.{dataset_of}
 use Rattle.zst_names.specs.Marks.{at_is_mark}
 use Rattle.zst_names.proofs.MarkedNames.{join_is_name}
-use Rattle.zst_uber.specs.declared.uber.Uber.{Uber}
+use Rattle.zst_image.specs.Bodies.{Body}
 use Rattle.zst_model.specs.states.DatedState.{DatedState}
 use Rattle.zst_model.specs.pools.Pool.{Pool, is_before, snapshot_is_before, inserted, untouched}
 use Rattle.zst_model.specs.pools.Pool as plain
@@ -60,8 +60,8 @@ dataset_runs {bound = bound} has rows running row dataset is new = record {
 }
 
 -- the row of a new snapshot
-abbrev pub taken_row : Uber → ℕ → List ℕ → Dataset → Snapshot
-taken_row uber now name row = record { name = name; guid = uber.id * 2 ^ 32 + (uber.guids + 1); time = now; number = uber.number + 1; objects = row.head; redact = row.redact }
+abbrev pub taken_row : Body → ℕ → List ℕ → Dataset → Snapshot
+taken_row body now name row = record { name = name; guid = body.uber.id * 2 ^ 32 + (body.uber.guids + 1); time = now; number = body.uber.number + 1; objects = row.head; redact = row.redact }
 
 -- where a snapshot stands, by names and numbers
 unfoldable pub stands_before : List ℕ → ℕ → List ℕ → ℕ → Bool
@@ -72,7 +72,7 @@ taken_row_is_taken : {tight : Bool} (has : Blocks) (kept : PoolState) (running :
 taken_row_is_taken has kept running now name row dataset is matches = record {
   named = record {
     name = refl;
-    guid = ap (λ i. i * 2 ^ 32 + (running.guids + 1)) is.id ∙ ap (λ g. kept.body.id * 2 ^ 32 + (g + 1)) is.guids;
+    guid = ap (λ i. i * 2 ^ 32 + (running.guids + 1)) is.id ∙ ap (λ g. kept.body.uber.id * 2 ^ 32 + (g + 1)) is.guids;
     time = refl;
     number = ap (λ n. n + 1) is.number;
     redact = matches.named.redact;
@@ -80,10 +80,10 @@ taken_row_is_taken has kept running now name row dataset is matches = record {
   objects = matches.head;
 }
 
-taken_stands_alike : {bound : Option ℕ} (has : Blocks) (uber : Uber) (pool : Pool) (now : ℕ) (name : List ℕ) (row : Dataset) (dataset : plain.Dataset) (x : Snapshot) (y : plain.Snapshot)
-    → pool.number ≡ uber.number → SnapshotIs bound has x y → dir_rows.snapshot_is_before (taken_row uber now name row) x ≡ snapshot_is_before (snapshot_of now name pool dataset) y
+taken_stands_alike : {bound : Option ℕ} (has : Blocks) (body : Body) (pool : Pool) (now : ℕ) (name : List ℕ) (row : Dataset) (dataset : plain.Dataset) (x : Snapshot) (y : plain.Snapshot)
+    → pool.number ≡ body.uber.number → SnapshotIs bound has x y → dir_rows.snapshot_is_before (taken_row body now name row) x ≡ snapshot_is_before (snapshot_of now name pool dataset) y
 unfolding stands_before
-taken_stands_alike has uber pool now name row dataset x y number is =
+taken_stands_alike has body pool now name row dataset x y number is =
     ap (λ (k : ℕ). stands_before name (k + 1) x.name x.number) (sym number)
     ∙ ap (λ (n : List ℕ). stands_before name (pool.number + 1) n x.number) (sym is.named.name)
     ∙ ap (λ (k : ℕ). stands_before name (pool.number + 1) y.name k) (sym is.named.number)

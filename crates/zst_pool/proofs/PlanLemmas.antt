@@ -2,7 +2,7 @@
 use Rattle.std.specs.Prelude.{Result, Ok, Err, IfErr}
 use Rattle.std.proofs.Common.{◌≡◌, ◌⊎◌, inl, inr, ℕ, ◌+◌, ◌*◌, ◌<◌, Bool, true, false, List, [], ◌∷◌, length, map, Option, nat_lt, refl, sym, ap, ◌∙◌, subst}
 use Rattle.std.proofs.lemmas.Bool.{true≢false}
-use Rattle.zst_uber.specs.declared.uber.Uber.{Uber}
+use Rattle.zst_image.specs.Bodies.{Body}
 use Rattle.zst_model.specs.declared.refusals.apply_fault.ApplyFault.{ApplyFault}
 use Rattle.zst_model.specs.declared.refusals.faults.Quantity.{Quantity}
 use Rattle.zst_model.specs.declared.refusals.faults.Quantity.TheVariants as quantities
@@ -59,11 +59,11 @@ unfolding is_told
 told_of = plan_cases (λ fault refusal. is_told refusal ≡ is_by_rows fault) (λ fault. refl) (λ which number. refl)
 
 -- what passes a limit isn't told by the directory
-limit_apart : (numbers indices : ℕ) (lists : Bool) (uber : Uber) (fault : PlanFault) → IsLimitOf numbers indices lists uber fault → is_by_rows fault ≡ false
-limit_apart numbers indices lists uber fault (inl (inl past)) = ap is_by_rows past.0
-limit_apart numbers indices lists uber fault (inl (inr past)) = ap is_by_rows past.0
-limit_apart numbers indices lists uber fault (inr (inl long)) = ap is_by_rows long.0
-limit_apart numbers indices lists uber fault (inr (inr last)) = ap is_by_rows last.0
+limit_apart : (numbers indices : ℕ) (lists : Bool) (body : Body) (fault : PlanFault) → IsLimitOf numbers indices lists body fault → is_by_rows fault ≡ false
+limit_apart numbers indices lists body fault (inl (inl past)) = ap is_by_rows past.0
+limit_apart numbers indices lists body fault (inl (inr past)) = ap is_by_rows past.0
+limit_apart numbers indices lists body fault (inr (inl long)) = ap is_by_rows long.0
+limit_apart numbers indices lists body fault (inr (inr last)) = ap is_by_rows last.0
 
 module _ {T : Type 0} (definition : Pool → Result Stepped Refusal) (numbers indices : ℕ) (lists : Bool) (kept : PoolState) where
   -- a command that its plan refuses
@@ -235,12 +235,12 @@ no_plan-commit made same fault is = not_planned made fault (sym same ∙ is)
     not_planned (Err commits.OutOfMemory) fault is = absurd (cc)
 
 -- what a command on a head is refused for once it was opened
-pub head_limits : (numbers indices : ℕ) (lists : Bool) (uber : Uber) (changed : Result (Unit {0}) (OrMemory ObjFault)) → ((fault : PlanFault) → of_change changed ≡ Err (Plan fault) → IsPast numbers indices fault)
-    → (fault : PlanFault) → (of_change changed ≡ Err (Plan fault)) ⊎ IsLast uber.number fault → IsLimitOf numbers indices lists uber fault
-head_limits numbers indices lists uber changed past fault (inl was) = inl (past fault was)
-head_limits numbers indices lists uber changed past fault (inr last) = inr (inr last)
+pub head_limits : (numbers indices : ℕ) (lists : Bool) (body : Body) (changed : Result (Unit {0}) (OrMemory ObjFault)) → ((fault : PlanFault) → of_change changed ≡ Err (Plan fault) → IsPast numbers indices fault)
+    → (fault : PlanFault) → (of_change changed ≡ Err (Plan fault)) ⊎ IsLast body.uber.number fault → IsLimitOf numbers indices lists body fault
+head_limits numbers indices lists body changed past fault (inl was) = inl (past fault was)
+head_limits numbers indices lists body changed past fault (inr last) = inr (inr last)
 
 -- what the plan of a snapshot is refused for
-pub told_or_last : (numbers indices : ℕ) (lists : Bool) (uber : Uber) (fault : PlanFault) → (is_by_rows fault ≡ true) ⊎ IsLast uber.number fault → (is_by_rows fault ≡ true) ⊎ IsLimitOf numbers indices lists uber fault
-told_or_last numbers indices lists uber fault (inl told) = inl told
-told_or_last numbers indices lists uber fault (inr last) = inr (inr (inr last))
+pub told_or_last : (numbers indices : ℕ) (lists : Bool) (body : Body) (fault : PlanFault) → (is_by_rows fault ≡ true) ⊎ IsLast body.uber.number fault → (is_by_rows fault ≡ true) ⊎ IsLimitOf numbers indices lists body fault
+told_or_last numbers indices lists body fault (inl told) = inl told
+told_or_last numbers indices lists body fault (inr last) = inr (inr (inr last))

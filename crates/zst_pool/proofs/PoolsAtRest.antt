@@ -4,11 +4,11 @@ use Rattle.std.proofs.Common.{◌≡◌, ℕ, ◌+◌, ◌≤◌, ◌<◌, ◌^�
 use Rattle.std.proofs.lemmas.List.Elements.{filter_passes}
 use Rattle.zst_outside.specs.Images.{DiskState, Leaves, Leaves-weaker, OnlyReads-none}
 use Rattle.zst_space.specs.FreeSectors.{FreeSectors}
-use Rattle.zst_block.specs.Blocks.{FillsFree, FitsDisk, Has, IsTaken, Spared}
+use Rattle.zst_block.specs.Blocks.{FillsFree, FitsDisk, Has, Spared}
 use Rattle.zst_block.specs.IoStates.{IoState}
 use Rattle.zst_block.proofs.BlocksLaws.{FillsFree-reads, FillsFree-then, Has-spared, IsTaken-label, KeepsBlocks-fills}
-use Rattle.zst_uber.specs.Body.{InRange}
-use Rattle.zst_uber.specs.declared.uber.Uber.{Uber}
+use Rattle.zst_extents.proofs.ApartExtents.{IsSpaceFrom-apart}
+use Rattle.zst_image.specs.Bodies.{Body, behind_end, free_by}
 use Rattle.zst_model.specs.pools.KeptPool.{kept_of}
 use Rattle.zst_model.specs.pools.Limits.{last_guid, last_number}
 use Rattle.zst_model.specs.pools.Pool.{Pool, Partial, IsPool}
@@ -21,8 +21,8 @@ use Rattle.zst_image.specs.declared.commit_fault.CommitFault.{CommitFault}
 use Rattle.zst_image.specs.declared.commit_fault.CommitFault.TheVariants as commits
 use Rattle.zst_image.specs.declared.pool_state.PoolState.{PoolState}
 use Rattle.zst_image.specs.Commits.{Commits, CommittedDir, NextIs, Ready}
-use Rattle.zst_image.specs.Reads.{IsNamedBy, PartialIs, Reads, Rests, RowsAre, RunsBy, bound_of, free_by, kept_rows}
-use Rattle.zst_image.proofs.CommitLemmas.{IsTaken-free_by, ReadsAs-spared, Ready-fills, Rests-fills}
+use Rattle.zst_image.specs.Reads.{IsNamedBy, PartialIs, Reads, Rests, RowsAre, RunsBy, bound_of, kept_rows}
+use Rattle.zst_image.proofs.CommitLemmas.{ReadsAs-spared, Ready-fills, Rests-fills}
 use Rattle.zst_image.proofs.Growth.{PartialIs-grows, RunsBy-grows}
 use Rattle.zst_image.proofs.PlainReads.{Rests-plain, RunsBy-plain}
 use Rattle.zst_image.proofs.KeptPartials.{images_keep}
@@ -33,22 +33,30 @@ use Rattle.zst_pool.proofs.LawfulPools.{rows_make_pools}
 use Rattle.zst_dir.proofs.Matches.{filter-Match}
 use Rattle.zst_pool.proofs.NamedPools.{rows_named}
 
--- the sectors that are free by a body in its ranges fit its disk
-pub free_by_fits : (size : ℕ) (uber : Uber) → InRange size uber → FitsDisk size (free_by uber)
-free_by_fits size uber in_range = record { extents = record { end = in_range.end.1; extents = in_range.end.0 }; sectors = in_range.sectors }
+-- the sectors that are free by a body that is ready fit its disk
+pub free_by_fits : (disk : DiskState) (body : Body) → Ready disk body → FitsDisk disk.size (free_by body)
+free_by_fits disk body ready = record { extents = IsSpaceFrom-apart 8 (free_by body) ready.in_range.end.1 ready.apart; sectors = ready.in_range.sectors }
+
+-- and so do those behind its end
+pub behind_end_fits : (disk : DiskState) (body : Body) → Ready disk body → FitsDisk disk.size (behind_end body.uber)
+behind_end_fits disk body ready = record { extents = record { end = ready.in_range.end.1; extents = ready.in_range.end.0 }; sectors = ready.in_range.sectors }
 
 -- before its first part an event wrote nothing
-pub fills_none : (old : DiskState) (space : FreeSectors) (uber : Uber) → space ≡ free_by uber → FillsFree old (free_by uber) old space
-fills_none old space uber free = subst (λ (s : FreeSectors). FillsFree old s old space) free (FillsFree-reads old old space (OnlyReads-none old))
+pub fills_none : (old : DiskState) (space : FreeSectors) (body : Body) → space ≡ free_by body → FillsFree old (free_by body) old space
+fills_none old space body free = subst (λ (s : FreeSectors). FillsFree old s old space) free (FillsFree-reads old old space (OnlyReads-none old))
 
 -- what a part of an event wrote leaves the disk as ready for its commit as it was
-pub ready_after : (old new : DiskState) (space less : FreeSectors) (uber : Uber) → space ≡ free_by uber → FillsFree old space new less → Ready old uber → Ready new uber
-ready_after old new space less uber free fills ready =
-    Ready-fills old new space less uber (subst (λ (s : FreeSectors). IsTaken s 0 4096) (sym free) (IsTaken-free_by old.size uber ready.in_range)) fills ready
+pub ready_after : (old new : DiskState) (space less : FreeSectors) (body : Body) → space ≡ free_by body → FillsFree old space new less → Ready old body → Ready new body
+ready_after old new space less body free fills ready =
+    Ready-fills old new space less body (IsTaken-label old.size space (subst (FitsDisk old.size) (sym free) (free_by_fits old body ready))) fills ready
 
 -- from a disk that is ready, over the sectors that a body leaves free, the next commit can be made
-pub commit_next_of : (disk : DiskState) (space : FreeSectors) (uber : Uber) → space ≡ free_by uber → Ready disk uber → CanCommit disk space uber
-commit_next_of disk space uber free ready = record { fits = subst (FitsDisk disk.size) (sym free) (free_by_fits disk.size uber ready.in_range); sectors = ap (λ (s : FreeSectors). s.sectors) free; ready = ready }
+pub commit_next_of : (disk : DiskState) (space : FreeSectors) (body : Body) → space ≡ free_by body → Ready disk body → CanCommit disk space body
+commit_next_of disk space body free ready = record { fits = subst (FitsDisk disk.size) (sym free) (free_by_fits disk body ready); sectors = ap (λ (s : FreeSectors). s.sectors) free; ready = ready }
+
+-- and over those behind its end alone
+pub commit_behind : (disk : DiskState) (space : FreeSectors) (body : Body) → space ≡ behind_end body.uber → Ready disk body → CanCommit disk space body
+commit_behind disk space body free ready = record { fits = subst (FitsDisk disk.size) (sym free) (behind_end_fits disk body ready); sectors = ap (λ (s : FreeSectors). s.sectors) free; ready = ready }
 
 -- it can still be made after blocks alone were written
 pub commit_still : (old new : DiskState) (space less : FreeSectors) (kept : PoolState) → CanCommit old space kept.body → FillsFree old space new less → FitsDisk new.size less → less.sectors ≡ space.sectors → CanCommit new less kept.body
@@ -64,7 +72,7 @@ module _ {tight : Bool} (has : Blocks) (kept : PoolState) (running : Pool) (runs
   pub runs_named : IsNamedBy kept.body kept.dir running
   runs_named = record { id = runs.id; number = runs.number; guids = runs.guids; are_named = rows_named has kept.dir running runs.runs_by }
 
-  pub few_guids : kept.body.guids ≤ last_guid
+  pub few_guids : kept.body.uber.guids ≤ last_guid
   few_guids = subst (λ (n : ℕ). n ≤ last_guid) runs.guids runs.lawful.guids
 
 -- what is kept stands for the pool at rest, and names it
@@ -130,7 +138,7 @@ kept_again running = all_stay (kept_of running) (filter_passes (λ (partial : Pa
 
 -- the next pool, of which these lawful rows are to be committed
 module _ {tight : Bool} (has : Blocks) (kept : PoolState) (running next : Pool) (guids : ℕ) (dir : Rows) (lawful : IsLawful dir) (runs : RunsAs tight has kept running) (id : next.id ≡ running.id) (number : next.number ≡ running.number)
-    (counter : next.guids ≡ guids) (few : guids ≤ last_guid) (below : kept.body.number < 2 ^ 63) (runs_by : RunsBy (bound_of tight (running.number + 1)) has dir next) where
+    (counter : next.guids ≡ guids) (few : guids ≤ last_guid) (below : kept.body.uber.number < 2 ^ 63) (runs_by : RunsBy (bound_of tight (running.number + 1)) has dir next) where
   -- it is lawful
   pub next_lawful : IsPool (next_of next).pool
   unfolding last_number
@@ -152,7 +160,7 @@ module _ {tight : Bool} (has : Blocks) (kept : PoolState) (running next : Pool) 
       }
 
 -- what was committed holds the pool's blocks
-runs_after : {bound : Option ℕ} (old new : IoState) (body : Uber) (dir : Rows) (next : Pool) (made : Result PoolState CommitFault) → RunsBy bound (Has old.disk.seen old.space) dir next
+runs_after : {bound : Option ℕ} (old new : IoState) (body : Body) (dir : Rows) (next : Pool) (made : Result PoolState CommitFault) → RunsBy bound (Has old.disk.seen old.space) dir next
     → IfOk made (CommittedDir body dir old new) → IfOk made (λ kept. RunsBy bound (Has new.disk.seen (free_by kept.body)) kept.dir next)
 runs_after {bound = bound} old new body dir next (Ok kept) runs is =
     subst (λ (r : Rows). RunsBy bound (Has new.disk.seen (free_by kept.body)) r next) (sym is.dir) (RunsBy-grows old.disk.seen old.space new.disk.seen (free_by kept.body) is.blocks dir next runs)

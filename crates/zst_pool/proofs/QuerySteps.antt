@@ -1,21 +1,23 @@
 -- A command that only answers leaves a pool as it was.
 use Rattle.std.specs.Prelude.{Some, Result, Ok, Err, IfErr, OnErr, OnOk}
-use Rattle.std.proofs.Common.{◌≡◌, inl, ℕ, List, refl, ap, arith, Bool}
+use Rattle.std.proofs.Common.{◌≡◌, inl, ℕ, List, refl, ap, Bool}
 use Rattle.zst_outside.specs.Images.{DiskState, Leaves, Leaves-weaker, OnlyReads}
 use Rattle.zst_space.specs.FreeSectors.{FreeSectors}
 use Rattle.zst_block.specs.Blocks.{FillsFree, SparesTaken}
 use Rattle.zst_block.specs.IoCalls.{HasCause, fails}
 use Rattle.zst_block.specs.declared.fault.BlockFault.TheVariants as blocks
-use Rattle.zst_block.proofs.BlocksLaws.{FillsFree-reads}
+use Rattle.zst_block.proofs.BlocksLaws.{FillsFree-reads, Has-spared}
+use Rattle.zst_block.proofs.TakenSectors.{takes_none}
 use Rattle.zst_model.specs.declared.refusals.refusal.Refusal.{Refusal}
 use Rattle.zst_model.specs.pools.KeptPool.{kept_of}
 use Rattle.zst_model.specs.pools.Pool.{Pool}
 use Rattle.zst_model.specs.pools.Step.{Stepped}
-use Rattle.zst_image.specs.Commits.{Ready}
-use Rattle.zst_image.specs.Reads.{Reads, free_by}
+use Rattle.zst_image.specs.Commits.{HasItsExtents, Ready}
+use Rattle.zst_image.specs.Bodies.{Body, free_by}
+use Rattle.zst_image.specs.Reads.{Reads}
 use Rattle.zst_image.specs.declared.pool_state.PoolState.{PoolState}
+use Rattle.zst_image.proofs.Growth.{HasItsExtents-kept}
 use Rattle.zst_pool.specs.Calls.{IsAtRest, IsUnderWay}
-use Rattle.zst_uber.specs.declared.uber.Uber.{Uber}
 use Rattle.zst_pool.specs.Cost.{FindsLess, Spends}
 use Rattle.zst_pool.specs.Faults.{HasDiskCause, is_disk_fault}
 use Rattle.zst_pool.specs.StepAnswers.{BeforeOrAfter, StepAnswer}
@@ -34,6 +36,10 @@ module _ (old new : DiskState) (kept : PoolState) (reads : OnlyReads old new) wh
 
   pub ready_read : Ready old kept.body → Ready new kept.body
   ready_read ready = ready_after old new (free_by kept.body) (free_by kept.body) kept.body refl fills ready
+
+  -- and what its body's free extents stand in
+  pub extents_read : HasItsExtents old kept.body → HasItsExtents new kept.body
+  extents_read = HasItsExtents-kept old new kept.body (λ ptr bytes has. Has-spared (free_by kept.body) old.seen new.seen ptr bytes spares_read has)
 
   module _ {tight : Bool} (running : Pool) (rested : IsAtRest tight old kept running) where
     under_way : IsUnderWay tight old new (free_by kept.body) kept running
@@ -64,14 +70,14 @@ on_ok (Err fault) is = tt
 -- it takes no sectors
 pub spends_none : (cells block list : ℕ) (kept : PoolState) (left : FreeSectors) (result : Result (List (List ℕ)) PoolFault) → ((need largest : ℕ) → ¬ (stop_of result ≡ Some (blocks.Full need largest)))
     → Spends cells block list kept left (λ reply. kept) result
-spends_none cells block list kept left (Ok reply) never = record { full = tt; grows = record { sectors = refl; end = omega arith } }
+spends_none cells block list kept left (Ok reply) never = record { full = tt; grows = takes_none (free_by kept.body) }
 spends_none cells block list kept left (Err fault) never = record { full = λ need largest is. absurd (never need largest (ap (λ (f : PoolFault). stop_of {T = List (List ℕ)} (Err f)) is)); grows = tt }
 
 -- and finds room for all that it takes
-pub finds_none : (cells block list : ℕ) (uber : Uber) (definition : Result Stepped Refusal) (result : Result (List (List ℕ)) PoolFault) → ((need largest : ℕ) → ¬ (stop_of result ≡ Some (blocks.Full need largest)))
-    → IfErr result (FindsLess cells block list uber definition)
-finds_none cells block list uber definition (Ok reply) never = tt
-finds_none cells block list uber definition (Err fault) never = λ need largest is. absurd (never need largest (ap (λ (f : PoolFault). stop_of {T = List (List ℕ)} (Err f)) is))
+pub finds_none : (cells block list : ℕ) (body : Body) (definition : Result Stepped Refusal) (result : Result (List (List ℕ)) PoolFault) → ((need largest : ℕ) → ¬ (stop_of result ≡ Some (blocks.Full need largest)))
+    → IfErr result (FindsLess cells block list body definition)
+finds_none cells block list body definition (Ok reply) never = tt
+finds_none cells block list body definition (Err fault) never = λ need largest is. absurd (never need largest (ap (λ (f : PoolFault). stop_of {T = List (List ℕ)} (Err f)) is))
 
 -- it stops at a fault of the disk where it answers one
 pub fails_told : (result : Result (List (List ℕ)) PoolFault) → fails (stop_of result) ≡ is_disk_fault result

@@ -23,7 +23,8 @@ use Rattle.zst_dir.specs.RowNames.{AreNamed, Match, NamesSnapshot}
 use Rattle.zst_dir.specs.Rows.{Rows}
 use Rattle.zst_dir.specs.declared.rows.Snapshot.{Snapshot}
 use Rattle.zst_dir.proofs.Matches.{Match-alike}
-use Rattle.zst_image.specs.Reads.{RunsBy, SnapshotIs, bound_of, free_by}
+use Rattle.zst_image.specs.Bodies.{free_by}
+use Rattle.zst_image.specs.Reads.{RunsBy, SnapshotIs, bound_of}
 use Rattle.zst_image.specs.declared.pool_state.PoolState.{PoolState}
 use Rattle.zst_pool.specs.Calls.{IsAtRest}
 use Rattle.zst_pool.specs.Checks.{JudgesCommit}
@@ -129,7 +130,7 @@ module _ (of name : List ℕ) (words : List (List ℕ)) (kept : PoolState) (row 
   pub redaction_makes : {tight : Bool} (has : Blocks) → RunsAs tight has kept running → (list : Runs) (tree : Tree) (dir : Rows) → 0 < length rows → MakesList (left_of redacts.taken redacts.redactions) (Ok list)
       → JudgesCommit {T = Tree} (with_marked (redaction_of name redacts.taken redacts.redactions) running) (Ok tree) → HasList has tree.levels tree.root (length list) list
       → dir ≡ record kept.dir { bookmarks = inserted (λ a b. is_before a.name b.name) (redaction_row name row (row_guids rows) (length list) tree) kept.dir.bookmarks }
-      → MakesRows tight has (with_redaction of name words running) running kept.body.guids dir
+      → MakesRows tight has (with_redaction of name words running) running kept.body.uber.guids dir
   redaction_makes {tight = tight} has runs list tree dir some made commits stands dir_is =
       let bookmark = redaction_of name redacts.taken redacts.redactions in
       let next = with_marked bookmark running in

@@ -1,9 +1,8 @@
 -- Where a command finds no room, and what it takes otherwise.
 use Rattle.std.specs.Prelude.{Option, None, Err}
-use Rattle.std.proofs.Common.{◌≡◌, inl, ℕ, ◌+◌, ◌*◌, ◌/◌, ◌≤◌, Bool, true, length, arith}
+use Rattle.std.proofs.Common.{◌≡◌, inl, ℕ, ◌+◌, ◌*◌, ◌/◌, ◌≤◌, Bool, true, length, subst, arith}
 use Rattle.zst_outside.specs.Images.{DiskState}
 use Rattle.zst_space.specs.FreeSectors.{FreeSectors}
-use Rattle.zst_block.specs.Blocks.{FillsFree}
 use Rattle.zst_block.specs.IoCalls as blocks
 use Rattle.zst_block.specs.IoCalls.{IsBlockLength, TakesAtMost}
 use Rattle.zst_block.specs.IoStates.{IoState}
@@ -15,12 +14,14 @@ use Rattle.zst_dir.specs.Spelling.{dir_bytes}
 use Rattle.zst_pool.specs.Calls.{IsCallFull}
 use Rattle.zst_pool.specs.Cost.{Grows, HasNoRoom, Spends, most_sectors}
 use Rattle.zst_pool.specs.Heads.{Stops, rested}
-use Rattle.zst_image.specs.Reads.{dir_sectors, free_by}
-use Rattle.zst_image.specs.Commits.{IsDirFull}
+use Rattle.zst_image.specs.Bodies.{free_by}
+use Rattle.zst_image.specs.Reads.{dir_sectors}
+use Rattle.zst_image.specs.Commits.{IsDirFull, commit_sectors}
+use Rattle.zst_image.proofs.CommitSectors.{more_blocks}
 use Rattle.zst_pool.specs.CommandRuns.{as_kept}
 use Rattle.zst_pool.specs.declared.fault.PoolFault.{PoolFault}
 use Rattle.zst_image.specs.declared.pool_state.PoolState.{PoolState}
-use Rattle.zst_pool.proofs.TakenSectors.{ends_later, was_free}
+use Rattle.zst_pool.proofs.TakenSectors.{fewer_extents, no_longer}
 
 -- a block of data has 256 sectors at most
 pub block-sectors : (size : ℕ) → is_block_size size ≡ true → size / 512 ≤ 256
@@ -31,13 +32,18 @@ block-sectors size is = grind arith
 pub dir-more : (count more : ℕ) → count ≤ more → dir_sectors count ≤ dir_sectors more
 dir-more count more le = omega (arith, le)
 
+-- and so a commit of it, beside more extents
+pub commit-more : (count more extents beside : ℕ) → count ≤ more → extents ≤ beside → commit_sectors count extents ≤ commit_sectors more beside
+commit-more count more extents beside le few = omega (arith, dir-more count more le, more_blocks extents beside few)
+
 -- where a commit finds no room for rows that are no more than 2,048 bytes longer, its call does not
 pub call_full : (space left : FreeSectors) (dir rows : Rows) (need largest : ℕ) → length (dir_bytes dir) ≤ length (dir_bytes rows) + 2048
-    → TakesAtMost (dir_sectors (length (dir_bytes dir))) (IsBlockLength 16) space left → IsDirFull space left dir need largest → IsCallFull space left rows need largest
+    → TakesAtMost (commit_sectors (length (dir_bytes dir)) (length space.free)) (IsBlockLength 16) space left → IsDirFull space left dir need largest → IsCallFull space left rows need largest
 call_full space left dir rows need largest longer takes full =
-    let more = dir-more (length (dir_bytes dir)) (length (dir_bytes rows) + 2048) longer in
+    let extents = length space.free in
+    let more = commit-more (length (dir_bytes dir)) (length (dir_bytes rows) + 2048) extents extents longer (omega arith) in
     record {
-      taken = takes_more (dir_sectors (length (dir_bytes dir))) (dir_sectors (length (dir_bytes rows) + 2048)) space left more takes;
+      taken = takes_more (commit_sectors (length (dir_bytes dir)) extents) (commit_sectors (length (dir_bytes rows) + 2048) extents) space left more takes;
       shorter = full.shorter;
       needed = full.needed;
       is_longest = full.is_longest;
@@ -55,28 +61,30 @@ module _ (kept : PoolState) (cells block list : ℕ) {disk : DiskState} {failed 
   spends_fell {stop = stop} fault stops works = record {
     full = λ need largest same.
         let full = works.full need largest (stops.full need largest same) in
-        let was = was_free kept.body new.space works.takes works.fills.fewer in
-        let taken_more = takes_more (block + list + 640 * cells) (most_sectors cells block list kept.dir) (free_by kept.body) new.space (omega arith) works.takes in
-        record { taken = taken_more; shorter = full.shorter; needed = full.needed; is_longest = full.is_longest; was_free = omega (arith, full.is_longest, was); room = omega (arith, full.before) };
+        let was = no_longer works.takes in
+        let more : block + list + 640 * cells ≤ most_sectors cells block list kept.dir (length kept.body.free) = omega arith in
+        let taken_more = takes_more (block + list + 640 * cells) (most_sectors cells block list kept.dir (length kept.body.free)) (free_by kept.body) new.space more works.takes in
+        record { taken = taken_more; shorter = full.shorter; needed = full.needed; is_longest = full.is_longest; was_free = omega (arith, full.is_longest, was); room = omega (arith, full.before, more) };
     grows = tt;
   }
 
   -- what a command spends that came to its commit
-  module _ {least : FreeSectors} (dir : Rows) (works : TakesSo cells block list (rested disk failed checksum_errors reference kept) new None)
-      (takes : TakesAtMost (dir_sectors (length (dir_bytes dir))) (IsBlockLength 16) new.space least) (grows : length (dir_bytes dir) ≤ length (dir_bytes kept.dir) + 1024) where
-    all_taken : TakesAtMost (block + list + 640 * cells + dir_sectors (length (dir_bytes dir))) (IsBlockLength block) (free_by kept.body) least
-    all_taken = takes_then (free_by kept.body) new.space least works.takes (takes_tree new.space least takes)
+  module _ (dir : Rows) {least : FreeSectors} (works : TakesSo cells block list (rested disk failed checksum_errors reference kept) new None)
+      (takes : TakesAtMost (commit_sectors (length (dir_bytes dir)) (length new.space.free)) (IsBlockLength 16) new.space least) (grows : length (dir_bytes dir) ≤ length (dir_bytes kept.dir) + 1024) where
+    -- the commit takes no more than that of the longest directory beside the body's free extents
+    more : commit_sectors (length (dir_bytes dir)) (length new.space.free) ≤ commit_sectors (length (dir_bytes kept.dir) + 1024) (length kept.body.free)
+    more = commit-more (length (dir_bytes dir)) (length (dir_bytes kept.dir) + 1024) (length new.space.free) (length kept.body.free) grows (fewer_extents works.takes)
 
-    pub spends_full : {last : DiskState} (need largest : ℕ) → FillsFree new.disk new.space last least → IsDirFull new.space least dir need largest → HasNoRoom cells block list kept.body kept.dir least need largest
-    spends_full need largest fills told =
-        let more = dir-more (length (dir_bytes dir)) (length (dir_bytes kept.dir) + 1024) grows in
-        let was = was_free kept.body least all_taken (λ sector free. works.fills.fewer sector (fills.fewer sector free)) in
-        let taken_more = takes_more (block + list + 640 * cells + dir_sectors (length (dir_bytes dir))) (most_sectors cells block list kept.dir) (free_by kept.body) least (omega (arith, more)) all_taken in
-        record { taken = taken_more; shorter = told.shorter; needed = inl told.needed; is_longest = told.is_longest; was_free = omega (arith, told.is_longest, was); room = omega (arith, told.before, works.takes.longest, more) }
+    both : TakesAtMost (block + list + 640 * cells + commit_sectors (length (dir_bytes dir)) (length new.space.free)) (IsBlockLength block) (free_by kept.body) least
+    both = takes_then (free_by kept.body) new.space least works.takes (takes_tree new.space least takes)
 
-    pub spends_grows : (next : PoolState) → kept.body.end ≤ kept.body.sectors → next.body.end ≤ next.body.sectors → next.body.end ≡ least.end → next.body.sectors ≡ kept.body.sectors
-        → Grows (most_sectors cells block list kept.dir) kept.body next.body
-    spends_grows next inside within end sectors =
-        let more = dir-more (length (dir_bytes dir)) (length (dir_bytes kept.dir) + 1024) grows in
-        let later = ends_later kept.body least all_taken inside (omega (arith, within, end, sectors)) in
-        record { sectors = sectors; end = omega (arith, later, end, more) }
+    taken : TakesAtMost (most_sectors cells block list kept.dir (length kept.body.free)) (IsBlockLength block) (free_by kept.body) least
+    taken = takes_more (block + list + 640 * cells + commit_sectors (length (dir_bytes dir)) (length new.space.free)) (most_sectors cells block list kept.dir (length kept.body.free)) (free_by kept.body) least (omega (arith, more)) both
+
+    pub spends_full : (need largest : ℕ) → IsDirFull new.space least dir need largest → HasNoRoom cells block list kept.body kept.dir least need largest
+    spends_full need largest told =
+        let was = no_longer both in
+        record { taken = taken; shorter = told.shorter; needed = inl told.needed; is_longest = told.is_longest; was_free = omega (arith, told.is_longest, was); room = omega (arith, told.before, works.takes.longest, more) }
+
+    pub spends_grows : (next : PoolState) → least ≡ free_by next.body → Grows (most_sectors cells block list kept.dir (length kept.body.free)) block kept.body next.body
+    spends_grows next left = subst (TakesAtMost (most_sectors cells block list kept.dir (length kept.body.free)) (IsBlockLength block) (free_by kept.body)) left taken

@@ -1,13 +1,11 @@
 -- What a step spends and spares, from what its run did.
-use Rattle.std.specs.Prelude.{◌||◌, Bool, true, false, Result, Ok, Err, OnErr}
-use Rattle.std.proofs.lemmas.Bool.{or_parts}
+use Rattle.std.specs.Prelude.{Result, Ok, Err, OnErr}
 use Rattle.std.proofs.Common.{◌≡◌, ℕ, List, sym, ap, ◌∙◌, subst}
 use Rattle.zst_space.specs.FreeSectors.{FreeSectors}
 use Rattle.zst_block.specs.Blocks.{Has, KeepsBlocks, SparesTaken}
 use Rattle.zst_block.proofs.BlocksLaws.{Has-spared}
-use Rattle.zst_image.specs.Reads.{free_by}
-use Rattle.zst_pool.specs.Cost.{FindsNoRoom, HasNoRoom, Spends}
-use Rattle.zst_pool.specs.Faults.{is_full, tells_full}
+use Rattle.zst_image.specs.Bodies.{free_by}
+use Rattle.zst_pool.specs.Cost.{Spends}
 use Rattle.zst_pool.specs.CommandRuns.{as_kept}
 use Rattle.zst_pool.specs.declared.fault.PoolFault.{PoolFault}
 use Rattle.zst_pool.specs.declared.fault.PoolFault.TheVariants.{DiskFault, Full}
@@ -15,16 +13,14 @@ use Rattle.zst_image.specs.declared.pool_state.PoolState.{PoolState}
 
 module _ {T : Type 0} (cells block list : ℕ) (kept : PoolState) (left : FreeSectors) where
   -- a step that went well
-  pub spends_ok : (next : PoolState) (reply : T) (later : FreeSectors) → Spends cells block list kept left as_kept (Ok next) → Spends cells block list kept later (λ value. next) (Ok reply)
-  spends_ok next reply later spends = record { full = tt; grows = spends.grows }
+  pub spends_ok : (next : PoolState) (reply : T) → Spends cells block list kept left as_kept (Ok next) → Spends cells block list kept left (λ value. next) (Ok reply)
+  spends_ok next reply spends = record { full = tt; grows = spends.grows }
 
-  -- one that fell as its run did, whose sectors stay where the disk was full
-  pub spends_err : (next : PoolState) (fault : PoolFault) (r : Result T PoolFault) (later : FreeSectors) → r ≡ Err fault → (tells_full fault ≡ true → later ≡ left)
-      → Spends cells block list kept left as_kept (Err fault) → Spends cells block list kept later (λ value. next) r
-  spends_err next fault r later same stays spends =
-      let found : FindsNoRoom cells block list kept later fault = λ need largest is. subst (λ (space : FreeSectors). HasNoRoom cells block list kept.body kept.dir space need largest) (sym (stays (ap tells_full is))) (spends.full need largest is) in
-      let fell : Spends {T = T} cells block list kept later (λ value. next) (Err fault) = record { full = found; grows = tt } in
-      subst (Spends cells block list kept later (λ value. next)) (sym same) fell
+  -- one that fell as its run did
+  pub spends_err : (next : PoolState) (fault : PoolFault) (r : Result T PoolFault) → r ≡ Err fault → Spends cells block list kept left as_kept (Err fault) → Spends cells block list kept left (λ value. next) r
+  spends_err next fault r same spends =
+      let fell : Spends {T = T} cells block list kept left (λ value. next) (Err fault) = record { full = spends.full; grows = tt } in
+      subst (Spends cells block list kept left (λ value. next)) (sym same) fell
 
   -- one that fell apart from E24
   pub spends_apart : (next : PoolState) (fault : PoolFault) (r : Result T PoolFault) → r ≡ Err fault → ((need largest : ℕ) → ¬ (fault ≡ Full need largest)) → Spends cells block list kept left (λ value. next) r
@@ -46,9 +42,3 @@ pub blocks_err : {T : Type 0} (old new : List ℕ) (kept after : PoolState) (fau
     → (¬ (◌≡◌ {A = Result PoolState PoolFault} (Err fault) (Err DiskFault)) → SparesTaken (free_by kept.body) old new) → ¬ (r ≡ Err DiskFault) → KeepsBlocks old (free_by kept.body) new (free_by after.body)
 blocks_err old new kept after fault r same stays spares apart =
     blocks_spared old new kept after stays (spares (λ is. let disk : fault ≡ DiskFault = cc in apart (same ∙ ap (λ (f : PoolFault). Err f) disk)))
-
--- a run whose fault isn't a full disk is none
-pub free_again : {T U : Type 0} (fault : PoolFault) (failed : Bool) (r : Result T PoolFault) (run : Result U PoolFault) → r ≡ Err fault → Err fault ≡ run → (failed || is_full r) ≡ false → is_full run ≡ false
-free_again {T = T} {U = U} fault failed r run same ran told =
-    let apart : is_full {T = T} (Err fault) ≡ false = subst (λ (x : Result T PoolFault). is_full x ≡ false) same (or_parts failed (is_full r) told).1 in
-    subst (λ (x : Result U PoolFault). is_full x ≡ false) ran apart

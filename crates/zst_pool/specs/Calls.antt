@@ -1,10 +1,10 @@
 -- What a call of a receive does to a pool that runs.
-use Rattle.std.specs.Prelude.{◌≡◌, ◌⊎◌, ◌+◌, ◌<◌, ◌≤◌, ℕ, Bool, [], length, Result, Ok, Err}
+use Rattle.std.specs.Prelude.{◌≡◌, ◌⊎◌, ◌+◌, ◌<◌, ◌≤◌, ℕ, Bool, length, Result, Ok, Err}
 use Rattle.zst_outside.specs.Images.{DiskState, Leaves}
 use Rattle.zst_space.specs.FreeSectors.{FreeSectors, largest_of}
 use Rattle.zst_block.specs.Blocks.{FillsFree, FitsDisk, Has}
 use Rattle.zst_block.specs.IoCalls.{IsBlockLength, TakesAtMost}
-use Rattle.zst_uber.specs.declared.uber.Uber.{Uber}
+use Rattle.zst_image.specs.Bodies.{Body, free_by}
 use Rattle.zst_model.specs.declared.refusals.faults.Quantity.{Quantity}
 use Rattle.zst_model.specs.declared.refusals.plan_fault.PlanFault.TheVariants.{Limit}
 use Rattle.zst_model.specs.declared.refusals.refusal.Refusal.{Refusal}
@@ -13,16 +13,16 @@ use Rattle.zst_model.specs.pools.KeptPool.{kept_of}
 use Rattle.zst_model.specs.pools.Pool.{Pool, IsPool}
 use Rattle.zst_dir.specs.Rows.{Rows}
 use Rattle.zst_dir.specs.Spelling.{dir_bytes}
-use Rattle.zst_image.specs.Reads.{Reads, Rests, RunsBy, bound_of, dir_sectors, free_by}
-use Rattle.zst_image.specs.Commits.{Ready}
+use Rattle.zst_image.specs.Reads.{Reads, Rests, RunsBy, bound_of}
+use Rattle.zst_image.specs.Commits.{Ready, commit_sectors}
 use Rattle.zst_pool.specs.declared.fault.PoolFault.{PoolFault}
 use Rattle.zst_pool.specs.declared.fault.PoolFault.TheVariants.{Plan, CannotApply, Redacted, Full, Damaged, DiskFault, Failed, OutOfMemory}
 use Rattle.zst_image.specs.declared.pool_state.PoolState.{PoolState}
 
 -- over these free sectors the next commit can be made
-pub record CanCommit (disk : DiskState) (space : FreeSectors) (body : Uber) : Type 0 where
+pub record CanCommit (disk : DiskState) (space : FreeSectors) (body : Body) : Type 0 where
   pub fits : FitsDisk disk.size space
-  pub sectors : space.sectors ≡ body.sectors
+  pub sectors : space.sectors ≡ body.uber.sectors
   pub ready : Ready disk body
 
 -- a pool differs from another in what it lists alone
@@ -67,7 +67,7 @@ IsCallFault OutOfMemory = Unit {0}
 
 -- what stands after a call's answer: what the definition makes of the pool, or the pool as it was
 abbrev pub CallAnswer : (tight : Bool) → DiskState → PoolState → Pool → Result Pool Refusal → Result PoolState PoolFault → Type 0
-CallAnswer tight now old running definition (Ok kept) = (next : Pool) × (definition ≡ Ok next) × (kept.body.number ≡ next.number) × IsAtRest tight now kept next
+CallAnswer tight now old running definition (Ok kept) = (next : Pool) × (definition ≡ Ok next) × (kept.body.uber.number ≡ next.number) × IsAtRest tight now kept next
 CallAnswer tight now old running definition (Err fault) = CallFault (IsAtRest tight now old running) definition fault
 
 -- a call that commits: inside it each image reads as what is kept of the pool before, or of the one that the definition makes, and then by its answer
@@ -80,17 +80,17 @@ abbrev pub keeping : PoolState → Result ℕ PoolFault → Result PoolState Poo
 keeping kept (Ok number) = Ok kept
 keeping kept (Err fault) = Err fault
 
--- E24 of a call: the 16 sectors of a block of a directory are longer than the longest extent of those that are left then, which are those before less blocks of it that were written; at most so many were taken as a directory with 2,048 bytes more takes, and before it no free extent had as many
+-- E24 of a call: the 16 sectors of a block of a directory are longer than the longest extent of those that are left then, which are those before less blocks of it that were written; at most so many were taken as the commit of a directory with 2,048 bytes more takes, beside the extents that were free, and before it no free extent had as many
 pub record IsCallFull (space left : FreeSectors) (rows : Rows) (need largest : ℕ) : Type 0 where
-  pub taken : TakesAtMost (dir_sectors (length (dir_bytes rows) + 2048)) (IsBlockLength 16) space left
+  pub taken : TakesAtMost (commit_sectors (length (dir_bytes rows) + 2048) (length space.free)) (IsBlockLength 16) space left
   pub shorter : largest < need
   pub needed : need ≡ 16
   pub is_longest : largest ≡ largest_of left
-  pub before : largest_of space < dir_sectors (length (dir_bytes rows) + 2048)
+  pub before : largest_of space < commit_sectors (length (dir_bytes rows) + 2048) (length space.free)
 
--- what a call of a receive committed over these free sectors: the number is one more, and the directory has at most 2,048 bytes more; the body has as many sectors, and where all that is free stands behind the end, it ends no later than such a directory may
+-- what a call of a receive committed over these free sectors: the number is one more, and the directory has at most 2,048 bytes more; the body has as many sectors, and leaves free what was, less at most what the commit of such a directory takes
 pub record CallGrows (space : FreeSectors) (before after : PoolState) : Type 0 where
-  pub number : after.body.number ≡ before.body.number + 1
+  pub number : after.body.uber.number ≡ before.body.uber.number + 1
   pub directory : length (dir_bytes after.dir) ≤ length (dir_bytes before.dir) + 2048
-  pub sectors : after.body.sectors ≡ before.body.sectors
-  pub end : space.free ≡ [] → after.body.end ≤ space.end + dir_sectors (length (dir_bytes before.dir) + 2048)
+  pub sectors : after.body.uber.sectors ≡ before.body.uber.sectors
+  pub takes : TakesAtMost (commit_sectors (length (dir_bytes before.dir) + 2048) (length space.free)) (IsBlockLength 16) space (free_by after.body)

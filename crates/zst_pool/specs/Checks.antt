@@ -40,9 +40,9 @@ pub record ChecksRows {T : Type 0} (dir : Rows) (judges : Pool → Result T Plan
 -- a plan of a commit over what is kept: it is judged so by each pool that this names
 pub record PlansCommit {T : Type 0} (kept : PoolState) (judges : Pool → Result T PlanFault → Type 0) (result : Result T PlanFault) : Type 0 where
   -- one more number is left
-  pub number : OnOk result (kept.body.number < 2 ^ 63)
-  pub refused : IfErr result (λ fault. (is_by_rows fault ≡ true) ⊎ IsLast kept.body.number fault)
-  pub judged : (pool : Pool) → AreNamed kept.dir pool → pool.number ≡ kept.body.number → judges pool result
+  pub number : OnOk result (kept.body.uber.number < 2 ^ 63)
+  pub refused : IfErr result (λ fault. (is_by_rows fault ≡ true) ⊎ IsLast kept.body.uber.number fault)
+  pub judged : (pool : Pool) → AreNamed kept.dir pool → pool.number ≡ kept.body.uber.number → judges pool result
 
 -- a definition of which this check leaves what comes next, or gives its refusal
 abbrev pub JudgesNext : {T : Type 0} → (Pool → Result Stepped Refusal → Result Stepped Refusal) → Pool → Result T PlanFault → Type 0

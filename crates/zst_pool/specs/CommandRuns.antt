@@ -12,7 +12,7 @@ use Rattle.zst_pool.specs.Cost.{Cost, FindsLess, Spends}
 use Rattle.zst_pool.specs.Damage.{IsOf}
 use Rattle.zst_pool.specs.Faults.{StepFault}
 use Rattle.zst_image.specs.Commits.{Ready}
-use Rattle.zst_image.specs.Reads.{free_by}
+use Rattle.zst_image.specs.Bodies.{free_by}
 use Rattle.zst_pool.specs.Calls.{IsAtRest}
 use Rattle.zst_pool.specs.Events.{EndsCommit}
 use Rattle.zst_pool.specs.Plans.{Plans}

@@ -1,7 +1,7 @@
 -- What a command costs of the free sectors, and where it finds no room.
-use Rattle.std.specs.Prelude.{◌≡◌, ◌⊎◌, ◌+◌, ◌*◌, ◌-◌, ◌/◌, ◌<◌, ◌≤◌, ℕ, List, length, Option, Some, None, Result, Ok, Err, IfErr, IfOk}
+use Rattle.std.specs.Prelude.{◌≡◌, ◌⊎◌, ◌+◌, ◌*◌, ◌/◌, ◌<◌, ◌≤◌, ℕ, List, length, Option, Some, None, Result, Ok, Err, IfErr, IfOk}
 use Rattle.zst_space.specs.FreeSectors.{FreeSectors, largest_of}
-use Rattle.zst_uber.specs.declared.uber.Uber.{Uber}
+use Rattle.zst_image.specs.Bodies.{Body, free_by}
 use Rattle.zst_model.specs.declared.pools.command.Command.{Command}
 use Rattle.zst_model.specs.declared.pools.command.Command.TheVariants as commands
 use Rattle.zst_model.specs.states.DatedState.{size_at}
@@ -15,7 +15,7 @@ use Rattle.zst_dir.specs.Rows.{Rows}
 use Rattle.zst_dir.specs.Spelling.{dir_bytes}
 use Rattle.zst_block.specs.IoCalls.{IsBlockLength, TakesAtMost}
 use Rattle.zst_list.specs.StoredLists.{list_sectors}
-use Rattle.zst_image.specs.Reads.{dir_sectors, free_by}
+use Rattle.zst_image.specs.Commits.{commit_sectors}
 use Rattle.zst_pool.specs.Redactions.{left_of}
 use Rattle.zst_pool.specs.declared.fault.PoolFault.{PoolFault}
 use Rattle.zst_pool.specs.declared.fault.PoolFault.TheVariants.{Full}
@@ -93,18 +93,18 @@ cost_of (commands.Read name k i) = cells_only 0
 cost_of commands.List = cells_only 0
 cost_of (commands.ListObjects name) = cells_only 0
 
--- so many sectors an event takes at most that touches so many cells and writes so many sectors of data and of a list: for each cell 640, and those of a directory that has 1,024 bytes more than this one
-abbrev pub most_sectors : (cells block list : ℕ) → Rows → ℕ
-most_sectors cells block list rows = block + list + 640 * cells + dir_sectors (length (dir_bytes rows) + 1024)
+-- so many sectors an event takes at most that touches so many cells and writes so many sectors of data and of a list: for each cell 640, and those of the commit of a directory that has 1,024 bytes more than this one, beside so many free extents
+abbrev pub most_sectors : (cells block list : ℕ) → Rows → (extents : ℕ) → ℕ
+most_sectors cells block list rows extents = block + list + 640 * cells + commit_sectors (length (dir_bytes rows) + 1024) extents
 
--- E24: what is to be written, a block of a tree or of a list, or the data, is longer than the longest extent of the sectors that are left then, which are those that were free before less the blocks that the event wrote; and before, fewer sectors were free than the event takes at most
-pub record HasNoRoom (cells block list : ℕ) (uber : Uber) (rows : Rows) (left : FreeSectors) (need largest : ℕ) : Type 0 where
-  pub taken : TakesAtMost (most_sectors cells block list rows) (IsBlockLength block) (free_by uber) left
+-- E24: what is to be written, a block of a tree or of a list, or the data, is longer than the longest extent of the sectors that are left then, which are those that were free before less the blocks that the event wrote; and before, no free extent had as many sectors as the event takes at most
+pub record HasNoRoom (cells block list : ℕ) (body : Body) (rows : Rows) (left : FreeSectors) (need largest : ℕ) : Type 0 where
+  pub taken : TakesAtMost (most_sectors cells block list rows (length body.free)) (IsBlockLength block) (free_by body) left
   pub shorter : largest < need
   pub needed : IsBlockLength block need
   pub is_longest : largest ≡ largest_of left
-  pub was_free : largest ≤ uber.sectors - uber.end
-  pub room : uber.sectors - uber.end < most_sectors cells block list rows
+  pub was_free : largest ≤ largest_of (free_by body)
+  pub room : largest_of (free_by body) < most_sectors cells block list rows (length body.free)
 
 -- E24 comes only so
 abbrev pub FindsNoRoom : (cells block list : ℕ) → PoolState → FreeSectors → PoolFault → Type 0
@@ -116,22 +116,21 @@ pub record MakesNamed (definition : Result Stepped Refusal) (rows : Rows) : Type
   pub made : definition ≡ Ok done
   pub named : AreNamed rows done.pool
 
--- fewer sectors are free by a body than an event takes: those for its cells, its data and its list alone, or with them those of a directory of rows that name the pool that the definition makes
-abbrev pub CostsMore : (cells block list : ℕ) → Uber → Result Stepped Refusal → Type 0
-CostsMore cells block list uber definition =
-    (uber.sectors - uber.end < block + list + 640 * cells)
-    ⊎ ((rows : Rows) × MakesNamed definition rows × (uber.sectors - uber.end < block + list + 640 * cells + dir_sectors (length (dir_bytes rows))))
+-- the longest extent that is free by a body has fewer sectors than an event takes: those for its cells, its data and its list alone, or with them those of the commit of rows that name the pool that the definition makes, beside the body's free extents
+abbrev pub CostsMore : (cells block list : ℕ) → Body → Result Stepped Refusal → Type 0
+CostsMore cells block list body definition =
+    (largest_of (free_by body) < block + list + 640 * cells)
+    ⊎ ((rows : Rows) × MakesNamed definition rows × (largest_of (free_by body) < block + list + 640 * cells + commit_sectors (length (dir_bytes rows)) (length body.free)))
 
 -- E24 comes only so
-abbrev pub FindsLess : (cells block list : ℕ) → Uber → Result Stepped Refusal → PoolFault → Type 0
-FindsLess cells block list uber definition fault = (need largest : ℕ) → fault ≡ Full need largest → CostsMore cells block list uber definition
+abbrev pub FindsLess : (cells block list : ℕ) → Body → Result Stepped Refusal → PoolFault → Type 0
+FindsLess cells block list body definition fault = (need largest : ℕ) → fault ≡ Full need largest → CostsMore cells block list body definition
 
--- a body of as many sectors, in which so many more are taken at most
-pub record Grows (most : ℕ) (before after : Uber) : Type 0 where
-  pub sectors : after.sectors ≡ before.sectors
-  pub end : after.end ≤ before.end + most
+-- a later body leaves free what this one does, less so many sectors at most
+abbrev pub Grows : (most block : ℕ) → (before after : Body) → Type 0
+Grows most block before after = TakesAtMost most (IsBlockLength block) (free_by before) (free_by after)
 
 -- what an event takes of the sectors, at Ok and where it finds no room
 pub record Spends {T : Type 0} (cells block list : ℕ) (kept : PoolState) (left : FreeSectors) (after : T → PoolState) (result : Result T PoolFault) : Type 0 where
   pub full : IfErr result (FindsNoRoom cells block list kept left)
-  pub grows : IfOk result (λ value. let next = after value in Grows (most_sectors cells block list kept.dir) kept.body next.body)
+  pub grows : IfOk result (λ value. let next = after value in Grows (most_sectors cells block list kept.dir (length kept.body.free)) block kept.body next.body)

@@ -3,8 +3,8 @@ use Rattle.std.specs.Prelude.{◌≡◌, ◌||◌, ◌+◌, ◌<◌, ◌≤◌, 
 use Rattle.zst_outside.specs.Images.{Leaves, OnlyReads}
 use Rattle.zst_outside.specs.declared.disk.Disk.{Ghosts}
 use Rattle.zst_space.specs.FreeSectors.{FreeSectors}
-use Rattle.zst_block.specs.Blocks.{FitsDisk, KeepsBlocks, SparesTaken}
-use Rattle.zst_block.specs.IoCalls.{is_damage}
+use Rattle.zst_block.specs.Blocks.{KeepsBlocks, SparesTaken}
+use Rattle.zst_block.specs.IoCalls.{IsBlockLength, TakesAtMost, is_damage}
 use Rattle.zst_block.specs.IoStates.{IoState, IsHonest, blocks_of, disk_of}
 use Rattle.zst_block.specs.declared.io.Io.{Io}
 use Rattle.zst_model.specs.declared.pools.command.Command.{Command}
@@ -14,13 +14,14 @@ use Rattle.zst_model.specs.pools.Step.{stepped}
 use Rattle.zst_dir.specs.Rows.{Rows}
 use Rattle.zst_dir.specs.Spelling.{dir_bytes}
 use Rattle.zst_dir.specs.declared.rows.Partial.{Partial}
-use Rattle.zst_image.specs.Commits.{KeepsDisk, Ready}
-use Rattle.zst_image.specs.Reads.{PartialIs, bound_of, dir_sectors, free_by}
+use Rattle.zst_image.specs.Commits.{HasItsExtents, KeepsDisk, Ready, commit_sectors}
+use Rattle.zst_image.specs.Bodies.{free_by}
+use Rattle.zst_image.specs.Reads.{PartialIs, bound_of}
 use Rattle.zst_image.specs.declared.pool_state.PoolState.{PoolState}
 use Rattle.zst_pool.specs.Calls.{CallDid, CallGrows, CanCommit, IsAtRest, IsCallFault, IsCallFull, IsUnderWay, keeping}
 use Rattle.zst_pool.specs.Cost.{FindsLess, Spends, cost_of}
 use Rattle.zst_pool.specs.Damage.{IsOf, TellsDamage}
-use Rattle.zst_pool.specs.Faults.{HasDiskCause, is_disk_fault, is_full}
+use Rattle.zst_pool.specs.Faults.{HasDiskCause, is_disk_fault}
 use Rattle.zst_pool.specs.Queries.{stop_of}
 use Rattle.zst_pool.specs.StepAnswers.{BeforeOrAfter, StepAnswer}
 use Rattle.zst_pool.specs.declared.fault.PoolFault.{PoolFault}
@@ -34,15 +35,18 @@ pub record EndsCommit (kept : PoolState) (old new : IoState) (result : Result Po
   pub stays : new.failed ≡ false → OnErr result (Ready new.disk kept.body)
   pub disk : KeepsDisk (is_disk_fault result) (is_damage (stop_of result)) old new
   pub cause : HasDiskCause old.disk.faults new.disk.faults result
+  -- what is then left is what the body that was committed leaves free
+  pub space : IfOk result (λ next. new.space ≡ free_by next.body)
+  pub extents : IfOk result (λ next. HasItsExtents new.disk next.body)
 
--- what is kept once this directory was committed over these free sectors: its number is one more, it has its rows, and where all that is free stands behind the end, it ends no later than the directory's sectors reach
+-- what is kept once this directory was committed over these free sectors: its number is one more, it has its rows, and its body has as many sectors, and leaves free what was, less at most what the commit of such a directory takes
 pub record FollowsBy (space : FreeSectors) (kept : PoolState) (dir : Rows) (next : PoolState) : Type 0 where
   pub rows : next.dir ≡ dir
-  pub number : next.body.number ≡ kept.body.number + 1
+  pub number : next.body.uber.number ≡ kept.body.uber.number + 1
   -- the last number is committed only once
-  pub below : kept.body.number < 2 ^ 63
-  pub sectors : next.body.sectors ≡ kept.body.sectors
-  pub ends : space.free ≡ [] → next.body.end ≤ space.end + dir_sectors (length (dir_bytes dir))
+  pub below : kept.body.uber.number < 2 ^ 63
+  pub sectors : next.body.uber.sectors ≡ kept.body.uber.sectors
+  pub takes : TakesAtMost (commit_sectors (length (dir_bytes dir)) (length space.free)) (IsBlockLength 16) space (free_by next.body)
 
 module _ {D : Type 0} {g : Ghosts D} where
   -- nothing was read or written: the disk is as it was, and so are the mark of its failure, the count of blocks that were found damaged and its reference
@@ -55,18 +59,8 @@ module _ {D : Type 0} {g : Ghosts D} where
   -- what was committed is kept, and its number is answered; a refusal is answered, and what was kept stays
   pub record KeepsCommitted (committed : Result PoolState PoolFault) (old new : Pool D g) (result : Result ℕ PoolFault) : Type 0 where
     pub kept : keeping new.kept result ≡ committed
-    pub number : IfOk result (λ number. number ≡ new.kept.body.number)
+    pub number : IfOk result (λ number. number ≡ new.kept.body.uber.number)
     pub stays : OnErr result (new.kept ≡ old.kept)
-
-  -- what was committed can be kept: the sectors that the latest body leaves free fit the disk, and the next commit can follow the one that was made
-  pub record CanSettle (pool : Pool D g) (committed : Result PoolState PoolFault) : Type 0 where
-    pub fits : FitsDisk (disk_of pool.io).size (free_by pool.kept.body)
-    pub ready : IfOk committed (λ kept. Ready (disk_of pool.io) kept.body)
-
-  -- what was committed is kept over the disk as it stands
-  pub record KeepsOver (committed : Result PoolState PoolFault) (old new : Pool D g) (result : Result ℕ PoolFault) : Type 0 where
-    pub keeps : KeepsCommitted committed old new result
-    pub disk : SameDisk old.io new.io
 
   -- how each event of a pool ends, whatever the image is
   pub record Settles {T : Type 0} (old new : Pool D g) (result : Result T PoolFault) : Type 0 where
@@ -75,9 +69,12 @@ module _ {D : Type 0} {g : Ghosts D} where
     -- a pool that has failed answers nothing else, and does nothing
     pub failed_pool : old.io.failed ≡ true → result ≡ Err Failed
     pub idle_disk : old.io.failed ≡ true → new.io.disk.now ≡ old.io.disk.now
-    -- what the latest body leaves free is free again, and the next commit can be made; after E24 the sectors are those that were left when it was found
-    pub space : (old.io.failed || is_full result) ≡ false → new.io.space ≡ free_by new.kept.body
-    pub works : (new.io.failed || is_full result) ≡ false → CanCommit (disk_of new.io) new.io.space new.kept.body
+    -- after Ok what the latest body leaves free is free, and the next commit can be made; after a refusal the sectors are those that were left then
+    pub space : OnOk result (new.io.space ≡ free_by new.kept.body)
+    pub works : OnOk result (CanCommit (disk_of new.io) new.io.space new.kept.body)
+    -- and the latest body's free extents stand in sectors that it leaves not free, where those of the one before did
+    pub extents : OnOk result (HasItsExtents (disk_of old.io) old.kept.body → HasItsExtents (disk_of new.io) new.kept.body)
+    -- unless the disk failed, the next commit can follow once an event begins
     pub ready : new.io.failed ≡ false → Ready (disk_of new.io) new.kept.body
     pub failed : new.io.failed ≡ (old.io.failed || is_disk_fault result)
     -- a block that is found damaged is told so: only an event that answers E25 may have counted one
@@ -109,7 +106,7 @@ module _ {D : Type 0} {g : Ghosts D} where
         → IsUnderWay tight (g.state start) (disk_of old.io) old.io.space old.kept running → PartialIs (bound_of tight (running.number + 1)) (blocks_of old.io) partial plain
         → CallDid tight (g.state start) (disk_of new.io) old.kept running (definition plain running) (keeping new.kept result)
     pub rows : OnOk result (new.kept.dir ≡ dir)
-    pub number : IfOk result (λ number. number ≡ new.kept.body.number)
+    pub number : IfOk result (λ number. number ≡ new.kept.body.uber.number)
     -- whatever the image is, there is no other refusal than E23, E24, E28 and E32
     pub known : old.io.failed ≡ false → IfErr result IsCallFault
     pub full : (need largest : ℕ) → result ≡ Err (Full need largest) → IsCallFull old.io.space new.io.space old.kept.dir need largest

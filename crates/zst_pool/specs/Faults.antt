@@ -83,15 +83,6 @@ is_disk_fault (Err faults.DiskFault) = true
 is_disk_fault (Err faults.Failed) = false
 is_disk_fault (Err faults.OutOfMemory) = false
 
--- whether the disk is full
-abbrev pub tells_full : PoolFault → Bool
-tells_full (faults.Full need largest) = true
-tells_full _ = false
-
-abbrev pub is_full : {T : Type 0} → Result T PoolFault → Bool
-is_full (Ok value) = false
-is_full (Err fault) = tells_full fault
-
 -- a count of faults never falls, and a fault of the disk is answered only where it rose
 pub record HasDiskCause {T : Type 0} (before now : ℕ) (result : Result T PoolFault) : Type 0 where
   pub later : before ≤ now

@@ -23,7 +23,8 @@ use Rattle.zst_objset.specs.declared.fault.ObjFault.TheVariants as set_faults
 use Rattle.zst_pool.specs.Checks.{next_of, with_head_of}
 use Rattle.zst_pool.specs.Cost.{Cost}
 use Rattle.zst_pool.specs.Faults.{StepFault, is_disk_fault, of_set, or_memory}
-use Rattle.zst_image.specs.Reads.{SetIs, bound_of, free_by}
+use Rattle.zst_image.specs.Bodies.{free_by}
+use Rattle.zst_image.specs.Reads.{SetIs, bound_of}
 use Rattle.zst_pool.specs.Calls.{IsAtRest}
 use Rattle.zst_pool.specs.Plans.{IsLast}
 use Rattle.zst_pool.specs.Queries.{stop_at}

@@ -1,6 +1,6 @@
 -- What a command's plan refuses, whatever the object sets hold.
 use Rattle.std.specs.Prelude.{◌≡◌, ◌⊎◌, ◌↔◌, ℕ, ◌+◌, ◌<◌, ◌≤◌, ◌^◌, Bool, true, false, [], map, Result, Err}
-use Rattle.zst_uber.specs.declared.uber.Uber.{Uber}
+use Rattle.zst_image.specs.Bodies.{Body}
 use Rattle.zst_model.specs.declared.pools.command.Command.{Command}
 use Rattle.zst_model.specs.declared.pools.command.Command.TheVariants as commands
 use Rattle.zst_model.specs.declared.refusals.faults.Quantity.{Quantity}
@@ -74,8 +74,8 @@ abbrev pub IsLong : (lists : Bool) → PlanFault → Type 0
 IsLong lists fault = (fault ≡ plans.Limit quantities.Runs 65536) × (lists ≡ true)
 
 -- E23 of what isn't counted
-abbrev pub IsLimitOf : (numbers indices : ℕ) → (lists : Bool) → Uber → PlanFault → Type 0
-IsLimitOf numbers indices lists uber fault = IsPast numbers indices fault ⊎ (IsLong lists fault ⊎ IsLast uber.number fault)
+abbrev pub IsLimitOf : (numbers indices : ℕ) → (lists : Bool) → Body → PlanFault → Type 0
+IsLimitOf numbers indices lists body fault = IsPast numbers indices fault ⊎ (IsLong lists fault ⊎ IsLast body.uber.number fault)
 
 -- what a command's plan refuses: what the directory and the body tell exactly where the definition says so, of each pool that they name; and else only what passes a limit
 pub record Plans {T : Type 0} (definition : Pool → Result Stepped Refusal) (numbers indices : ℕ) (lists : Bool) (kept : PoolState) (result : Result T PoolFault) : Type 0 where
@@ -95,11 +95,11 @@ bare_bookmark row = record { name = row.name; guid = row.guid; time = row.time; 
 abbrev pub bare_partial : Partial → plain.Partial
 bare_partial row = record { target = row.target; component = row.snapshot; keep = row.keep; header = row.header; base = row.base; objects = untouched; point = row.point }
 
-abbrev pub bare_pool : Uber → Rows → Pool
-bare_pool uber rows = record {
-  id = uber.id;
-  number = uber.number;
-  guids = uber.guids;
+abbrev pub bare_pool : Body → Rows → Pool
+bare_pool body rows = record {
+  id = body.uber.id;
+  number = body.uber.number;
+  guids = body.uber.guids;
   datasets = map bare_dataset rows.datasets;
   snapshots = map bare_snapshot rows.snapshots;
   bookmarks = map bare_bookmark rows.bookmarks;

@@ -4,11 +4,11 @@ use Rattle.zst_outside.specs.Images.{DiskState, IsSynced, OnlyReads}
 use Rattle.zst_outside.specs.declared.disk.Disk.{Ghosts}
 use Rattle.zst_block.specs.IoStates.{disk_of}
 use Rattle.zst_uber.specs.DiskCalls.{HasDiskCause}
-use Rattle.zst_uber.specs.declared.uber.Uber.{Uber}
+use Rattle.zst_image.specs.Bodies.{Body, free_by}
 use Rattle.zst_model.specs.pools.Pool.{Pool as Plain}
 use Rattle.zst_dir.specs.Rows.{Rows}
 use Rattle.zst_image.specs.OpenAnswers.{GivesPool, OpenAnswers}
-use Rattle.zst_image.specs.Reads.{ReadsAs, free_by}
+use Rattle.zst_image.specs.Reads.{ReadsAs}
 use Rattle.zst_image.specs.declared.pool_state.PoolState.{PoolState}
 use Rattle.zst_image.specs.declared.open_fault.OpenFault.{OpenFault}
 use Rattle.zst_image.specs.declared.open_fault.OpenFault.TheVariants.{Damaged, NoPool, BadVersion, DiskFault, OutOfMemory}
@@ -31,7 +31,7 @@ failed_after failed (Err OutOfMemory) = failed
 
 -- what an opening gives by the image that it reads: the pool of each body as which that reads, and else the refusal of what it found
 pub record OpensBy (old new : DiskState) (opened : Result PoolState OpenFault) : Type 0 where
-  pub there : (tight : Bool) (uber : Uber) (rows : Rows) (pool : Plain) → new.honest → ReadsAs tight uber rows pool old.seen → GivesPool uber rows opened
+  pub there : (tight : Bool) (body : Body) (rows : Rows) (pool : Plain) → new.honest → ReadsAs tight body rows pool old.seen → GivesPool body rows opened
   pub answer : new.honest → OpenAnswers old opened
 
 module _ {D : Type 0} {g : Ghosts D} where

@@ -15,9 +15,9 @@ use Rattle.zst_pool.specs.Checks.{next_of}
 
 -- over these blocks what is kept stands for a lawful pool that runs, by tight sets where that is said
 pub record RunsAs (tight : Bool) (has : Blocks) (kept : PoolState) (running : Pool) : Type 0 where
-  pub id : running.id ≡ kept.body.id
-  pub number : running.number ≡ kept.body.number
-  pub guids : running.guids ≡ kept.body.guids
+  pub id : running.id ≡ kept.body.uber.id
+  pub number : running.number ≡ kept.body.uber.number
+  pub guids : running.guids ≡ kept.body.uber.guids
   pub runs_by : RunsBy (bound_of tight running.number) has kept.dir running
   pub lawful : IsPool running
 

@@ -39,7 +39,7 @@ pub fn plan_abort(kept: &PoolState, target: &DatasetName) -> Result<(), PlanFaul
     ensures plans { PlansCommit kept.now (λ pool. Judges (with_aborted [] target.now pool) (Ok (next_of (without_partial target.now pool)))) result }
 {
     check_partial(&kept.dir, target)?;
-    check_number(kept.body.number)?;
+    check_number(&kept.body)?;
     Ok(())
 }
 
@@ -64,5 +64,5 @@ pub fn abort<D: Disk>(
 {
     plan_abort(kept, dataset)?;
     let dir = dir_aborted(alloc, &kept.dir, dataset)?;
-    commit_rows(io, alloc, kept, kept.body.guids, dir)
+    commit_rows(io, alloc, kept, kept.body.uber().guids, dir)
 }

@@ -11,7 +11,7 @@ ghost use Rattle.zst_pool.specs.Plans.{IsLast, is_by_rows};
 ghost use Rattle.zst_dir.specs.RowNames.{AreNamed};
 
 use zst_dir::{Dataset, Dir};
-use zst_image::PoolState;
+use zst_image::{Body, PoolState};
 use zst_model::limits::{LAST_GUID, LAST_NUMBER, MOST_DATASETS, MOST_SNAPSHOTS};
 use zst_model::{AbsentSubject, Holder, Name, PlanFault, PresentSubject, Quantity};
 use zst_names::{DatasetName, SnapName};
@@ -35,11 +35,12 @@ pub fn check_new_snapshot(dir: &Dir, name: &SnapName) -> Result<(), PlanFault>
 }
 
 /// E23 where no guid is left.
-pub fn check_guids(guids: u64) -> Result<(), PlanFault>
-    ensures below { OnOk result (guids + 1 < 2 ^ 32) }
+pub fn check_guids(body: &Body) -> Result<(), PlanFault>
+    ensures below { OnOk result (body.now.uber.guids + 1 < 2 ^ 32) }
     ensures rows { IfErr result (λ fault. is_by_rows fault ≡ true) }
-    ensures judged { (rest : Result Stepped Refusal) → Judges (if_guid_left guids rest) rest result }
+    ensures judged { (rest : Result Stepped Refusal) → Judges (if_guid_left body.now.uber.guids rest) rest result }
 {
+    let guids = body.uber().guids;
     if guids >= LAST_GUID {
         return Err(PlanFault::Limit {
             which: Quantity::Guids,
@@ -133,11 +134,12 @@ fn exists_already(name: &DatasetName) -> PlanFault
 }
 
 /// E23 where the last commit was made.
-pub fn check_number(number: u64) -> Result<(), PlanFault>
-    ensures below { OnOk result (number < 2 ^ 63) }
-    ensures last { IfErr result (IsLast number) }
-    ensures judged { (pool : Pool) → pool.number ≡ number → Judges (committed pool) (Ok (next_of pool)) result }
+pub fn check_number(body: &Body) -> Result<(), PlanFault>
+    ensures below { OnOk result (body.now.uber.number < 2 ^ 63) }
+    ensures last { IfErr result (IsLast body.now.uber.number) }
+    ensures judged { (pool : Pool) → pool.number ≡ body.now.uber.number → Judges (committed pool) (Ok (next_of pool)) result }
 {
+    let number = body.uber().number;
     if number >= LAST_NUMBER {
         return Err(PlanFault::Limit {
             which: Quantity::Number,
@@ -152,12 +154,12 @@ pub fn plan_snapshot<'a>(kept: &'a PoolState, name: &SnapName) -> Result<&'a Dat
     ensures lawful { IsLawful kept.now.dir }
     ensures there { IfOk result (λ row. Contains kept.now.dir.datasets row.now × (row.now.name ≡ dataset_of 64 name.now)) }
     ensures can { OnOk result (CanTake kept.now.dir name.now) }
-    ensures guids { OnOk result (kept.now.body.guids + 1 < 2 ^ 32) }
-    ensures plans { PlansCommit kept.now (λ pool answer. (now : ℕ) → pool.guids ≡ kept.now.body.guids → JudgesSnapshot kept.now.dir now name.now pool answer) result }
+    ensures guids { OnOk result (kept.now.body.uber.guids + 1 < 2 ^ 32) }
+    ensures plans { PlansCommit kept.now (λ pool answer. (now : ℕ) → pool.guids ≡ kept.now.body.uber.guids → JudgesSnapshot kept.now.dir now name.now pool answer) result }
 {
     let dataset = open_dataset(&kept.dir, &name.dataset())?;
     check_new_snapshot(&kept.dir, name)?;
-    check_guids(kept.body.guids)?;
-    check_number(kept.body.number)?;
+    check_guids(&kept.body)?;
+    check_number(&kept.body)?;
     Ok(dataset)
 }

@@ -22,12 +22,11 @@ use crate::fault::{PoolFault, of_committed};
 use std::alloc::{AllocError, Global};
 use zst_block::Io;
 use zst_dir::{Dataset, Dir, Snapshot};
-use zst_image::{PoolState, commit_dir};
+use zst_image::{Body, PoolState, commit_dir};
 use zst_model::GuidSet;
 use zst_names::{DatasetName, SnapName};
 use zst_outside::Disk;
 use zst_tree::ObjSet;
-use zst_uber::Uber;
 
 /// A dataset without objects, a clone of none.
 fn new_dataset(kind: u32, name: &DatasetName) -> Dataset
@@ -52,7 +51,7 @@ pub fn commit_rows<D: Disk>(
     dir: Dir,
 ) -> Result<PoolState, PoolFault>
     requires begins { CanBegin (io_of io.old) kept.now }
-    requires number { kept.now.body.number < 2 ^ 63 }
+    requires number { kept.now.body.uber.number < 2 ^ 63 }
     requires grows { length (dir_bytes dir) ≤ length (dir_bytes kept.now.dir) + 1024 }
     // What each definition does that makes these rows of the pool that runs.
     ensures runs { (definition : Plain → Result Stepped Refusal) → MakesOfEach definition kept.now guids dir
@@ -77,25 +76,25 @@ pub fn make_dataset<D: Disk>(
     ensures does { RunsByPlan (with_dataset (new_dataset kind name.now)) (cells_only 0) NoDamage 0 0 false each_stays kept.now (io_of io.old) (io_of io.new) result }
 {
     check_new_dataset(&kept.dir, name)?;
-    check_number(kept.body.number)?;
+    check_number(&kept.body)?;
     let mut dir = kept.dir.copy(alloc)?;
     dir.add_dataset(new_dataset(kind, name))?;
-    commit_rows(io, alloc, kept, kept.body.guids, dir)
+    commit_rows(io, alloc, kept, kept.body.uber().guids, dir)
 }
 
 /// The snapshot of a dataset's head, with the next number and the next guid.
-fn new_snapshot(body: &Uber, dataset: &Dataset, now: u64, name: &SnapName) -> Snapshot
-    requires id { body.now.id < 2 ^ 31 }
-    requires guids { body.now.guids + 1 < 2 ^ 32 }
-    requires number { body.now.number < 2 ^ 63 }
+fn new_snapshot(body: &Body, dataset: &Dataset, now: u64, name: &SnapName) -> Snapshot
+    requires id { body.now.uber.id < 2 ^ 31 }
+    requires guids { body.now.uber.guids + 1 < 2 ^ 32 }
+    requires number { body.now.uber.number < 2 ^ 63 }
     requires row { IsDatasetRow dataset.now }
-    ensures makes { MakesRow IsSnapshotRow (record { name = name.now; guid = body.now.id * 2 ^ 32 + (body.now.guids + 1); time = now; number = body.now.number + 1; objects = dataset.now.head; redact = dataset.now.redact }) result }
+    ensures makes { MakesRow IsSnapshotRow (record { name = name.now; guid = body.now.uber.id * 2 ^ 32 + (body.now.uber.guids + 1); time = now; number = body.now.uber.number + 1; objects = dataset.now.head; redact = dataset.now.redact }) result }
 {
     Snapshot {
         name: name.duplicate(),
-        guid: u64::from(body.id) * (1 << 32) + (body.guids + 1),
+        guid: u64::from(body.uber().id) * (1 << 32) + (body.uber().guids + 1),
         time: now,
-        number: body.number + 1,
+        number: body.uber().number + 1,
         objects: dataset.head,
         redact: dataset.redact.duplicate(),
     }
@@ -128,5 +127,5 @@ pub fn take_snapshot<D: Disk>(
     let dataset = plan_snapshot(kept, name)?;
     let snapshot = new_snapshot(&kept.body, dataset, now, name);
     let dir = dir_with_snapshot(alloc, &kept.dir, snapshot)?;
-    commit_rows(io, alloc, kept, kept.body.guids + 1, dir)
+    commit_rows(io, alloc, kept, kept.body.uber().guids + 1, dir)
 }

@@ -86,11 +86,11 @@ fn commit_finished<D: Disk>(
 ) -> Result<PoolState, PoolFault>
     requires partial { CanPut kept.now.dir partial.now }
     requires works { CanCommit (disk_of io.old) io.old.space kept.now.body }
-    ensures puts { CommitsPartial partial_finished partial.now (rows_with_finished (kept.now.body.number + 1) partial.now kept.now.dir) kept.now io.old io.new result }
+    ensures puts { CommitsPartial partial_finished partial.now (rows_with_finished (kept.now.body.uber.number + 1) partial.now kept.now.dir) kept.now io.old io.new result }
     ensures commits { EndsCommit kept.now (io_of io.old) (io_of io.new) result }
 {
     // The last number is refused as it is committed.
-    let number = kept.body.number.saturating_add(1);
+    let number = kept.body.uber().number.saturating_add(1);
     let dir = dir_finished(alloc, &kept.dir, partial, number)?;
     commit_next(io, alloc, kept, dir)
 }
@@ -100,17 +100,17 @@ impl<'d, D: Disk> Pool<'d, D> {
     /// partial state, and gives the new number. A target that is absent is made, with the base as
     /// its origin.
     ///
-    /// Afterwards what the latest body leaves free is free again; after E24 once `renew` is called.
+    /// It goes on over the sectors that are left of the event; after a refusal the next one begins with `renew`.
     pub fn finish_partial(&mut self, alloc: Global, partial: Partial) -> Result<u64, PoolFault>
         requires partial { CanPut self.old.kept.dir partial }
         requires works { self.old.io.failed ≡ false → CanCommit (disk_of self.old.io) self.old.io.space self.old.kept.body }
-        ensures puts { PutsPartial partial_finished partial (rows_with_finished (self.old.kept.body.number + 1) partial self.old.kept.dir) self.old self.new result }
+        ensures puts { PutsPartial partial_finished partial (rows_with_finished (self.old.kept.body.uber.number + 1) partial self.old.kept.dir) self.old self.new result }
         ensures settles { Settles self.old self.new result }
     {
         if self.io.failed {
             return Err(PoolFault::Failed);
         }
         let committed = commit_finished(&mut self.io, alloc, &self.kept, &partial);
-        self.settle_command(alloc, committed)
+        self.keep(committed)
     }
 }

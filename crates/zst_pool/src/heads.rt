@@ -14,7 +14,7 @@ ghost use Rattle.zst_tree.specs.declared.tree.ObjSet.{ObjSet as ObjectSet};
 ghost use Rattle.zst_pool.specs.Checks.{FindsHead, freed, put_in, ChecksRows};
 ghost use Rattle.zst_pool.specs.Heads.{ChangedHead, ChangesHead, JudgesHead, Stops, is_accepted, of_change, rested, RefusesHead, CanPutObject};
 ghost use Rattle.zst_objset.specs.OrMemory.{stop_of};
-ghost use Rattle.zst_image.specs.Reads.{free_by};
+ghost use Rattle.zst_image.specs.Bodies.{free_by};
 ghost use Rattle.zst_pool.specs.Cost.{Cost, cells_only, object_cost, write_cost};
 ghost use Rattle.zst_pool.specs.CommandRuns.{Ran, CanBegin, RunsByPlan};
 ghost use Rattle.zst_pool.specs.PartialRows.{each_stays};
@@ -27,13 +27,12 @@ use crate::fault::{PoolFault, of_committed};
 use std::alloc::Global;
 use zst_block::{BlockFault, Io};
 use zst_dir::Dir;
-use zst_image::{PoolState, commit_dir};
+use zst_image::{Body, PoolState, commit_dir};
 use zst_model::{Bytes, ObjectHead, PlanFault};
 use zst_names::DatasetName;
 use zst_objset::ObjFault;
 use zst_outside::Disk;
 use zst_tree::{ObjSet, OrMemory};
-use zst_uber::Uber;
 
 // The object set of the head of a dataset that has no partial state.
 fn open_head(dir: &Dir, name: &DatasetName) -> Result<ObjSet, PlanFault>
@@ -49,10 +48,10 @@ fn open_head(dir: &Dir, name: &DatasetName) -> Result<ObjSet, PlanFault>
 }
 
 // The number of the next commit. Past the last number there is none, and any will do.
-fn next_number(body: &Uber) -> u64
-    ensures { body.now.number ≤ 2 ^ 63 → result ≡ body.now.number + 1 }
+fn next_number(body: &Body) -> u64
+    ensures { body.now.uber.number ≤ 2 ^ 63 → result ≡ body.now.uber.number + 1 }
 {
-    body.number.saturating_add(1)
+    body.uber().number.saturating_add(1)
 }
 
 // Whether the definition accepts a change with this answer: also where no room was found.
@@ -76,19 +75,19 @@ fn answer(changed: Result<(), OrMemory<ObjFault>>) -> Result<(), PoolFault>
 }
 
 // What a command answers whose change was answered so: E23 of the commit's number comes before E24.
-fn judge(number: u64, changed: Result<(), OrMemory<ObjFault>>) -> Result<(), PoolFault>
-    ensures judged { (bound : Option ℕ) (image : List ℕ) (space : FreeSectors) (set : ObjectSet) (name : List ℕ) (pool : Pool) (change : Result DatedState Refusal) → pool.number ≡ number
+fn judge(body: &Body, changed: Result<(), OrMemory<ObjFault>>) -> Result<(), PoolFault>
+    ensures judged { (bound : Option ℕ) (image : List ℕ) (space : FreeSectors) (set : ObjectSet) (name : List ℕ) (pool : Pool) (change : Result DatedState Refusal) → pool.number ≡ body.now.uber.number
         → ChangesHead bound (Has image space) set change changed → JudgesHead bound (Has image space) set name pool change result }
-    ensures below { OnOk result (number < 2 ^ 63) }
+    ensures below { OnOk result (body.now.uber.number < 2 ^ 63) }
     ensures went_well { OnOk result (stop_of changed ≡ None) }
     ensures well { OnOk result (is_ok changed ≡ true) }
     ensures stops { IfErr result (Stops (stop_of changed)) }
-    ensures refuses { RefusesHead number changed result }
+    ensures refuses { RefusesHead body.now.uber.number changed result }
 {
     if !is_accepted(&changed) {
         return answer(changed);
     }
-    check_number(number)?;
+    check_number(body)?;
     answer(changed)
 }
 
@@ -102,22 +101,22 @@ fn commit_head<D: Disk>(
     set: ObjSet,
     changed: Result<(), OrMemory<ObjFault>>,
 ) -> Result<PoolState, PoolFault>
-    requires sectors { io.old.space.sectors ≡ kept.now.body.sectors }
+    requires sectors { io.old.space.sectors ≡ kept.now.body.uber.sectors }
     requires ready { Ready (disk_of io.old) kept.now.body }
     requires levels { OnOk changed (SetFits set) }
     ensures ran { (start : D) (failed : Bool) (checksum_errors reference : ℕ) (make : Pool → DatedState → Result DatedState Refusal) (cost : Cost)
         → ChangedHead kept.now name.now make cost (rested (D.state start) failed checksum_errors reference kept.now) (io_of io.old) set changed
         → Ran (λ pool. on_head name.now pool (make pool)) cost kept.now (rested (D.state start) failed checksum_errors reference kept.now) (io_of io.new) result }
-    ensures refuses { RefusesHead kept.now.body.number changed result }
+    ensures refuses { RefusesHead kept.now.body.uber.number changed result }
     ensures partials { IfOk result (λ next. next.dir.partials ≡ kept.now.dir.partials) }
     ensures honest { IsHonest io.new → IsHonest io.old }
     ensures same { io.new.disk.ghost_name ≡ io.old.disk.ghost_name }
 {
-    judge(kept.body.number, changed)?;
+    judge(&kept.body, changed)?;
     let mut dir = kept.dir.copy(alloc)?;
     dir.set_head(name, set);
     let _lawful = dir.datasets();
-    of_committed(commit_dir(io, alloc, &kept.body, kept.body.guids, dir))
+    of_committed(commit_dir(io, alloc, &kept.body, kept.body.uber().guids, dir))
 }
 
 /// Allocates an object, or gives it other attributes. Its spill block is this one, or none.

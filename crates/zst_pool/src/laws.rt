@@ -3,7 +3,7 @@ ghost use Rattle.std.specs.Prelude.{◌≡◌, ℕ, Bool, Option};
 ghost use Rattle.zst_outside.specs.Images.{Leaves};
 ghost use Rattle.zst_space.specs.FreeSectors.{FreeSectors};
 ghost use Rattle.zst_block.specs.Blocks.{FillsFree, FitsDisk, Has};
-ghost use Rattle.zst_uber.specs.declared.uber.Uber.{Uber};
+ghost use Rattle.zst_image.specs.Bodies.{Body};
 ghost use Rattle.zst_model.specs.pools.KeptPool.{KeepsAll, kept_of};
 ghost use Rattle.zst_model.specs.pools.Pool.{Partial, Pool};
 ghost use Rattle.zst_dir.specs.Rows.{Rows};
@@ -18,7 +18,7 @@ use zst_outside::Disk;
 /// A body and its rows name a pool, whatever the object sets and the lists hold: one whose objects nothing
 /// touched yet.
 pub fn rows_name_a_pool()
-    ensures { (uber : Uber) (rows : Rows) → IsNamedBy uber rows (bare_pool uber rows) }
+    ensures { (body : Body) (rows : Rows) → IsNamedBy body rows (bare_pool body rows) }
 {}
 
 /// A pool that was just opened is at rest; as each pool that an image reads as keeps all its partial

@@ -136,7 +136,7 @@ pub fn plan_destroy(kept: &PoolState, name: Name) -> Result<Removal, PlanFault>
 {
     let going = find_going(&kept.dir, name)?;
     check_unused(&kept.dir, &going)?;
-    check_number(kept.body.number)?;
+    check_number(&kept.body)?;
     Ok(going)
 }
 
@@ -201,7 +201,7 @@ pub fn plan_clone(
     let snapshot = find_snapshot(&kept.dir, origin)?;
     let source = find_source(&kept.dir, &origin.dataset())?;
     check_new_dataset(&kept.dir, name)?;
-    check_number(kept.body.number)?;
+    check_number(&kept.body)?;
     Ok(clone_row(name, source, snapshot))
 }
 
@@ -281,6 +281,6 @@ pub fn plan_bookmark(
     let row = find_snapshot(&kept.dir, snapshot)?;
     check_dataset(snapshot, name)?;
     check_new_bookmark(&kept.dir, name)?;
-    check_number(kept.body.number)?;
+    check_number(&kept.body)?;
     Ok(bookmark_row(name, row))
 }

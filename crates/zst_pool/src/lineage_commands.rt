@@ -35,7 +35,7 @@ pub fn make_clone<D: Disk>(
     let row = plan_clone(kept, origin, name)?;
     let mut dir = kept.dir.copy(alloc)?;
     dir.add_dataset(row)?;
-    commit_rows(io, alloc, kept, kept.body.guids, dir)
+    commit_rows(io, alloc, kept, kept.body.uber().guids, dir)
 }
 
 /// Makes a bookmark of a snapshot.
@@ -52,7 +52,7 @@ pub fn make_bookmark<D: Disk>(
     let row = plan_bookmark(kept, snapshot, name)?;
     let mut dir = kept.dir.copy(alloc)?;
     dir.add_bookmark(row)?;
-    commit_rows(io, alloc, kept, kept.body.guids, dir)
+    commit_rows(io, alloc, kept, kept.body.uber().guids, dir)
 }
 
 // The directory without what goes.
@@ -77,7 +77,7 @@ pub fn destroy<D: Disk>(
 {
     let going = plan_destroy(kept, name)?;
     let dir = dir_without(alloc, &kept.dir, &going)?;
-    commit_rows(io, alloc, kept, kept.body.guids, dir)
+    commit_rows(io, alloc, kept, kept.body.uber().guids, dir)
 }
 
 /// Makes the head of a snapshot's dataset as that, without what is newer where it destroys.
@@ -93,5 +93,5 @@ pub fn roll_back<D: Disk>(
 {
     let snapshot = plan_rollback(kept, destroys, name)?;
     let dir = dir_rolled_back(alloc, &kept.dir, snapshot)?;
-    commit_rows(io, alloc, kept, kept.body.guids, dir)
+    commit_rows(io, alloc, kept, kept.body.uber().guids, dir)
 }

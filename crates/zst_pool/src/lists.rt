@@ -1,8 +1,9 @@
 // The lists of bookmarks.
-ghost use Rattle.std.specs.Prelude.{◌≡◌, List, [], None, false, Some, IfErr, IfOk, IfSome, Err, option_map};
+ghost use Rattle.std.specs.Prelude.{◌≡◌, List, None, false, Some, IfErr, IfOk, IfSome, Err, option_map};
 ghost use Rattle.zst_block.specs.IoStates.{IsHonest, blocks_of, disk_of};
 ghost use Rattle.zst_model.specs.fields.Lists.{Runs};
 ghost use Rattle.zst_model.specs.pools.Pool.{Pool as Plain, bookmark_named};
+ghost use Rattle.zst_leaves.specs.Leaves.{BlocksBefore};
 ghost use Rattle.zst_list.specs.StoredLists.{HasList};
 ghost use Rattle.zst_image.specs.Reads.{RunsBy};
 ghost use Rattle.zst_pool.specs.Events.{LooksUp, ReadsOnly};
@@ -24,10 +25,10 @@ impl<'d, D: Disk> Pool<'d, D> {
         // Where the rows stand for a pool, it is the list of that pool's bookmark, unless the disk or the memory fails.
         ensures found { (pool : Plain) → IsHonest self.new.io → self.old.io.failed ≡ false → RunsBy None (blocks_of self.old.io) self.old.kept.dir pool
             → GivesList book.now (bookmark_named book.now pool) result }
-        // Whatever the image is, E3 comes exactly where no row has the name, and what is given stands below the row's root.
+        // Whatever the image is, E3 comes exactly where no row has the name, and what is given stands below the row's root, before the end.
         ensures rows { self.old.io.failed ≡ false → AnswersNamed book.now (row_named book.now self.old.kept.dir) result }
-        ensures stands { IsHonest self.new.io → self.old.io.space.free ≡ []
-            → IfOk result (λ list. IfSome (row_named book.now self.old.kept.dir) (λ row. StandsBelow (blocks_of self.old.io) row list)) }
+        ensures stands { IsHonest self.new.io
+            → IfOk result (λ list. IfSome (row_named book.now self.old.kept.dir) (λ row. StandsBelow (BlocksBefore self.old.io.space.end (disk_of self.old.io).seen) row list)) }
         ensures damaged { IsHonest self.new.io
             → IfErr result (λ fault. IfSome (row_named book.now self.old.kept.dir) (λ row. TellsRow self.old.io.space.end (disk_of self.old.io).seen (disk_of self.old.io).size row fault)) }
         ensures looks_up { LooksUp self.old self.new result }
@@ -66,7 +67,7 @@ fn read_row<D: Disk>(
 ) -> Result<Option<List>, PoolFault>
     ensures found { (runs : Runs) → IsHonest io.new → HasList (blocks_of io.old) row.now.levels row.now.root row.now.runs runs → GivesListed (list_by row.now.redact runs) result }
     ensures rows { AnswersRow row.now result }
-    ensures stands { IsHonest io.new → io.old.space.free ≡ [] → IfOk result (StandsBelow (blocks_of io.old) row.now) }
+    ensures stands { IsHonest io.new → IfOk result (StandsBelow (BlocksBefore io.old.space.end (disk_of io.old).seen) row.now) }
     ensures damaged { IsHonest io.new → IfErr result (TellsRow io.old.space.end (disk_of io.old).seen (disk_of io.old).size row.now) }
     ensures reads_only { ReadsOnly io.old io.new result }
 {

@@ -4,18 +4,18 @@ ghost use Rattle.zst_pool.specs.Lookups.{set_named, FindsSet};
 
 use crate::pool::Pool;
 use zst_dir::Dir;
+use zst_image::Body;
 use zst_model::Name;
 use zst_names::{DatasetName, SnapName};
 use zst_outside::Disk;
 use zst_tree::ObjSet;
-use zst_uber::Uber;
 
 impl<'d, D: Disk> Pool<'d, D> {
     /// The number of its last commit.
     pub fn number(&self) -> u64
-        ensures { result ≡ self.now.kept.body.number }
+        ensures { result ≡ self.now.kept.body.uber.number }
     {
-        self.kept.body.number
+        self.kept.body.uber().number
     }
 
     /// Its directory.
@@ -26,10 +26,10 @@ impl<'d, D: Disk> Pool<'d, D> {
     }
 
     /// Its latest body.
-    pub fn body(&self) -> Uber
-        ensures { result ≡ self.now.kept.body }
+    pub fn body(&self) -> &Body
+        ensures { result.now ≡ self.now.kept.body }
     {
-        self.kept.body
+        &self.kept.body
     }
 
     /// Whether its disk has failed since it was opened.

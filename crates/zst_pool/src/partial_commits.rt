@@ -1,5 +1,5 @@
 // What a receive does to a pool: it commits a partial state, or drops one.
-ghost use Rattle.std.specs.Prelude.{◌≡◌, ◌+◌, ◌<◌, ℕ, false, filter, length, not, IfErr, IfOk, OnErr, Err, Bool};
+ghost use Rattle.std.specs.Prelude.{◌≡◌, ◌+◌, ◌<◌, ℕ, false, filter, length, not, IfErr, IfOk, OnErr, OnOk, Err, Bool};
 ghost use Rattle.zst_block.specs.Blocks.{FitsDisk, KeepsBlocks, SparesTaken};
 ghost use Rattle.zst_block.specs.IoStates.{IsHonest, blocks_of, disk_of, io_of};
 ghost use Rattle.zst_block.specs.IoCalls.{IsBlockLength, TakesAtMost};
@@ -8,22 +8,22 @@ ghost use Rattle.zst_model.specs.pools.KeptPool.{kept_of};
 ghost use Rattle.zst_dir.specs.Rows.{is_unkept_for};
 ghost use Rattle.zst_dir.specs.Spelling.{dir_bytes};
 ghost use Rattle.zst_pool.specs.Calls.{CallDid, CanCommit, IsAtRest, IsCallFault, IsUnderWay, ListsAnew};
-ghost use Rattle.zst_pool.specs.Events.{CommitsPartial, EndsCommit, FollowsBy, KeepsCommitted, PutsPartial, SameDisk, Settles, CanSettle, KeepsOver};
+ghost use Rattle.zst_pool.specs.Events.{CommitsPartial, EndsCommit, FollowsBy, KeepsCommitted, PutsPartial, SameDisk, Settles};
 ghost use Rattle.zst_pool.specs.PartialRows.{CanPut, rows_with_partial};
 ghost use Rattle.zst_pool.specs.Partials.{next_commit, partial_put, without_unkept};
-ghost use Rattle.zst_image.specs.Reads.{RunsBy, bound_of, dir_sectors, free_by};
-ghost use Rattle.zst_image.specs.Commits.{IsDirFull, Ready};
+ghost use Rattle.zst_image.specs.Bodies.{free_by};
+ghost use Rattle.zst_image.specs.Reads.{RunsBy, bound_of};
+ghost use Rattle.zst_image.specs.Commits.{IsDirFull, Ready, commit_sectors};
 
 use crate::fault::{PoolFault, of_committed};
 use crate::partials::{check_limits, dir_with_partial};
 use crate::pool::Pool;
-use std::alloc::Global;
+use std::alloc::{AllocError, Global};
 use zst_block::Io;
 use zst_dir::{Dir, Partial};
 use zst_image::{PoolState, commit_dir};
 use zst_names::DatasetName;
 use zst_outside::Disk;
-use zst_space::Space;
 
 /// Commits a directory as the next one of a pool, where it passes no limit.
 pub fn commit_next<D: Disk>(
@@ -38,15 +38,15 @@ pub fn commit_next<D: Disk>(
     ensures next { IfOk result (FollowsBy io.old.space kept.now dir) }
     ensures known { IfErr result IsCallFault }
     ensures full { (need largest : ℕ) → result ≡ Err (PoolFault.Full need largest) → IsDirFull io.old.space io.new.space dir need largest }
-    ensures takes { TakesAtMost (dir_sectors (length (dir_bytes dir))) (IsBlockLength 16) io.old.space io.new.space }
+    ensures takes { TakesAtMost (commit_sectors (length (dir_bytes dir)) (length io.old.space.free)) (IsBlockLength 16) io.old.space io.new.space }
     // The blocks that were there still are, over the sectors that the new body leaves free.
     ensures blocks { IfOk result (λ next. KeepsBlocks (disk_of io.old).seen io.old.space (disk_of io.new).seen (free_by next.body)) }
     // A refusal, but for that of the disk, wrote into free sectors alone.
     ensures spares { ¬ (result ≡ Err PoolFault.DiskFault) → OnErr result (SparesTaken io.old.space (disk_of io.old).seen (disk_of io.new).seen) }
     ensures commits { EndsCommit kept.now (io_of io.old) (io_of io.new) result }
 {
-    check_limits(&dir, kept.body.number)?;
-    of_committed(commit_dir(io, alloc, &kept.body, kept.body.guids, dir))
+    check_limits(&dir, &kept.body)?;
+    of_committed(commit_dir(io, alloc, &kept.body, kept.body.uber().guids, dir))
 }
 
 // Commits a partial state, and where it is asked for rolls the target's head back.
@@ -68,47 +68,36 @@ fn commit_partial<D: Disk>(
 
 impl<'d, D: Disk> Pool<'d, D> {
     /// Makes free again what the latest body leaves free. An event that begins otherwise than by `step`
-    /// begins with it.
-    pub fn renew(&mut self, alloc: Global)
+    /// begins with it. Where no memory is left for the free extents, nothing changes.
+    pub fn renew(&mut self, alloc: Global) -> Result<(), AllocError>
         requires fits { FitsDisk (disk_of self.old.io).size (free_by self.old.kept.body) }
-        ensures space { self.new.io.space ≡ free_by self.old.kept.body }
-        ensures works { Ready (disk_of self.old.io) self.old.kept.body → CanCommit (disk_of self.new.io) self.new.io.space self.new.kept.body }
+        ensures space { OnOk result (self.new.io.space ≡ free_by self.old.kept.body) }
+        ensures works { Ready (disk_of self.old.io) self.old.kept.body → OnOk result (CanCommit (disk_of self.new.io) self.new.io.space self.new.kept.body) }
         ensures kept { self.new.kept ≡ self.old.kept }
         ensures disk { SameDisk self.old.io self.new.io }
+        ensures unchanged { OnErr result (self.new ≡ self.old) }
     {
-        self.io.space = Space::new(self.kept.body.end, self.kept.body.sectors, Vec::new(alloc));
+        let space = self.kept.body.space(alloc)?;
+        self.io.space = space;
+        Ok(())
     }
 
-    /// Keeps what was committed. The sectors stay as they are.
+    /// Keeps what a command or a call committed. The sectors stay as they are: those that the new body leaves
+    /// free, or those that were left when it was refused.
     pub(crate) fn keep(&mut self, committed: Result<PoolState, PoolFault>) -> Result<u64, PoolFault>
         ensures keeps { KeepsCommitted committed self.old self.new result }
         ensures io { self.new.io ≡ self.old.io }
     {
         let kept = committed?;
-        let number = kept.body.number;
+        let number = kept.body.uber().number;
         self.kept = kept;
         Ok(number)
-    }
-
-    /// Keeps what was committed. What the latest body leaves free is free again.
-    pub(crate) fn settle(
-        &mut self,
-        alloc: Global,
-        committed: Result<PoolState, PoolFault>,
-    ) -> Result<u64, PoolFault>
-        requires can { CanSettle self.old committed }
-        ensures keeps { KeepsOver committed self.old self.new result }
-        ensures space { self.new.io.space ≡ free_by self.new.kept.body }
-    {
-        let answer = self.keep(committed);
-        self.renew(alloc);
-        answer
     }
 
     /// Commits with this partial state in place of its target's, and gives the new number. Where it
     /// is asked for, the target's head is rolled back to its latest snapshot in the same commit.
     ///
-    /// Afterwards what the latest body leaves free is free again; after E24 once `renew` is called.
+    /// It goes on over the sectors that are left of the event; after a refusal the next one begins with `renew`.
     pub fn put_partial(
         &mut self,
         alloc: Global,
@@ -124,7 +113,7 @@ impl<'d, D: Disk> Pool<'d, D> {
             return Err(PoolFault::Failed);
         }
         let committed = commit_partial(&mut self.io, alloc, &self.kept, partial, roll);
-        self.settle_command(alloc, committed)
+        self.keep(committed)
     }
 
     /// Leaves out the partial state of this target, where there is one that isn't kept. It commits

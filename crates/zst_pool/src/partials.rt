@@ -11,6 +11,7 @@ ghost use Rattle.zst_dir.specs.RowNames.{AreNamed};
 use crate::checks::count_datasets;
 use std::alloc::{AllocError, Global};
 use zst_dir::{Dir, Partial, Snapshot};
+use zst_image::Body;
 use zst_model::limits::{LAST_NUMBER, MOST_DATASETS, MOST_PARTIALS, MOST_SNAPSHOTS};
 use zst_model::{PlanFault, Quantity};
 use zst_names::DatasetName;
@@ -22,10 +23,10 @@ fn limit(which: Quantity, number: u64) -> PlanFault
 }
 
 /// E23 where the commit of this directory after that of this number would pass a limit.
-pub fn check_limits(dir: &Dir, number: u64) -> Result<(), PlanFault>
-    ensures below { OnOk result (number < 2 ^ 63) }
+pub fn check_limits(dir: &Dir, body: &Body) -> Result<(), PlanFault>
+    ensures below { OnOk result (body.now.uber.number < 2 ^ 63) }
     ensures limit { IfErr result (λ fault. (which : Quantity) × (most : ℕ) × (fault ≡ Limit which most)) }
-    ensures judged { (pool : Plain) → AreNamed dir.now pool → pool.number ≡ number → JudgesLimits pool result }
+    ensures judged { (pool : Plain) → AreNamed dir.now pool → pool.number ≡ body.now.uber.number → JudgesLimits pool result }
 {
     let partials = dir.partials().len();
     if partials > MOST_PARTIALS {
@@ -37,6 +38,7 @@ pub fn check_limits(dir: &Dir, number: u64) -> Result<(), PlanFault>
     if dir.snapshots().len() + partials > MOST_SNAPSHOTS {
         return Err(limit(Quantity::Snapshots, MOST_SNAPSHOTS as u64));
     }
+    let number = body.uber().number;
     if number >= LAST_NUMBER {
         return Err(limit(Quantity::Number, LAST_NUMBER));
     }

@@ -4,14 +4,13 @@ ghost use Rattle.zst_model.specs.pools.AnswerLines.{ok_line};
 ghost use Rattle.zst_model.specs.pools.Pool.{Pool as Plain};
 ghost use Rattle.zst_model.specs.pools.Soundness.{Sound};
 ghost use Rattle.zst_model.specs.pools.Step.{Stepped, commits, stepped, IsCommand};
-ghost use Rattle.zst_pool.specs.Faults.{is_full};
 ghost use Rattle.zst_pool.specs.Plans.{Plans, indices_end, makes_list, numbers_end};
-ghost use Rattle.zst_image.specs.Reads.{free_by};
+ghost use Rattle.zst_image.specs.Bodies.{behind_end, free_by};
 ghost use Rattle.zst_pool.specs.Calls.{CanCommit, IsAtRest};
 ghost use Rattle.zst_pool.specs.Cost.{cost_of};
 ghost use Rattle.zst_pool.specs.Damage.{TellsDamage};
 ghost use Rattle.zst_pool.specs.CommandRuns.{Runs, CanBegin, RunsByPlan};
-ghost use Rattle.zst_pool.specs.Events.{OnlyAnswers, Settles, StepDid, CanSettle, KeepsOver};
+ghost use Rattle.zst_pool.specs.Events.{OnlyAnswers, Settles, StepDid};
 ghost use Rattle.zst_pool.specs.PartialRows.{rows_after};
 ghost use Rattle.zst_image.specs.Commits.{Ready};
 
@@ -40,18 +39,20 @@ pub struct Pool<'d, D: Disk> {
 }
 
 impl<'d, D: Disk> Pool<'d, D> {
-    /// The pool of which this was kept when it was made or opened on this disk.
+    /// The pool of which this was kept when it was made or opened on this disk. Its Io has the sectors behind the
+    /// end: the free extents are taken with them as an event begins, by `step` or by `renew`.
     pub fn new(alloc: Global, disk: &'d mut D, kept: PoolState) -> Pool<'d, D>
         requires ready { Ready (D.state disk.old) kept.body }
         ensures same { result.io.disk.ghost_name ≡ disk.entry.ghost_name }
         ensures disk { result.io.disk.now ≡ disk.old }
         ensures kept { result.kept ≡ kept }
-        ensures space { result.io.space ≡ free_by kept.body }
+        ensures space { result.io.space ≡ behind_end kept.body.uber }
         ensures works { CanCommit (disk_of result.io) result.io.space kept.body }
         ensures failed { result.io.failed ≡ false }
         ensures checksum_errors { result.io.checksum_errors ≡ 0 }
     {
-        let space = Space::new(kept.body.end, kept.body.sectors, Vec::new(alloc));
+        let uber = kept.body.uber();
+        let space = Space::new(uber.end, uber.sectors, Vec::new(alloc));
         let io = Io::new(alloc, disk, space);
         Pool { io, kept }
     }
@@ -66,8 +67,8 @@ impl<'d, D: Disk> Pool<'d, D> {
     }
 
     /// Runs a command at this time on the pool that runs: it commits once where it changes that, and not
-    /// at all where it is refused or only answers. Afterwards what the latest body leaves free is free again, but after
-    /// E24 the sectors stay as they were when it was found, until `renew` or the next step.
+    /// at all where it is refused or only answers. It begins with all that the latest body leaves free: E32 where there
+    /// is no memory for that. After a refusal the sectors are those that were left then, until the next event begins.
     ///
     /// After E28 the pool answers E31.
     pub fn step(&mut self, alloc: Global, now: u64, command: Command) -> Result<Reply, PoolFault>
@@ -92,40 +93,16 @@ impl<'d, D: Disk> Pool<'d, D> {
         if self.io.failed {
             return Err(PoolFault::Failed);
         }
-        self.io.space = Space::new(self.kept.body.end, self.kept.body.sectors, Vec::new(alloc));
+        let space = self.kept.body.space(alloc)?;
+        self.io.space = space;
         if !command.commits() {
             return tell(&mut self.io, alloc, &self.kept, command);
         }
-        let reply = committed(alloc, self.kept.body.number.saturating_add(1))?;
+        let reply = committed(alloc, self.kept.body.uber().number.saturating_add(1))?;
         let ran = run(&mut self.io, alloc, &self.kept, now, command);
-        self.settle_command(alloc, ran)?;
+        self.keep(ran)?;
         Ok(reply)
     }
-
-    /// Keeps what a command or a call committed. What the latest body leaves free is free again, but where the disk
-    /// was full: the numbers of that refusal are those of the sectors that were left then.
-    pub(crate) fn settle_command(
-        &mut self,
-        alloc: Global,
-        ran: Result<PoolState, PoolFault>,
-    ) -> Result<u64, PoolFault>
-        requires can { CanSettle self.old ran }
-        ensures keeps { KeepsOver ran self.old self.new result }
-        ensures space { is_full ran ≡ false → self.new.io.space ≡ free_by self.new.kept.body }
-        ensures left { is_full ran ≡ true → self.new.io.space ≡ self.old.io.space }
-    {
-        if is_full(&ran) {
-            return self.keep(ran);
-        }
-        self.settle(alloc, ran)
-    }
-}
-
-/// Whether a command found the disk full.
-fn is_full(ran: &Result<PoolState, PoolFault>) -> bool
-    ensures { result ≡ is_full ran.now }
-{
-    matches!(ran, Err(PoolFault::Full { .. }))
 }
 
 /// The answer of a command that committed: the pool's number.

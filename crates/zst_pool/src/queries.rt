@@ -1,7 +1,7 @@
 // The commands that only answer.
 ghost use Rattle.std.specs.Prelude.{◌≡◌, ℕ, [], false};
 ghost use Rattle.zst_block.specs.IoStates.{disk_of, io_of};
-ghost use Rattle.zst_image.specs.Reads.{free_by};
+ghost use Rattle.zst_image.specs.Bodies.{free_by};
 ghost use Rattle.zst_model.specs.pools.Step.{IsCommand, commits, stepped};
 ghost use Rattle.zst_pool.specs.Damage.{OfSet, TellsDamage, look_damage};
 ghost use Rattle.zst_pool.specs.Plans.{indices_end, makes_list, numbers_end};

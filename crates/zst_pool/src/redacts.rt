@@ -77,14 +77,14 @@ fn write_runs<D: Disk>(
     ensures there { IfOk result (λ tree. HasList (blocks_of io.new) tree.levels tree.root (length list.now) list.now) }
     ensures low { IfOk result (λ tree. tree.levels ≤ 3) }
     ensures works { Works (list_sectors (length list.now)) 16 (io_of io.old) (io_of io.new) (stop_of result) }
-    ensures judged { (pool : Pool) → pool.number ≡ kept.now.body.number → JudgesCommit pool result }
-    ensures below { OnOk result (kept.now.body.number < 2 ^ 63) }
-    ensures limits { (fault : PlanFault) → result ≡ Err (PoolFault.Plan fault) → IsLast kept.now.body.number fault }
+    ensures judged { (pool : Pool) → pool.number ≡ kept.now.body.uber.number → JudgesCommit pool result }
+    ensures below { OnOk result (kept.now.body.uber.number < 2 ^ 63) }
+    ensures limits { (fault : PlanFault) → result ≡ Err (PoolFault.Plan fault) → IsLast kept.now.body.uber.number fault }
     ensures open_still { ¬ (result ≡ Err PoolFault.Failed) }
     ensures sound { (sector : ℕ) (stated found : Several ℕ) → ¬ (result ≡ Err (PoolFault.Damaged sector stated found)) }
 {
-    check_number(kept.body.number)?;
-    Ok(write_list(io, alloc, list, kept.body.number + 1)?)
+    check_number(&kept.body)?;
+    Ok(write_list(io, alloc, list, kept.body.uber().number + 1)?)
 }
 
 // The row of a redaction bookmark of a snapshot, whose list of so many runs stands in a tree.
@@ -165,13 +165,13 @@ fn commit_redaction<D: Disk>(
     requires absent { All (λ other. other.name ≢ name.now) kept.now.dir.bookmarks }
     ensures runs { (of : Several ℕ) (names : Several (Several ℕ)) → rows.now ≡ rows_of names kept.now.dir → ((pool : Pool) → AreNamed kept.now.dir pool → Redacts kept.now.dir of name.now names pool row.now)
         → RunsCommand (with_redaction of name.now names) (redact_cost of names) (IsDamagedAmong (IsSeen (disk_of io.old).seen) (disk_of io.old).size (sets_of (row.now ∷ rows.now))) kept.now (io_of io.old) (io_of io.new) result }
-    ensures limits { (fault : PlanFault) → result ≡ Err (PoolFault.Plan fault) → IsLong true fault ⊎ IsLast kept.now.body.number fault }
+    ensures limits { (fault : PlanFault) → result ≡ Err (PoolFault.Plan fault) → IsLong true fault ⊎ IsLast kept.now.body.uber.number fault }
     ensures partials { IfOk result (λ next. next.dir.partials ≡ kept.now.dir.partials) }
 {
     let list = build_list(io, alloc, row, rows)?;
     let tree = write_runs(io, alloc, kept, &list)?;
     let dir = dir_redacted(alloc, &kept.dir, name, row, rows, &list, tree)?;
-    of_committed(commit_dir(io, alloc, &kept.body, kept.body.guids, dir))
+    of_committed(commit_dir(io, alloc, &kept.body, kept.body.uber().guids, dir))
 }
 
 /// Makes a redaction bookmark of a snapshot: a list of its blocks that these have not kept.

@@ -1,8 +1,8 @@
 // How a pool is opened again after its disk has failed, and what then is left of it.
-ghost use Rattle.std.specs.Prelude.{◌≡◌, Bool, OnOk, IfOk, Err};
+ghost use Rattle.std.specs.Prelude.{◌≡◌, Bool, OnErr, OnOk, IfOk, Err};
 ghost use Rattle.zst_block.specs.IoStates.{IsHonest, disk_of};
 ghost use Rattle.zst_outside.specs.Images.{IsSynced};
-ghost use Rattle.zst_uber.specs.declared.uber.Uber.{Uber as Body};
+ghost use Rattle.zst_image.specs.Bodies.{Body, free_by};
 ghost use Rattle.zst_model.specs.pools.KeptPool.{kept_of};
 ghost use Rattle.zst_model.specs.pools.Pool.{Pool as Plain};
 ghost use Rattle.zst_dir.specs.Rows.{Rows};
@@ -17,7 +17,6 @@ use std::alloc::Global;
 use zst_block::Io;
 use zst_image::{OpenFault, PoolState};
 use zst_outside::Disk;
-use zst_space::Space;
 
 // Whether the pool counts as failed after an opening.
 fn failed_after(failed: bool, opened: &Result<PoolState, OpenFault>) -> bool
@@ -30,19 +29,24 @@ fn failed_after(failed: bool, opened: &Result<PoolState, OpenFault>) -> bool
     }
 }
 
-// Opens the pool of an Io's disk. What is kept of its blocks stays, as the disk is only read.
+// Opens the pool of an Io's disk, and makes free what its body leaves free. What is kept of its blocks stays, as the disk
+// is only read.
 fn open_on<D: Disk>(alloc: Global, io: &mut Io<'_, D>) -> Result<PoolState, OpenFault>
     ensures opens { OpensBy (disk_of io.old) (disk_of io.new) result }
-    ensures rests { (tight : Bool) (uber : Body) (rows : Rows) (pool : Plain) → IsHonest io.new → ReadsAs tight uber rows pool (disk_of io.old).seen → IfOk result (λ kept. Rests tight (disk_of io.new) kept.body rows pool) }
+    ensures rests { (tight : Bool) (body : Body) (rows : Rows) (pool : Plain) → IsHonest io.new → ReadsAs tight body rows pool (disk_of io.old).seen → IfOk result (λ kept. Rests tight (disk_of io.new) kept.body rows pool) }
     ensures ready { IfOk result (λ kept. Ready (disk_of io.new) kept.body) }
     ensures synced { ¬ (result ≡ Err OpenFault.DiskFault) → IsSynced (disk_of io.new) }
     ensures reads { ReadsOrFails OpenFault.DiskFault (disk_of io.old) (disk_of io.new) result }
-    ensures space { io.new.space ≡ io.old.space }
+    ensures space { IfOk result (λ kept. io.new.space ≡ free_by kept.body) }
+    ensures same_space { OnErr result (io.new.space ≡ io.old.space) }
     ensures failed { io.new.failed ≡ io.old.failed }
     ensures checksum_errors { io.new.checksum_errors ≡ io.old.checksum_errors }
     ensures same { io.new.disk.ghost_name ≡ io.old.disk.ghost_name }
 {
-    PoolState::open(alloc, io.disk)
+    let kept = PoolState::open(alloc, io.disk)?;
+    let space = kept.body.space(alloc)?;
+    io.space = space;
+    Ok(kept)
 }
 
 impl<'d, D: Disk> Pool<'d, D> {
@@ -51,14 +55,13 @@ impl<'d, D: Disk> Pool<'d, D> {
     pub fn reopen(&mut self, alloc: Global) -> Result<(), OpenFault>
         ensures opens { OpensBy (disk_of self.old.io) (disk_of self.new.io) (reopened self.new.kept result) }
         // And the pool that was opened is at rest.
-        ensures rests { (tight : Bool) (uber : Body) (rows : Rows) (pool : Plain) → IsHonest self.new.io → ReadsAs tight uber rows pool (disk_of self.old.io).seen → OnOk result (IsAtRest tight (disk_of self.new.io) self.new.kept pool) }
+        ensures rests { (tight : Bool) (body : Body) (rows : Rows) (pool : Plain) → IsHonest self.new.io → ReadsAs tight body rows pool (disk_of self.old.io).seen → OnOk result (IsAtRest tight (disk_of self.new.io) self.new.kept pool) }
         ensures reopens { Reopens self.old self.new result }
     {
         let opened = open_on(alloc, &mut self.io);
         self.io.failed = failed_after(self.io.failed, &opened);
         match opened {
             Ok(kept) => {
-                self.io.space = Space::new(kept.body.end, kept.body.sectors, Vec::new(alloc));
                 self.kept = kept;
                 Ok(())
             }

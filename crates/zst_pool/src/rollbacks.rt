@@ -106,7 +106,7 @@ pub fn plan_rollback<'a>(
 {
     let snapshot = find_snapshot(&kept.dir, name)?;
     check_rollback(&kept.dir, destroys, snapshot)?;
-    check_number(kept.body.number)?;
+    check_number(&kept.body)?;
     Ok(snapshot)
 }
 

@@ -14,7 +14,7 @@ Refused number fault = (is_by_rows fault ≡ true) ⊎ IsLast number fault
 pub returns-in_err-check_partial-clause-plans : goal.returns-in_err-check_partial-clause-plans
 returns-in_err-check_partial-clause-plans c = record {
   number = search rules;
-  refused = err_has (Refused c.args.kept.now.body.number) c.from_residual.result c.in_err-check_partial.field-0.0 c.from_residual.ensures.1 (inl c.in_err-check_partial.ensures.checks.rows);
+  refused = err_has (Refused c.args.kept.now.body.uber.number) c.from_residual.result c.in_err-check_partial.field-0.0 c.from_residual.ensures.1 (inl c.in_err-check_partial.ensures.checks.rows);
   judged = λ pool are number.
       let target = c.args.target.now in
       let fell = c.from_residual in
@@ -25,7 +25,7 @@ returns-in_err-check_partial-clause-plans c = record {
 pub returns-in_err-check_number-clause-plans : goal.returns-in_err-check_number-clause-plans
 returns-in_err-check_number-clause-plans c = record {
   number = search rules;
-  refused = err_has (Refused c.args.kept.now.body.number) c.from_residual-in_err-check_number.result c.in_err-check_number.field-0.0 c.from_residual-in_err-check_number.ensures.1 (inr c.in_err-check_number.ensures.last);
+  refused = err_has (Refused c.args.kept.now.body.uber.number) c.from_residual-in_err-check_number.result c.in_err-check_number.field-0.0 c.from_residual-in_err-check_number.ensures.1 (inr c.in_err-check_number.ensures.last);
   judged = λ pool are number.
       let target = c.args.target.now in
       let fell = c.from_residual-in_err-check_number in

@@ -48,7 +48,7 @@ unfolding after_dataset after_name after_guids
 opened rows now name target pool row same found = ap (λ (n : List ℕ). on_dataset n pool (after_dataset now name pool)) (sym same) ∙ found.2 (after_dataset now name pool)
 
 -- and once the snapshot is new, and a guid is left for it
-numbered : (c : In_ok-check_guids) (now : ℕ) (pool : Pool) (are : AreNamed c.args.kept.now.dir pool) → pool.guids ≡ c.args.kept.now.body.guids
+numbered : (c : In_ok-check_guids) (now : ℕ) (pool : Pool) (are : AreNamed c.args.kept.now.dir pool) → pool.guids ≡ c.args.kept.now.body.uber.guids
     → with_snapshot now c.args.name.now pool ≡ after_guids now c.args.name.now pool (c.in_ok-dataset.ensures.finds.judged pool are).0
 unfolding after_dataset after_name
 numbered c now pool are guids =

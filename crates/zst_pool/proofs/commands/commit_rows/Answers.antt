@@ -22,7 +22,7 @@ returns-clause-runs g c = λ definition makes.
     let commit = c.commit_dir.ensures in
     let made = c.commit_dir.result in
     runs_sound definition (cells_only 0) NoDamage kept c.of_committed.result (λ sector stated found is. committed_sound made sector stated found (sym c.of_committed.ensures ∙ is))
-    (runs_committed definition (cells_only 0) kept io io (io_of c.commit_dir.new.io) c.args.dir made c.of_committed.ensures c.requires.begins.ready (idle_wrote kept (cells_only 0) io None refl c.requires.begins.space)
+    (runs_committed definition (cells_only 0) kept io io (io_of c.commit_dir.new.io) c.args.dir made c.of_committed.ensures (idle_wrote kept (cells_only 0) io None refl c.requires.begins.space)
     (λ tight running told rested.
     let way = begun old kept running rested space c.requires.begins.space in
     did_rows old io (io_of c.commit_dir.new.io) kept running (definition running) c.args.guids c.args.dir made way (makes tight old.seen space running (way_runs old old space kept running way)) c.datasets-lawful.ensures.lawful c.requires.number

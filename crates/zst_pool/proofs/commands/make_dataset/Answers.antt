@@ -1,4 +1,4 @@
-use Rattle.std.proofs.Common.{rules, refl, sym, ap, ◌∙◌, subst, length, arith, inl, inr, ◌≡◌, ◌+◌, false}
+use Rattle.std.proofs.Common.{rules, refl, sym, ap, ◌∙◌, subst, length, arith, inl, inr, ◌≡◌, ◌+◌, false, ◌≤◌}
 use Rattle.zst_block.specs.Blocks.{Has}
 use Rattle.zst_model.specs.pools.Pool.{is_before, inserted, Pool}
 use Rattle.zst_model.specs.pools.Step.{new_dataset, with_dataset}
@@ -20,6 +20,8 @@ use Rattle.zst_pool.proofs.CommandRuns.{runs_planned, runs_starved}
 use Rattle.zst_pool.proofs.PlanLemmas.{made_apart, plans_apart, plans_refused}
 use Rattle.zst_pool.proofs.commands.make_dataset.Given.{Over}
 use Rattle.zst_pool.proofs.commands.make_dataset.Goals.{In_ok-check_number}
+use Rattle.zst_uber.specs.declared.uber.Uber.{Uber}
+use Rattle.zst_model.specs.pools.Limits.{last_guid}
 use Rattle.zst_pool.proofs.commands.make_dataset.Goals as goal
 
 -- what the definition makes once both checks passed
@@ -50,8 +52,8 @@ returns g c = record {
           made = made g (goal.at.returns g c).In_ok-check_number running (runs_named has kept running runs);
           id = refl;
           number = refl;
-          guid_counter = runs.guids;
-          few = few_guids has kept running runs;
+          guid_counter = runs.guids ∙ ap (λ (u : Uber). u.guids) (sym c.uber.ensures);
+          few = subst (λ (u : Uber). u.guids ≤ last_guid) (sym c.uber.ensures) (few_guids has kept running runs);
           runs_by = subst (λ (r : Rows). RunsBy (bound_of tight (running.number + 1)) has r next) (sym dir)
               (dataset_runs has kept.dir running (new_row kind name) (new_dataset kind name) (RunsBy-later tight running.number (running.number + 1) (omega arith) has kept.dir running runs.runs_by)
               (new_row_is_new (bound_of tight (running.number + 1)) image space kind name));

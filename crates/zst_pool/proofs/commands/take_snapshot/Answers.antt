@@ -22,6 +22,7 @@ use Rattle.zst_pool.proofs.NextPools.{snapshot_runs}
 use Rattle.zst_pool.proofs.PlanLemmas.{made_apart, plans_apart, plans_refused, told_or_last}
 use Rattle.zst_pool.proofs.PoolsAtRest.{rest_named, runs_named}
 use Rattle.zst_pool.proofs.CommandRuns.{runs_planned, runs_starved}
+use Rattle.zst_uber.specs.declared.uber.Uber.{Uber}
 use Rattle.zst_pool.proofs.commands.take_snapshot.Goals as goal
 
 pub new_snapshot-snapshot-requires-clause-row : goal.new_snapshot-snapshot-requires-clause-row
@@ -67,8 +68,8 @@ returns g c = record {
           made = judged.2;
           id = refl;
           number = refl;
-          guid_counter = ap (λ (n : ℕ). n + 1) runs.guids;
-          few = more_guids kept.body.guids c.in_ok-dataset.ensures.guids;
+          guid_counter = ap (λ (n : ℕ). n + 1) (runs.guids ∙ ap (λ (u : Uber). u.guids) (sym c.uber.ensures));
+          few = subst (λ (u : Uber). u.guids + 1 ≤ last_guid) (sym c.uber.ensures) (more_guids kept.body.uber.guids c.in_ok-dataset.ensures.guids);
           runs_by = RunsBy-later tight running.number (running.number + 1) (omega arith) has _ next
               (subst (λ (r : Rows). RunsBy (bound_of tight running.number) has r next) (sym dir) (snapshot_runs has kept running now name c.in_ok-dataset.dataset.now judged.0 runs stands));
         });

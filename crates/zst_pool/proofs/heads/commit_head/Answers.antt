@@ -29,6 +29,8 @@ use Rattle.zst_pool.proofs.CommitAnswers.{answers_rows, committed_sound, rows_le
 use Rattle.zst_pool.proofs.HeadAnswers.{memory_stops, well_is}
 use Rattle.zst_pool.proofs.CommandRuns.{Wrote, runs_committed, runs_fell, wrote_head}
 use Rattle.zst_pool.proofs.PlanLemmas.{no_plan-commit}
+use Rattle.zst_uber.specs.declared.uber.Uber.{Uber}
+use Rattle.zst_model.specs.pools.Limits.{last_guid}
 use Rattle.zst_pool.proofs.heads.commit_head.Goals as goal
 
 pub set_head-requires : goal.set_head-requires
@@ -70,7 +72,7 @@ returns-clause-ran g c = λ start failed checksum_errors reference make cost cha
     let grows : length (dir_bytes c.set_head.new.self) ≤ length (dir_bytes kept.dir) + 1024 = omega (arith, long) in
     let dir = c.set_head.ensures.headed ∙ ap (λ (d : Rows). record d { datasets = with_head name set d.datasets }) c.in_ok-dir.ensures in
     let rest = rested from failed checksum_errors reference kept in
-    let makes : (tight : Bool) (running : Pool) → last.honest → IsAtRest tight from kept running → MakesRows tight (Has old.seen space) (on_head name running (make running)) running kept.body.guids c.set_head.new.self = λ tight running told rests.
+    let makes : (tight : Bool) (running : Pool) → last.honest → IsAtRest tight from kept running → MakesRows tight (Has old.seen space) (on_head name running (make running)) running c.uber.result.now.guids c.set_head.new.self = λ tight running told rests.
     let made = changed.made {tight = tight} running (commit.disk.honest told) rests in
     let head = c.in_ok-judge.ensures.judged (bound_of tight (running.number + 1)) old.seen space set name running (make running made.0) rests.rests.reads.described.number made.1 in
     let is = made.2 ∙ ap (λ (r : Result DatedState Refusal). r >>= λ after. committed (with_head_of name after running)) head.1 ∙ head.3 in
@@ -81,17 +83,17 @@ returns-clause-ran g c = λ start failed checksum_errors reference make cost cha
       made = is;
       id = refl;
       number = refl;
-      guid_counter = runs.guids;
-      few = few_guids (Has old.seen space) kept running runs;
+      guid_counter = runs.guids ∙ ap (λ (u : Uber). u.guids) (sym c.uber.ensures);
+      few = subst (λ (u : Uber). u.guids ≤ last_guid) (sym c.uber.ensures) (few_guids (Has old.seen space) kept running runs);
       runs_by = subst (λ (r : Rows). RunsBy (bound_of tight (running.number + 1)) (Has old.seen space) r (with_head_of name head.0 running)) (sym dir) (head_runs (Has old.seen space) kept.dir running name set head.0 (RunsBy-later tight running.number (running.number + 1) (omega arith) (Has old.seen space) kept.dir running runs.runs_by) head.2);
     } in
-    runs_committed (λ pool. on_head name pool (make pool)) cost kept rest (io_of c.args.io.now) (io_of c.commit_dir.new.io) c.set_head.new.self c.commit_dir.result c.of_committed.ensures c.requires.ready
+    runs_committed (λ pool. on_head name pool (make pool)) cost kept rest (io_of c.args.io.now) (io_of c.commit_dir.new.io) c.set_head.new.self c.commit_dir.result c.of_committed.ensures
     (subst (Wrote kept cost rest (io_of c.args.io.now)) c.in_ok-judge.ensures.went_well (wrote_head kept cost rest (io_of c.args.io.now) (stop_of c.args.changed) changed.works changed.exact))
     (λ tight running told rests.
     let way : IsUnderWay tight from old space kept running = record { rested = rests; fills = fills } in
-    did_rows from (io_of c.args.io.now) (io_of c.commit_dir.new.io) kept running (on_head name running (make running)) kept.body.guids c.set_head.new.self c.commit_dir.result way (makes tight running told rests) c.datasets-lawful.ensures.lawful c.in_ok-judge.ensures.below
+    did_rows from (io_of c.args.io.now) (io_of c.commit_dir.new.io) kept running (on_head name running (make running)) c.uber.result.now.guids c.set_head.new.self c.commit_dir.result way (makes tight running told rests) c.datasets-lawful.ensures.lawful c.in_ok-judge.ensures.below
     (λ next told_next. commit.commits tight start rests.rows (kept_of running) next told rests.rests fills told_next) commit.made commit.refused)
-    grows (λ running told rests. names_next (Has old.seen space) (on_head name running (make running)) running kept.body.guids c.set_head.new.self (makes false running told rests))
+    grows (λ running told rests. names_next (Has old.seen space) (on_head name running (make running)) running c.uber.result.now.guids c.set_head.new.self (makes false running told rests))
     commit.made commit.takes commit.refused commit.disk commit.cause
 
 pub returns-in_err-judge-clause-refuses : goal.returns-in_err-judge-clause-refuses

@@ -3,7 +3,7 @@ use Rattle.zst_block.specs.IoStates.{io_of}
 use Rattle.zst_model.specs.pools.Pool.{Pool}
 use Rattle.zst_pool.specs.Checks.{freed}
 use Rattle.zst_pool.specs.Cost.{cells_only}
-use Rattle.zst_image.specs.Reads.{free_by}
+use Rattle.zst_image.specs.Bodies.{free_by}
 use Rattle.zst_pool.specs.declared.fault.PoolFault.TheVariants.{Plan}
 use Rattle.zst_model.specs.pools.Step.{on_head}
 use Rattle.zst_model.proofs.Results.{err_is}

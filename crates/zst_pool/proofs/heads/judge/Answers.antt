@@ -42,5 +42,5 @@ returns-in_err-check_number-clause-refuses c = record {
       let fell = c.in_err-check_number.field-0.0 in
       let answered = err_is c.from_residual.result (Plan fell) c.from_residual.ensures.1 in
       let same : fell ≡ fault = cc (answered, is) in
-      inr (subst (λ (f : PlanFault). IsLast c.args.number f) same c.in_err-check_number.ensures.last);
+      inr (subst (λ (f : PlanFault). IsLast c.args.body.now.uber.number f) same c.in_err-check_number.ensures.last);
 }

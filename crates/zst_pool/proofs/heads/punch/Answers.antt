@@ -4,7 +4,7 @@ use Rattle.zst_model.specs.pools.Pool.{Pool}
 use Rattle.zst_model.specs.pools.Step.{punched, on_head}
 use Rattle.zst_model.proofs.Results.{err_is}
 use Rattle.zst_pool.specs.Cost.{cells_only}
-use Rattle.zst_image.specs.Reads.{free_by}
+use Rattle.zst_image.specs.Bodies.{free_by}
 use Rattle.zst_pool.specs.declared.fault.PoolFault.TheVariants.{Plan}
 use Rattle.zst_pool.specs.Damage.{OfHead, range_damage}
 use Rattle.zst_pool.proofs.CommandRuns.{changed_head, runs_head, runs_planned}

@@ -27,21 +27,21 @@ marks_found marked name pool taken found named =
 pub returns-in_err-row-clause-plans : goal.returns-in_err-row-clause-plans
 returns-in_err-row-clause-plans c = record {
   number = search rules;
-  refused = err_has (Refused c.args.kept.now.body.number) c.from_residual.result c.in_err-row.field-0.0 c.from_residual.ensures.1 (inl c.in_err-row.ensures.finds.rows);
+  refused = err_has (Refused c.args.kept.now.body.uber.number) c.from_residual.result c.in_err-row.field-0.0 c.from_residual.ensures.1 (inl c.in_err-row.ensures.finds.rows);
   judged = search rules;
 }
 
 pub returns-in_err-check_dataset-clause-plans : goal.returns-in_err-check_dataset-clause-plans
 returns-in_err-check_dataset-clause-plans c = record {
   number = search rules;
-  refused = err_has (Refused c.args.kept.now.body.number) c.from_residual-in_err-check_dataset.result c.in_err-check_dataset.field-0.0 c.from_residual-in_err-check_dataset.ensures.1 (inl c.in_err-check_dataset.ensures.rows);
+  refused = err_has (Refused c.args.kept.now.body.uber.number) c.from_residual-in_err-check_dataset.result c.in_err-check_dataset.field-0.0 c.from_residual-in_err-check_dataset.ensures.1 (inl c.in_err-check_dataset.ensures.rows);
   judged = search rules;
 }
 
 pub returns-in_err-check_new_bookmark-clause-plans : goal.returns-in_err-check_new_bookmark-clause-plans
 returns-in_err-check_new_bookmark-clause-plans c = record {
   number = search rules;
-  refused = err_has (Refused c.args.kept.now.body.number) c.from_residual-in_err-check_new_bookmark.result c.in_err-check_new_bookmark.field-0.0 c.from_residual-in_err-check_new_bookmark.ensures.1 (inl c.in_err-check_new_bookmark.ensures.checks.rows);
+  refused = err_has (Refused c.args.kept.now.body.uber.number) c.from_residual-in_err-check_new_bookmark.result c.in_err-check_new_bookmark.field-0.0 c.from_residual-in_err-check_new_bookmark.ensures.1 (inl c.in_err-check_new_bookmark.ensures.checks.rows);
   judged = λ pool are number.
       let name = c.args.name.now in
       let found = c.in_ok-row.ensures.finds.judged pool are in
@@ -54,7 +54,7 @@ returns-in_err-check_new_bookmark-clause-plans c = record {
 pub returns-in_err-check_number-clause-plans : goal.returns-in_err-check_number-clause-plans
 returns-in_err-check_number-clause-plans c = record {
   number = search rules;
-  refused = err_has (Refused c.args.kept.now.body.number) c.from_residual-in_err-check_number.result c.in_err-check_number.field-0.0 c.from_residual-in_err-check_number.ensures.1 (inr c.in_err-check_number.ensures.last);
+  refused = err_has (Refused c.args.kept.now.body.uber.number) c.from_residual-in_err-check_number.result c.in_err-check_number.field-0.0 c.from_residual-in_err-check_number.ensures.1 (inr c.in_err-check_number.ensures.last);
   judged = λ pool are number.
       let name = c.args.name.now in
       let found = c.in_ok-row.ensures.finds.judged pool are in

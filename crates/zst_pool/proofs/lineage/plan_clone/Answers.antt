@@ -41,7 +41,7 @@ returns-clause-plans c = record {
 pub returns-in_err-snapshot-clause-plans : goal.returns-in_err-snapshot-clause-plans
 returns-in_err-snapshot-clause-plans c = record {
   number = search rules;
-  refused = err_has (Refused c.args.kept.now.body.number) c.from_residual.result c.in_err-snapshot.field-0.0 c.from_residual.ensures.1 (inl c.in_err-snapshot.ensures.finds.rows);
+  refused = err_has (Refused c.args.kept.now.body.uber.number) c.from_residual.result c.in_err-snapshot.field-0.0 c.from_residual.ensures.1 (inl c.in_err-snapshot.ensures.finds.rows);
   judged = λ pool are number.
       let origin = c.args.origin.now in
       let name = c.args.name.now in
@@ -53,7 +53,7 @@ returns-in_err-snapshot-clause-plans c = record {
 pub returns-in_err-source-clause-plans : goal.returns-in_err-source-clause-plans
 returns-in_err-source-clause-plans c = record {
   number = search rules;
-  refused = err_has (Refused c.args.kept.now.body.number) c.from_residual-in_err-source.result c.in_err-source.field-0.0 c.from_residual-in_err-source.ensures.1 (inl c.in_err-source.ensures.finds.rows);
+  refused = err_has (Refused c.args.kept.now.body.uber.number) c.from_residual-in_err-source.result c.in_err-source.field-0.0 c.from_residual-in_err-source.ensures.1 (inl c.in_err-source.ensures.finds.rows);
   judged = λ pool are number.
       let origin = c.args.origin.now in
       let name = c.args.name.now in
@@ -69,7 +69,7 @@ returns-in_err-source-clause-plans c = record {
 pub returns-in_err-check_new_dataset-clause-plans : goal.returns-in_err-check_new_dataset-clause-plans
 returns-in_err-check_new_dataset-clause-plans c = record {
   number = search rules;
-  refused = err_has (Refused c.args.kept.now.body.number) c.from_residual-in_err-check_new_dataset.result c.in_err-check_new_dataset.field-0.0 c.from_residual-in_err-check_new_dataset.ensures.1 (inl c.in_err-check_new_dataset.ensures.checks.rows);
+  refused = err_has (Refused c.args.kept.now.body.uber.number) c.from_residual-in_err-check_new_dataset.result c.in_err-check_new_dataset.field-0.0 c.from_residual-in_err-check_new_dataset.ensures.1 (inl c.in_err-check_new_dataset.ensures.checks.rows);
   judged = λ pool are number.
       let origin = c.args.origin.now in
       let name = c.args.name.now in
@@ -84,7 +84,7 @@ returns-in_err-check_new_dataset-clause-plans c = record {
 pub returns-in_err-check_number-clause-plans : goal.returns-in_err-check_number-clause-plans
 returns-in_err-check_number-clause-plans c = record {
   number = search rules;
-  refused = err_has (Refused c.args.kept.now.body.number) c.from_residual-in_err-check_number.result c.in_err-check_number.field-0.0 c.from_residual-in_err-check_number.ensures.1 (inr c.in_err-check_number.ensures.last);
+  refused = err_has (Refused c.args.kept.now.body.uber.number) c.from_residual-in_err-check_number.result c.in_err-check_number.field-0.0 c.from_residual-in_err-check_number.ensures.1 (inr c.in_err-check_number.ensures.last);
   judged = λ pool are number.
       let origin = c.args.origin.now in
       let name = c.args.name.now in

@@ -15,7 +15,7 @@ Refused number fault = (is_by_rows fault ≡ true) ⊎ IsLast number fault
 pub returns-in_err-going-clause-plans : goal.returns-in_err-going-clause-plans
 returns-in_err-going-clause-plans c = record {
   number = search rules;
-  refused = err_has (Refused c.args.kept.now.body.number) c.from_residual.result c.in_err-going.field-0.0 c.from_residual.ensures.1 (inl c.in_err-going.ensures.finds.rows);
+  refused = err_has (Refused c.args.kept.now.body.uber.number) c.from_residual.result c.in_err-going.field-0.0 c.from_residual.ensures.1 (inl c.in_err-going.ensures.finds.rows);
   judged = λ pool are number.
       subst (JudgesDestroyed c.args.name pool) (sym (err_is c.from_residual.result c.in_err-going.field-0.0 c.from_residual.ensures.1)) (c.in_err-going.ensures.finds.judged pool are);
 }
@@ -23,7 +23,7 @@ returns-in_err-going-clause-plans c = record {
 pub returns-in_err-check_unused-clause-plans : goal.returns-in_err-check_unused-clause-plans
 returns-in_err-check_unused-clause-plans c = record {
   number = search rules;
-  refused = err_has (Refused c.args.kept.now.body.number) c.from_residual-in_err-check_unused.result c.in_err-check_unused.field-0.0 c.from_residual-in_err-check_unused.ensures.1 (inl c.in_err-check_unused.ensures.checks.rows);
+  refused = err_has (Refused c.args.kept.now.body.uber.number) c.from_residual-in_err-check_unused.result c.in_err-check_unused.field-0.0 c.from_residual-in_err-check_unused.ensures.1 (inl c.in_err-check_unused.ensures.checks.rows);
   judged = λ pool are number.
       let fell = c.from_residual-in_err-check_unused in
       let found = c.in_ok-going.ensures.finds.judged pool are in
@@ -34,7 +34,7 @@ returns-in_err-check_unused-clause-plans c = record {
 pub returns-in_err-check_number-clause-plans : goal.returns-in_err-check_number-clause-plans
 returns-in_err-check_number-clause-plans c = record {
   number = search rules;
-  refused = err_has (Refused c.args.kept.now.body.number) c.from_residual-in_err-check_number.result c.in_err-check_number.field-0.0 c.from_residual-in_err-check_number.ensures.1 (inr c.in_err-check_number.ensures.last);
+  refused = err_has (Refused c.args.kept.now.body.uber.number) c.from_residual-in_err-check_number.result c.in_err-check_number.field-0.0 c.from_residual-in_err-check_number.ensures.1 (inr c.in_err-check_number.ensures.last);
   judged = λ pool are number.
       let fell = c.from_residual-in_err-check_number in
       let going = c.in_ok-going.going in

@@ -1,4 +1,4 @@
-use Rattle.std.proofs.Common.{rules, [], sym, ◌∙◌, subst, ◌+◌, arith, false}
+use Rattle.std.proofs.Common.{rules, [], sym, ◌∙◌, subst, ◌+◌, arith, false, ap, ◌≤◌}
 use Rattle.zst_block.specs.Blocks.{Has}
 use Rattle.zst_model.specs.pools.Step.{with_destroyed}
 use Rattle.zst_model.proofs.Results.{err_is}
@@ -14,6 +14,8 @@ use Rattle.zst_pool.proofs.LineageRows.{left_runs, same_guids, same_id, same_num
 use Rattle.zst_pool.proofs.PlanLemmas.{made_apart, plans_apart, plans_refused, plans_starved, told_or_last}
 use Rattle.zst_pool.proofs.PoolsAtRest.{few_guids, rest_named, runs_named}
 use Rattle.zst_pool.proofs.CommandRuns.{runs_planned, runs_starved}
+use Rattle.zst_uber.specs.declared.uber.Uber.{Uber}
+use Rattle.zst_model.specs.pools.Limits.{last_guid}
 use Rattle.zst_pool.proofs.lineage_commands.destroy.Goals as goal
 
 pub returns-in_err-going : goal.returns-in_err-going
@@ -47,8 +49,8 @@ returns g c = record {
           made = c.in_ok-going.ensures.plans.judged running named.are_named named.number;
           id = same_id going running;
           number = same_number going running;
-          guid_counter = same_guids going running ∙ runs.guids;
-          few = few_guids has kept running runs;
+          guid_counter = same_guids going running ∙ runs.guids ∙ ap (λ (u : Uber). u.guids) (sym c.uber.ensures);
+          few = subst (λ (u : Uber). u.guids ≤ last_guid) (sym c.uber.ensures) (few_guids has kept running runs);
           runs_by = RunsBy-later tight running.number (running.number + 1) (omega arith) has _ (pool_without going running)
               (subst (λ (r : Rows). RunsBy (bound_of tight running.number) has r (pool_without going running)) (sym c.in_ok-dir.ensures.makes.made) (left_runs has kept.dir running runs.runs_by going));
         });

@@ -1,4 +1,4 @@
-use Rattle.std.proofs.Common.{rules, ◌≡◌, ℕ, List, refl, sym, ap, ◌∙◌, subst, ◌+◌, arith, false}
+use Rattle.std.proofs.Common.{rules, ◌≡◌, ℕ, List, refl, sym, ap, ◌∙◌, subst, ◌+◌, arith, false, ◌≤◌}
 use Rattle.std.specs.List.{All}
 use Rattle.zst_block.specs.Blocks.{Has}
 use Rattle.zst_model.specs.pools.Pool.{is_before, inserted}
@@ -17,6 +17,8 @@ use Rattle.zst_pool.proofs.LineageRows.{bookmark_runs}
 use Rattle.zst_pool.proofs.PlanLemmas.{made_apart, plans_apart, plans_refused, plans_starved, told_or_last}
 use Rattle.zst_pool.proofs.PoolsAtRest.{few_guids, rest_named, runs_named}
 use Rattle.zst_pool.proofs.CommandRuns.{runs_planned, runs_starved}
+use Rattle.zst_uber.specs.declared.uber.Uber.{Uber}
+use Rattle.zst_model.specs.pools.Limits.{last_guid}
 use Rattle.zst_pool.proofs.lineage_commands.make_bookmark.Goals as goal
 
 pub add_bookmark-requires-clause-row : goal.add_bookmark-requires-clause-row
@@ -78,8 +80,8 @@ returns g c = record {
           made = judged.4;
           id = refl;
           number = refl;
-          guid_counter = runs.guids;
-          few = few_guids has kept running runs;
+          guid_counter = runs.guids ∙ ap (λ (u : Uber). u.guids) (sym c.uber.ensures);
+          few = subst (λ (u : Uber). u.guids ≤ last_guid) (sym c.uber.ensures) (few_guids has kept running runs);
           runs_by = RunsBy-later tight running.number (running.number + 1) (omega arith) has _ next
               (subst (λ (r : Rows). RunsBy (bound_of tight running.number) has r next) (sym rows) (bookmark_runs has kept.dir running runs.runs_by name judged.0 judged.1 judged.2));
         });

@@ -1,4 +1,4 @@
-use Rattle.std.proofs.Common.{rules, ℕ, List, IfSome, refl, sym, ap, ◌∙◌, subst, ◌+◌, arith, false}
+use Rattle.std.proofs.Common.{rules, ℕ, List, IfSome, refl, sym, ap, ◌∙◌, subst, ◌+◌, arith, false, ◌≤◌}
 use Rattle.zst_block.specs.Blocks.{Has}
 use Rattle.zst_model.specs.pools.Pool.{is_before, inserted}
 use Rattle.zst_model.specs.pools.Step.{clone_of, with_clone}
@@ -17,6 +17,8 @@ use Rattle.zst_pool.proofs.NextPools.{dataset_runs}
 use Rattle.zst_pool.proofs.PlanLemmas.{made_apart, plans_apart, plans_refused, plans_starved, told_or_last}
 use Rattle.zst_pool.proofs.PoolsAtRest.{few_guids, rest_named, runs_named}
 use Rattle.zst_pool.proofs.CommandRuns.{runs_planned, runs_starved}
+use Rattle.zst_uber.specs.declared.uber.Uber.{Uber}
+use Rattle.zst_model.specs.pools.Limits.{last_guid}
 use Rattle.zst_pool.proofs.lineage_commands.make_clone.Goals as goal
 
 pub add_dataset-requires-clause-row : goal.add_dataset-requires-clause-row
@@ -94,8 +96,8 @@ returns g c = record {
           made = judged.7;
           id = refl;
           number = refl;
-          guid_counter = runs.guids;
-          few = few_guids has kept running runs;
+          guid_counter = runs.guids ∙ ap (λ (u : Uber). u.guids) (sym c.uber.ensures);
+          few = subst (λ (u : Uber). u.guids ≤ last_guid) (sym c.uber.ensures) (few_guids has kept running runs);
           runs_by = RunsBy-later tight running.number (running.number + 1) (omega arith) has _ (with_new clone running)
               (subst (λ (r : Rows). RunsBy (bound_of tight running.number) has r (with_new clone running)) (sym dir)
               (dataset_runs has kept.dir running row clone runs.runs_by (subst (λ (r : Dataset). DatasetIs (bound_of tight running.number) has r clone) (sym judged.6) is)));

@@ -1,4 +1,4 @@
-use Rattle.std.proofs.Common.{rules, [], refl, sym, subst, ◌+◌, arith, false}
+use Rattle.std.proofs.Common.{rules, [], refl, sym, subst, ◌+◌, arith, false, ap, ◌∙◌, ◌≤◌}
 use Rattle.zst_block.specs.Blocks.{Has}
 use Rattle.zst_model.specs.pools.Step.{rolled_back, with_rollback}
 use Rattle.zst_model.proofs.Results.{err_is}
@@ -13,6 +13,8 @@ use Rattle.zst_pool.proofs.PlanLemmas.{made_apart, plans_apart, plans_refused, p
 use Rattle.zst_pool.proofs.PoolsAtRest.{few_guids, rest_named, runs_named}
 use Rattle.zst_pool.proofs.RollbackRows.{rolled_runs}
 use Rattle.zst_pool.proofs.CommandRuns.{runs_planned, runs_starved}
+use Rattle.zst_uber.specs.declared.uber.Uber.{Uber}
+use Rattle.zst_model.specs.pools.Limits.{last_guid}
 use Rattle.zst_pool.proofs.lineage_commands.roll_back.Goals as goal
 
 pub returns-in_err-snapshot : goal.returns-in_err-snapshot
@@ -48,8 +50,8 @@ returns g c = record {
           made = judged.2;
           id = refl;
           number = refl;
-          guid_counter = runs.guids;
-          few = few_guids has kept running runs;
+          guid_counter = runs.guids ∙ ap (λ (u : Uber). u.guids) (sym c.uber.ensures);
+          few = subst (λ (u : Uber). u.guids ≤ last_guid) (sym c.uber.ensures) (few_guids has kept running runs);
           runs_by = RunsBy-later tight running.number (running.number + 1) (omega arith) has _ next
               (subst (λ (r : Rows). RunsBy (bound_of tight running.number) has r next) (sym c.in_ok-dir.ensures.makes.made) (rolled_runs has kept.dir running runs.runs_by row judged.0 judged.1));
         });

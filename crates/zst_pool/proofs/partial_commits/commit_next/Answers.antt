@@ -1,14 +1,14 @@
-use Rattle.std.proofs.Common.{refl, ◌≡◌, length, sym, ◌∙◌, subst}
+use Rattle.std.proofs.Common.{refl, ◌≡◌, ◌≤◌, sym, ap, ◌∙◌, subst}
 use Rattle.std.specs.Prelude.{OnErr, Result}
 use Rattle.std.proofs.lemmas.Result.{IfOk-weaker}
 use Rattle.zst_block.specs.Blocks.{Has, KeepsBlocks, SparesTaken}
 use Rattle.zst_block.proofs.BlocksLaws.{SparesTaken-same}
+use Rattle.zst_block.proofs.TakenSectors.{takes_none}
 use Rattle.zst_block.specs.IoStates.{io_of}
 use Rattle.zst_model.specs.pools.KeptPool.{kept_of}
 use Rattle.zst_model.proofs.Results.{err_is}
 use Rattle.zst_dir.specs.Rows.{IsLawful}
-use Rattle.zst_dir.specs.Spelling.{dir_bytes}
-use Rattle.zst_image.specs.Reads.{dir_sectors, free_by}
+use Rattle.zst_image.specs.Bodies.{free_by}
 use Rattle.zst_image.specs.declared.pool_state.PoolState.{PoolState}
 use Rattle.zst_pool.specs.Calls.{CallDid}
 use Rattle.zst_pool.specs.Checks.{next_of}
@@ -19,7 +19,8 @@ use Rattle.zst_pool.proofs.CallLemmas.{call_did, call_fell, number_after}
 use Rattle.zst_pool.proofs.CommitAnswers.{answers_ends, answers_follows, answers_full, answers_known, answers_ok, answers_spares, ends_idle}
 use Rattle.zst_pool.proofs.NamedPools.{rows_named}
 use Rattle.zst_pool.proofs.PoolsAtRest.{few_guids, kept_is_next, next_lawful, rests_next, rests_unless, way_runs}
-use Rattle.zst_block.proofs.TakenSectors.{takes_none}
+use Rattle.zst_uber.specs.declared.uber.Uber.{Uber}
+use Rattle.zst_model.specs.pools.Limits.{last_guid}
 use Rattle.zst_pool.proofs.partial_commits.commit_next.Goals as goal
 
 pub returns-in_err-check_limits-clause-did : goal.returns-in_err-check_limits-clause-did
@@ -28,7 +29,7 @@ returns-in_err-check_limits-clause-did g c = λ tight start running next told wa
     let kept = c.args.kept.now in
     let space = c.args.io.now.space in
     let fault = Plan c.in_err-check_limits.field-0.0 in
-    let number : next.number ≡ kept.body.number = anew.number ∙ way.rested.rests.reads.described.number in
+    let number : next.number ≡ kept.body.uber.number = anew.number ∙ way.rested.rests.reads.described.number in
     subst (λ (r : Result PoolState PoolFault). CallDid tight (g.D.Disk.state start) old kept running (next_commit next) r) (sym (err_is c.from_residual.result fault c.from_residual.ensures.1))
     (call_fell (g.D.Disk.state start) old space kept running (next_commit next) fault way (c.in_err-check_limits.ensures.judged next (rows_named (Has old.seen space) c.args.dir next runs) number, tt))
 
@@ -52,13 +53,14 @@ returns-clause-did g c = λ tight start running next told way anew runs.
     let commit = c.commit_dir.ensures in
     let made = c.commit_dir.result in
     let was = way_runs from old space kept running way in
-    let number : next.number ≡ kept.body.number = anew.number ∙ was.number in
+    let number : next.number ≡ kept.body.uber.number = anew.number ∙ was.number in
     let judged = c.in_ok-check_limits.ensures.judged next (rows_named has c.args.dir next runs) number in
     let lawful : IsLawful c.args.dir = subst IsLawful c.dir.view_is c.dir.invariant in
-    let few = few_guids has kept running was in
+    let counter = anew.guids ∙ was.guids ∙ ap (λ (u : Uber). u.guids) (sym c.uber.ensures) in
+    let few = subst (λ (u : Uber). u.guids ≤ last_guid) (sym c.uber.ensures) (few_guids has kept running was) in
     let below = c.in_ok-check_limits.ensures.below in
-    let is = kept_is_next has kept running next kept.body.guids c.args.dir lawful was anew.id anew.number (anew.guids ∙ was.guids) few below runs in
-    let after = next_lawful has kept running next kept.body.guids c.args.dir lawful was anew.id anew.number (anew.guids ∙ was.guids) few below runs in
+    let is = kept_is_next has kept running next c.uber.result.now.guids c.args.dir lawful was anew.id anew.number counter few below runs in
+    let after = next_lawful has kept running next c.uber.result.now.guids c.args.dir lawful was anew.id anew.number counter few below runs in
     let commits = commit.commits tight start way.rested.rows (kept_of running) (kept_of (next_of next).pool) told way.rested.rests way.fills is in
     subst (λ (r : Result PoolState PoolFault). CallDid tight from new kept running (next_commit next) r) (sym c.of_committed.ensures)
     (call_did from new kept way.rested.rows running (next_of next).pool (next_commit next) judged made (λ need largest full. (commit.takes.full need largest full).shorter) commits
@@ -80,7 +82,7 @@ returns-clause-blocks g c =
 
 pub returns-clause-next : goal.returns-clause-next
 returns-clause-next g c =
-    answers_follows c.commit_dir.result c.of_committed.result c.of_committed.ensures c.args.kept.now c.args.dir (io_of c.args.io.now) (io_of c.commit_dir.new.io) c.in_ok-check_limits.ensures.below c.commit_dir.ensures.made
+    answers_follows c.commit_dir.result c.of_committed.result c.of_committed.ensures c.args.kept.now c.args.dir (io_of c.args.io.now) (io_of c.commit_dir.new.io) c.in_ok-check_limits.ensures.below c.requires.works.sectors c.commit_dir.ensures.takes.takes c.commit_dir.ensures.made
 
 pub returns-clause-spares : goal.returns-clause-spares
 returns-clause-spares g c = answers_spares c.commit_dir.result c.of_committed.result c.of_committed.ensures c.args.kept.now.body (io_of c.args.io.now) (io_of c.commit_dir.new.io) c.commit_dir.ensures.refused

@@ -3,7 +3,7 @@ use Rattle.zst_block.specs.IoStates.{io_of}
 use Rattle.zst_model.specs.declared.pools.command.Command.{Command}
 use Rattle.zst_model.specs.declared.pools.command.Command.TheVariants.{Redact, Write}
 use Rattle.zst_model.specs.pools.Step.{IsCommand, IsRedact, stepped}
-use Rattle.zst_image.specs.Reads.{free_by}
+use Rattle.zst_image.specs.Bodies.{free_by}
 use Rattle.zst_pool.specs.Cost.{cost_of}
 use Rattle.zst_pool.specs.Damage.{TellsDamage}
 use Rattle.zst_pool.specs.CommandRuns.{RunsByPlan}

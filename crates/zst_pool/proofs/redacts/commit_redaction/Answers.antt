@@ -26,6 +26,7 @@ use Rattle.zst_pool.proofs.PlanLemmas.{no_plan-commit}
 use Rattle.zst_pool.proofs.PoolsAtRest.{ready_after, rest_named, rest_plain, way_runs}
 use Rattle.zst_pool.proofs.QuerySteps.{ready_read}
 use Rattle.zst_pool.proofs.RedactionRuns.{list_made, list_refused, list_wrote, looks_wrote, own_stops, redaction_makes, sectors_are, short_left}
+use Rattle.zst_uber.specs.declared.uber.Uber.{Uber}
 use Rattle.zst_pool.proofs.redacts.commit_redaction.Goals as goal
 
 -- the list isn't built
@@ -173,7 +174,6 @@ returns-clause-runs g c = λ of words same plans.
     let definition = with_redaction of name words in
     let has = Has new.disk.seen new.space in
     let Is = IsDamagedAmong (IsSeen old.disk.seen) old.disk.size (sets_of (c.args.row.now ∷ c.args.rows.now)) in
-    let ready = ready_after mid.disk new.disk mid.space new.space kept.body (read.looks.space ∙ free) wrote.works.fills (ready_read old.disk mid.disk kept read.looks.reads c.requires.begins.ready) in
     let built = λ (running : Pool) (told : new.disk.honest) (rests : IsAtRest false old.disk kept running) (redacts : Redacts kept.dir of name words running c.args.row.now).
     list_made of name words kept c.args.row.now c.args.rows.now same running redacts old (Ok list) free (λ taken redactions own rest. read.list taken redactions (wrote.works.fills.honest told) own rest) rests in
     let written : Wrote kept (redact_cost of words) old new None =
@@ -182,20 +182,21 @@ returns-clause-runs g c = λ of words same plans.
     let redacts = plans running (rest_named old.disk kept running rests).are_named in
     sectors_are of name words kept c.args.row.now c.args.rows.now same running redacts list (built running told rests redacts).0) in
     let fills = (let one = written.0 in one.2.fills) in
-    let makes : (tight : Bool) (running : Pool) → last.disk.honest → IsAtRest tight old.disk kept running → MakesRows tight has (definition running) running kept.body.guids dir = λ tight running told rests.
+    let makes : (tight : Bool) (running : Pool) → last.disk.honest → IsAtRest tight old.disk kept running → MakesRows tight has (definition running) running c.uber.result.now.guids dir = λ tight running told rests.
     let redacts = plans running (rest_named old.disk kept running rests).are_named in
     let way : IsUnderWay tight old.disk new.disk new.space kept running = record { rested = rests; fills = fills } in
-    redaction_makes of name words kept c.args.row.now c.args.rows.now same running redacts has (way_runs old.disk new.disk new.space kept running way) list tree dir c.requires.some
+    subst (λ (u : Uber). MakesRows tight has (definition running) running u.guids dir) (sym c.uber.ensures)
+    (redaction_makes of name words kept c.args.row.now c.args.rows.now same running redacts has (way_runs old.disk new.disk new.space kept running way) list tree dir c.requires.some
     (built running (commit.disk.honest told) (rest_plain old.disk kept running rests) redacts)
-    (wrote.judged (with_marked (redaction_of name redacts.taken redacts.redactions) running) rests.rests.reads.described.number) wrote.there c.in_ok-dir.ensures.makes.made in
+    (wrote.judged (with_marked (redaction_of name redacts.taken redacts.redactions) running) rests.rests.reads.described.number) wrote.there c.in_ok-dir.ensures.makes.made) in
     runs_sound definition (redact_cost of words) Is kept c.of_committed.result (λ sector stated found is. committed_sound made sector stated found (sym c.of_committed.ensures ∙ is))
-    (runs_committed definition (redact_cost of words) kept old new last dir made c.of_committed.ensures ready written
+    (runs_committed definition (redact_cost of words) kept old new last dir made c.of_committed.ensures written
     (λ tight running told rests.
     let way : IsUnderWay tight old.disk new.disk new.space kept running = record { rested = rests; fills = fills } in
-    did_rows old.disk new last kept running (definition running) kept.body.guids dir made way (makes tight running told rests) c.in_ok-dir.ensures.lawful wrote.below
+    did_rows old.disk new last kept running (definition running) c.uber.result.now.guids dir made way (makes tight running told rests) c.in_ok-dir.ensures.lawful wrote.below
     (λ next is. commit.commits tight c.args.io.now.disk.now rests.rows (kept_of running) next told rests.rests fills is) commit.made commit.refused)
     c.in_ok-dir.ensures.makes.grows
-    (λ running told rests. names_next has (definition running) running kept.body.guids dir (makes false running told rests))
+    (λ running told rests. names_next has (definition running) running c.uber.result.now.guids dir (makes false running told rests))
     commit.made commit.takes commit.refused commit.disk commit.cause)
 
 pub returns-clause-limits : goal.returns-clause-limits

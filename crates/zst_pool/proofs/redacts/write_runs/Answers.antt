@@ -31,7 +31,7 @@ pub returns-in_err-check_number-clause-limits : goal.returns-in_err-check_number
 returns-in_err-check_number-clause-limits g c = λ fault is.
     let same = err_is c.from_residual.result (Plan c.in_err-check_number.field-0.0) c.from_residual.ensures.1 in
     let told : c.in_err-check_number.field-0.0 ≡ fault = cc (same, is) in
-    subst (λ (f : PlanFault). IsLast c.args.kept.now.body.number f) told c.in_err-check_number.ensures.last
+    subst (λ (f : PlanFault). IsLast c.args.kept.now.body.uber.number f) told c.in_err-check_number.ensures.last
 
 pub returns-in_err-check_number-clause-open_still : goal.returns-in_err-check_number-clause-open_still
 returns-in_err-check_number-clause-open_still g c = λ is. let same = err_is c.from_residual.result (Plan c.in_err-check_number.field-0.0) c.from_residual.ensures.1 in cc (same, is)

@@ -17,7 +17,7 @@ Refused number fault = (is_by_rows fault ≡ true) ⊎ IsLast number fault
 pub returns-in_err-check_rollback-clause-plans : goal.returns-in_err-check_rollback-clause-plans
 returns-in_err-check_rollback-clause-plans c = record {
   number = search rules;
-  refused = err_has (Refused c.args.kept.now.body.number) c.from_residual-in_err-check_rollback.result c.in_err-check_rollback.field-0.0 c.from_residual-in_err-check_rollback.ensures.1 (inl c.in_err-check_rollback.ensures.checks.rows);
+  refused = err_has (Refused c.args.kept.now.body.uber.number) c.from_residual-in_err-check_rollback.result c.in_err-check_rollback.field-0.0 c.from_residual-in_err-check_rollback.ensures.1 (inl c.in_err-check_rollback.ensures.checks.rows);
   judged = λ pool are number.
       let rows = c.args.kept.now.dir in
       let name = c.args.name.now in
@@ -33,7 +33,7 @@ returns-in_err-check_rollback-clause-plans c = record {
 pub returns-in_err-check_number-clause-plans : goal.returns-in_err-check_number-clause-plans
 returns-in_err-check_number-clause-plans c = record {
   number = search rules;
-  refused = err_has (Refused c.args.kept.now.body.number) c.from_residual-in_err-check_number.result c.in_err-check_number.field-0.0 c.from_residual-in_err-check_number.ensures.1 (inr c.in_err-check_number.ensures.last);
+  refused = err_has (Refused c.args.kept.now.body.uber.number) c.from_residual-in_err-check_number.result c.in_err-check_number.field-0.0 c.from_residual-in_err-check_number.ensures.1 (inr c.in_err-check_number.ensures.last);
   judged = λ pool are number.
       let rows = c.args.kept.now.dir in
       let name = c.args.name.now in
@@ -67,6 +67,6 @@ returns-clause-plans c = record {
 pub returns-in_err-snapshot-clause-plans : goal.returns-in_err-snapshot-clause-plans
 returns-in_err-snapshot-clause-plans c = record {
   number = search rules;
-  refused = err_has (Refused c.args.kept.now.body.number) c.from_residual.result c.in_err-snapshot.field-0.0 c.from_residual.ensures.1 (inl c.in_err-snapshot.ensures.finds.rows);
+  refused = err_has (Refused c.args.kept.now.body.uber.number) c.from_residual.result c.in_err-snapshot.field-0.0 c.from_residual.ensures.1 (inl c.in_err-snapshot.ensures.finds.rows);
   judged = search rules;
 }

@@ -2,7 +2,8 @@ use Rattle.std.proofs.Common.{sym, subst}
 use Rattle.zst_block.specs.Blocks.{Has}
 use Rattle.zst_model.specs.pools.Pool.{Pool}
 use Rattle.zst_dir.specs.Rows.{Rows}
-use Rattle.zst_image.specs.Reads.{Rests, RunsBy, bound_of, free_by}
+use Rattle.zst_image.specs.Bodies.{free_by}
+use Rattle.zst_image.specs.Reads.{Rests, RunsBy, bound_of}
 use Rattle.zst_pool.specs.Partials.{without_unkept}
 use Rattle.zst_pool.proofs.LawfulPools.{rows_make_pools}
 use Rattle.zst_pool.proofs.PartialRows.{kept_stays, unkept_dropped}

@@ -1,9 +1,10 @@
-use Rattle.std.proofs.Common.{sym, ap, subst}
+use Rattle.std.proofs.Common.{sym, subst}
 use Rattle.zst_block.specs.Blocks.{Has}
 use Rattle.zst_model.specs.pools.KeptPool.{kept_of}
 use Rattle.zst_model.specs.pools.Pool.{Pool}
 use Rattle.zst_dir.specs.Rows.{Rows}
-use Rattle.zst_image.specs.Reads.{Rests, RunsBy, bound_of, free_by}
+use Rattle.zst_image.specs.Bodies.{free_by}
+use Rattle.zst_image.specs.Reads.{Rests, RunsBy, bound_of}
 use Rattle.zst_pool.proofs.LawfulPools.{rows_make_pools}
 use Rattle.zst_pool.proofs.PoolsAtRest.{kept_again, kept_are}
 use Rattle.zst_pool.proofs.pool.Pool.drop_unkept.Goals as goal

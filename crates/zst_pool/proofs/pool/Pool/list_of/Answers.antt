@@ -1,6 +1,7 @@
 use Rattle.std.specs.Prelude.{Err, IfErr, IfOk, IfSome, Option}
 use Rattle.std.proofs.Common.{refl, sym, ap, ◌∙◌, subst}
 use Rattle.zst_block.specs.Blocks.{Has}
+use Rattle.zst_leaves.specs.Leaves.{BlocksBefore}
 use Rattle.zst_model.specs.declared.refusals.plan_fault.PlanFault.{PlanFault}
 use Rattle.zst_model.specs.pools.Pool.{bookmark_named}
 use Rattle.zst_dir.specs.declared.rows.Bookmark.{Bookmark}
@@ -48,11 +49,11 @@ returns-in-None-clause-rows g c = λ works.
     subst (λ (o : Option Bookmark). AnswersNamed c.args.book.now o (Err (Plan c.no_such.result))) (sym is) (ap (λ (fault : PlanFault). Err (Plan fault)) c.no_such.ensures)
 
 pub returns-in-Some-clause-stands : goal.returns-in-Some-clause-stands
-returns-in-Some-clause-stands g c = λ told free.
+returns-in-Some-clause-stands g c = λ told.
     let io = c.args.self.now.io in
-    let has = Has (g.D.Disk.state io.disk.now).seen io.space in
+    let has = BlocksBefore io.space.end (g.D.Disk.state io.disk.now).seen in
     let is = sym (option_map-same (row_named c.args.book.now c.args.self.now.kept.dir)) ∙ sym c.row_of.ensures ∙ c.in-Some.is in
-    subst (λ (o : Option Bookmark). IfOk c.read_row.result (λ list. IfSome o (λ row. StandsBelow has row list))) (sym is) (c.read_row.ensures.stands told free)
+    subst (λ (o : Option Bookmark). IfOk c.read_row.result (λ list. IfSome o (λ row. StandsBelow has row list))) (sym is) (c.read_row.ensures.stands told)
 
 pub returns-then-self-clause-looks_up : goal.returns-then-self-clause-looks_up
 returns-then-self-clause-looks_up g c = looks_idle c.args.self.now (Err Failed) (λ is. refl) refl

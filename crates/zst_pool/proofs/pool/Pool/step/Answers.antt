@@ -1,16 +1,17 @@
-use Rattle.std.specs.Prelude.{◌||◌, Bool, true, Result, Ok, Err, IfErr, IfOk, OnOk}
+use Rattle.std.specs.Prelude.{Result, Ok, Err, IfErr, IfOk, OnOk}
 use Rattle.std.proofs.Common.{◌≡◌, ℕ, ◌+◌, List, [], ◌∷◌, refl, sym, ap, ◌∙◌, subst, arith}
 use Rattle.zst_model.specs.pools.AnswerLines.{ok_line}
 use Rattle.zst_model.specs.pools.Step.{stepped}
 use Rattle.zst_model.proofs.Results.{err_is}
 use Rattle.zst_image.specs.declared.pool_state.PoolState.{PoolState}
 use Rattle.zst_block.specs.Blocks.{FitsDisk, Has}
+use Rattle.zst_block.specs.IoStates.{disk_of}
 use Rattle.zst_outside.specs.Images.{OnlyReads-none}
 use Rattle.zst_space.specs.FreeSectors.{FreeSectors}
-use Rattle.zst_image.specs.Reads.{RunsBy, bound_of, free_by}
+use Rattle.zst_image.specs.Bodies.{free_by}
+use Rattle.zst_image.specs.Reads.{RunsBy, bound_of}
 use Rattle.zst_pool.specs.Cost.{FindsLess, cost_of}
 use Rattle.zst_pool.specs.Damage.{IsOf, TellsDamage}
-use Rattle.zst_pool.specs.Faults.{is_disk_fault, is_full, tells_full}
 use Rattle.zst_pool.specs.PartialRows.{rows_after}
 use Rattle.zst_pool.specs.Plans.{Plans, indices_end, makes_list, numbers_end}
 use Rattle.zst_pool.specs.Queries.{stop_of}
@@ -19,36 +20,26 @@ use Rattle.zst_pool.specs.declared.fault.PoolFault.{PoolFault}
 use Rattle.zst_pool.specs.declared.fault.PoolFault.TheVariants.{Failed, OutOfMemory}
 use Rattle.zst_image.proofs.PlainReads.{RunsBy-plain}
 use Rattle.zst_pool.proofs.QuerySteps.{finds_none, on_err, on_ok, rests_read, since_read, spares_read, spends_none, told_rests}
-use Rattle.zst_pool.proofs.CommandParts.{or_false}
 use Rattle.zst_pool.proofs.PartialRows.{rows_stay}
-use Rattle.zst_pool.proofs.EventEnds.{settles_committed, settles_err, settles_failed, runs_settled, settles_ok, settles_told, step_failed}
+use Rattle.zst_pool.proofs.EventEnds.{settles_committed, settles_err, settles_failed, runs_settled, settles_ok, settles_starved, settles_told, step_failed, step_starved}
+use Rattle.zst_pool.proofs.PoolsAtRest.{free_by_fits}
 use Rattle.zst_pool.proofs.PlanLemmas.{plans_err, plans_ok}
 use Rattle.zst_pool.proofs.Replies.{step_reply}
-use Rattle.zst_pool.proofs.StepCosts.{blocks_err, blocks_spared, spends_apart, spends_err, spends_ok, spares_err}
-use Rattle.zst_pool.proofs.PoolsAtRest.{commit_next_of, free_by_fits}
+use Rattle.zst_pool.proofs.StepCosts.{blocks_err, blocks_spared, spends_err, spends_ok, spares_err}
+use Rattle.zst_uber.specs.declared.uber.Uber.{Uber}
 use Rattle.zst_pool.proofs.pool.Pool.step.Goals as goal
-
-pub settle_command-requires : goal.settle_command-requires
-settle_command-requires g c = record {
-  can = record {
-    fits =
-        let ready = c.requires.ready c.if-self.false in
-        let body = c.args.self.now.kept.body in
-        subst (λ (size : ℕ). FitsDisk size (free_by body)) (sym c.run-ran.ensures.does.runs.ran.commits.disk.size) (free_by_fits (g.D.Disk.state c.args.self.now.io.disk.now).size body ready.in_range);
-    ready = c.run-ran.ensures.does.runs.ran.commits.ready;
-  };
-}
 
 pub returns : goal.returns
 returns g c =
     let pool = c.args.self.now in
-    let settled = c.settle_command in
-    let keeps = c.in_ok-settle_command.ensures.keeps.keeps in
-    let runs = runs_settled c.run-ran.new.io settled.new.self.io c.run-ran.result (Ok settled.new.self.kept) settled.ensures.keeps.disk keeps.kept c.run-ran.ensures.does.runs in
+    let settled = c.keep in
+    let keeps = c.in_ok-keep.ensures.keeps in
+    let over = c.in_ok-keep.ensures.io in
+    let runs = runs_settled c.run-ran.new.io settled.new.self.io c.run-ran.result (Ok settled.new.self.kept) over keeps.kept c.run-ran.ensures.does.runs in
     let plans = λ (r : Result PoolState PoolFault). Plans (λ pool. stepped [] c.args.now c.args.command pool) (numbers_end c.args.command) (indices_end c.args.command) (makes_list c.args.command) c.args.self.now.kept r in
     let cost = cost_of c.args.command in
     let commits = sym c.commits.ensures ∙ c.if-not-commits.false in
-    let settles = settles_committed pool settled.new.self c.run-ran.new.io c.run-ran.result (Ok 0) c.if-self.false keeps.kept settled.ensures.space settled.ensures.keeps.disk c.new-2.result c.run-ran.ensures.does.runs.ran.commits tt in
+    let settles = settles_committed pool settled.new.self c.run-ran.new.io c.run-ran.result (Ok 0) c.if-self.false keeps.kept over c.in_ok-space.space c.run-ran.ensures.does.runs.ran.commits tt in
     record {
       did = record {
         moments = λ tight running told rested. let did = runs.ran.did tight running told rested in did.moments;
@@ -56,13 +47,13 @@ returns g c =
             let did = runs.ran.did tight running told rested in
             let answer = did.answer in
             let is = step_reply c.args.now c.args.command running answer.0 commits answer.1 in
-            let number : c.saturating_add.result ≡ running.number + 1 = omega (arith, is.below, rested.rests.reads.described.number, c.saturating_add.ensures) in
+            let number : c.saturating_add.result ≡ running.number + 1 = omega (arith, is.below, rested.rests.reads.described.number, ap (λ (u : Uber). u.number) c.uber.ensures, c.saturating_add.ensures) in
             (answer.0, answer.1, c.in_ok-reply.ensures ∙ ap (λ (n : ℕ). ok_line n ∷ []) number ∙ sym is.line, answer.2);
         open_still = λ standing is. cc (is);
         spends = λ standing.
             let spends = runs.ran.spends in
-            (spends.0, spends.1, spends_ok cost.cells spends.0 cost.most_list pool.kept c.run-ran.new.io.space settled.new.self.kept c.in_ok-reply.reply settled.new.self.io.space spends.2);
-        exact = λ running told standing rested. spends_ok cost.cells (cost.block running) (cost.list running) pool.kept c.run-ran.new.io.space settled.new.self.kept c.in_ok-reply.reply settled.new.self.io.space (runs.ran.exact running told rested);
+            (spends.0, spends.1, spends_ok cost.cells spends.0 cost.most_list pool.kept settled.new.self.io.space settled.new.self.kept c.in_ok-reply.reply spends.2);
+        exact = λ running told standing rested. spends_ok cost.cells (cost.block running) (cost.list running) pool.kept settled.new.self.io.space settled.new.self.kept c.in_ok-reply.reply (runs.ran.exact running told rested);
         short = λ running told standing rested. tt;
         spares = λ apart. tt;
         damaged = λ told. tt;
@@ -77,22 +68,22 @@ returns g c =
     }
 
 -- where it was refused
-pub returns-in_err-settle_command : goal.returns-in_err-settle_command
-returns-in_err-settle_command g c =
+pub returns-in_err-keep : goal.returns-in_err-keep
+returns-in_err-keep g c =
     let pool = c.args.self.now in
-    let settled = c.settle_command in
-    let keeps = c.in_err-settle_command.ensures.keeps.keeps in
-    let fault = c.in_err-settle_command.field-0.0 in
-    let runs = runs_settled c.run-ran.new.io settled.new.self.io c.run-ran.result (Err fault) settled.ensures.keeps.disk keeps.kept c.run-ran.ensures.does.runs in
+    let settled = c.keep in
+    let keeps = c.in_err-keep.ensures.keeps in
+    let over = c.in_err-keep.ensures.io in
+    let fault = c.in_err-keep.field-0.0 in
+    let runs = runs_settled c.run-ran.new.io settled.new.self.io c.run-ran.result (Err fault) over keeps.kept c.run-ran.ensures.does.runs in
     let plans = λ (r : Result PoolState PoolFault). Plans (λ pool. stepped [] c.args.now c.args.command pool) (numbers_end c.args.command) (indices_end c.args.command) (makes_list c.args.command) c.args.self.now.kept r in
     let cost = cost_of c.args.command in
     let commits = sym c.commits.ensures ∙ c.if-not-commits.false in
-    let fell = c.from_residual-in_err-settle_command in
+    let fell = c.from_residual-in_err-keep in
     let same = err_is fell.result fault fell.ensures.1 in
     let here = g.D.Disk.state settled.new.self.io.disk.now in
-    let left : tells_full fault ≡ true → settled.new.self.io.space ≡ c.run-ran.new.io.space = λ is. settled.ensures.left (subst (λ (r : Result PoolState PoolFault). is_full r ≡ true) keeps.kept is) in
     let Is = TellsDamage c.args.command pool.kept.dir (g.D.Disk.state pool.io.disk.now) (free_by pool.kept.body) in
-    let settles = settles_committed pool settled.new.self c.run-ran.new.io c.run-ran.result (Err fault) c.if-self.false keeps.kept settled.ensures.space settled.ensures.keeps.disk c.new-2.result c.run-ran.ensures.does.runs.ran.commits keeps.stays in
+    let settles = settles_committed pool settled.new.self c.run-ran.new.io c.run-ran.result (Err fault) c.if-self.false keeps.kept over c.in_ok-space.space c.run-ran.ensures.does.runs.ran.commits keeps.stays in
     record {
       did = record {
         moments = λ tight running told rested. let did = runs.ran.did tight running told rested in did.moments;
@@ -101,9 +92,9 @@ returns-in_err-settle_command g c =
             subst (λ (k : PoolState). StepAnswer tight here k running (stepped [] c.args.now c.args.command running) fell.result) (sym keeps.stays)
             (subst (StepAnswer tight here pool.kept running (stepped [] c.args.now c.args.command running)) (sym same) did.answer);
         open_still = λ standing is. let failed : fault ≡ Failed = cc (same, is) in runs.ran.open_still (ap (λ (f : PoolFault). Err f) failed);
-        spends = λ standing. let spends = runs.ran.spends in (spends.0, spends.1, spends_err cost.cells spends.0 cost.most_list pool.kept c.run-ran.new.io.space settled.new.self.kept fault fell.result settled.new.self.io.space same left spends.2);
+        spends = λ standing. let spends = runs.ran.spends in (spends.0, spends.1, spends_err cost.cells spends.0 cost.most_list pool.kept settled.new.self.io.space settled.new.self.kept fault fell.result same spends.2);
         exact = λ running told standing rested.
-            spends_err cost.cells (cost.block running) (cost.list running) pool.kept c.run-ran.new.io.space settled.new.self.kept fault fell.result settled.new.self.io.space same left (runs.ran.exact running told rested);
+            spends_err cost.cells (cost.block running) (cost.list running) pool.kept settled.new.self.io.space settled.new.self.kept fault fell.result same (runs.ran.exact running told rested);
         short = λ running told standing rested.
             subst (λ (r : Result (List (List ℕ)) PoolFault). IfErr r (FindsLess cost.cells (cost.block running) (cost.list running) pool.kept.body (stepped [] c.args.now c.args.command running))) (sym same) (runs.ran.short running told rested);
         spares = spares_err _ fault fell.result same runs.ran.spares;
@@ -118,50 +109,38 @@ returns-in_err-settle_command g c =
       settles = settles_err pool settled.new.self fault fell.result same settles;
     }
 
--- where no memory was left for its reply
+-- where no memory was left for the free extents, or for its reply
+pub returns-in_err-space : goal.returns-in_err-space
+returns-in_err-space g c =
+    let pool = c.args.self.now in
+    let fell = c.from_residual in
+    let same = err_is fell.result OutOfMemory fell.ensures.1 in
+    let reads = OnlyReads-none (g.D.Disk.state pool.io.disk.now) in
+    record {
+      did = step_starved c.args.now c.args.command pool pool fell.result same refl reads;
+      planned = λ standing left. absurd (left same);
+      sound = λ running done rested sound made. c.steps_keep_sound.ensures [] c.args.now c.args.command running done c.requires.command rested.lawful sound made;
+      only_answers = λ idle. record { reads = reads; kept = refl };
+      room = λ need largest is. absurd (cc (same, is));
+      partials = subst (λ (r : Result (List (List ℕ)) PoolFault). OnOk r (pool.kept.dir.partials ≡ rows_after c.args.command pool.kept.dir.partials)) (sym same) tt;
+      settles = settles_starved pool pool fell.result same c.if-self.false (c.requires.ready c.if-self.false) refl (record { now = refl; failed = refl; checksum_errors = refl; same = refl });
+    }
+
 pub returns-in_err-reply : goal.returns-in_err-reply
 returns-in_err-reply g c =
     let pool = c.args.self.now in
-    let cost = cost_of c.args.command in
     let commits = sym c.commits.ensures ∙ c.if-not-commits.false in
-    let fell = c.from_residual in
+    let fell = c.from_residual-in_err-reply in
     let same = err_is fell.result OutOfMemory fell.ensures.1 in
-    let here = g.D.Disk.state pool.io.disk.now in
-    let reads = OnlyReads-none here in
-    let Is = TellsDamage c.args.command pool.kept.dir here (free_by pool.kept.body) in
-    let free : c.new-2.result ≡ free_by pool.kept.body = rw (c.new-2.ensures, c.new.ensures.items) refl in
-    let ready = c.requires.ready c.if-self.false in
+    let reads = OnlyReads-none (g.D.Disk.state pool.io.disk.now) in
     record {
-      did = record {
-        moments = λ tight running told rested. since_read here here pool.kept reads running rested (stepped [] c.args.now c.args.command running);
-        answer = λ tight running told standing rested. subst (StepAnswer tight here pool.kept running (stepped [] c.args.now c.args.command running)) (sym same) rested;
-        open_still = λ standing is. cc (same, is);
-        spends = λ standing. (0, omega arith, spends_apart cost.cells 0 cost.most_list pool.kept c.new-2.result pool.kept OutOfMemory fell.result same (λ need largest is. cc));
-        exact = λ running told standing rested. spends_apart cost.cells (cost.block running) (cost.list running) pool.kept c.new-2.result pool.kept OutOfMemory fell.result same (λ need largest is. cc);
-        short = λ running told standing rested.
-            subst (λ (r : Result (List (List ℕ)) PoolFault). IfErr r (FindsLess cost.cells (cost.block running) (cost.list running) pool.kept.body (stepped [] c.args.now c.args.command running))) (sym same) (λ need largest is. absurd (cc));
-        spares = λ apart. on_err fell.result (spares_read here here pool.kept reads);
-        damaged = λ told. subst (λ (r : Result (List (List ℕ)) PoolFault). IfErr r (IsOf Is)) (sym same) (λ sector stated found is. absurd (cc));
-        blocks = λ apart ptr bytes has. has;
-      };
+      did = step_starved c.args.now c.args.command pool _ fell.result same refl reads;
       planned = λ standing left. absurd (left same);
       sound = λ running done rested sound made. c.steps_keep_sound.ensures [] c.args.now c.args.command running done c.requires.command rested.lawful sound made;
       only_answers = λ idle. absurd (cc (commits, idle));
       room = λ need largest is. commits;
       partials = subst (λ (r : Result (List (List ℕ)) PoolFault). OnOk r (pool.kept.dir.partials ≡ rows_after c.args.command pool.kept.dir.partials)) (sym same) tt;
-      settles = record {
-        stays = on_err fell.result refl;
-        failed_pool = λ is. absurd (cc (is, c.if-self.false));
-        idle_disk = λ is. refl;
-        space = λ told. free;
-        works = λ told. commit_next_of here c.new-2.result pool.kept.body free ready;
-        ready = λ told. ready;
-        failed = or_false pool.io.failed ∙ ap (λ (b : Bool). pool.io.failed || b) (sym (ap is_disk_fault same));
-        told = λ whole. refl;
-        cause = record { later = omega arith; fault = λ is. absurd (cc (same, is)) };
-        honest = λ told. told;
-        same = refl;
-      };
+      settles = settles_starved pool _ fell.result same c.if-self.false (c.requires.ready c.if-self.false) refl (record { now = refl; failed = refl; checksum_errors = refl; same = refl });
     }
 
 -- where it isn't run
@@ -185,7 +164,7 @@ pub returns-then-not-commits : goal.returns-then-not-commits
 returns-then-not-commits g c =
     let pool = c.args.self.now in
     let is = (c.tell.ensures.does c.args.now).tells in
-    let free : c.new-2.result ≡ free_by pool.kept.body = rw (c.new-2.ensures, c.new.ensures.items) refl in
+    let free = c.in_ok-space.ensures in
     let looks = is.looks in
     let cost = cost_of c.args.command in
     let old = g.D.Disk.state pool.io.disk.now in
@@ -210,5 +189,16 @@ returns-then-not-commits g c =
       only_answers = λ idle. record { reads = looks.reads; kept = refl };
       room = λ need largest is. absurd (looks.never_full need largest (ap (λ (r : Result (List (List ℕ)) PoolFault). stop_of r) is));
       partials = on_ok result (sym (rows_stay c.args.command pool.kept.dir.partials (sym c.commits.ensures ∙ c.if-not-commits.true)));
-      settles = settles_told pool c.tell.new.io result c.if-self.false c.new-2.result free looks (c.requires.ready c.if-self.false);
+      settles = settles_told pool c.tell.new.io result c.if-self.false c.in_ok-space.space free looks (c.requires.ready c.if-self.false);
+    }
+
+-- an event begins with all that is free by the body, which fits the disk
+pub invariant_of-self : goal.invariant_of-self
+invariant_of-self g c =
+    let io = c.args.self.now.io in
+    let disk = disk_of io in
+    record {
+      fits = subst (FitsDisk disk.size) (sym c.in_ok-space.ensures) (free_by_fits disk c.args.self.now.kept.body (c.requires.ready c.if-self.false));
+      told = io.told;
+      behind = io.behind;
     }
