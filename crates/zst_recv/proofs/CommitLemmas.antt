@@ -216,6 +216,7 @@ module _ {D : Type 0} {g : Ghosts D} where
     stays = tt;
     short = λ need largest is. absurd (cc is);
     grows = inl refl;
+    extents = λ has. has;
     ready = λ still. ready;
     stood = λ apart ptr bytes has. has;
     size = refl;
@@ -235,6 +236,7 @@ module _ {D : Type 0} {g : Ghosts D} where
       stays = tt;
       short = λ need largest is. absurd (cc is);
       grows = inr grows;
+      extents = settles.extents;
       ready = settles.ready;
       stood = λ apart. keeps_same (disk_of old.io).seen old.io.space (disk_of new.io).seen new.io.space blocks;
       size = size;
@@ -254,6 +256,7 @@ module _ {D : Type 0} {g : Ghosts D} where
       stays = settles.stays;
       short = λ need largest is. full need largest (ap called (pool_told fault (pools.Full need largest) is));
       grows = tt;
+      extents = tt;
       ready = settles.ready;
       stood = λ apart. keeps_spared old.io.space (disk_of old.io).seen (disk_of new.io).seen (spares (λ is. apart (ap answered (called_same is))));
       size = size;

@@ -1,20 +1,24 @@
 -- What the records of a piece spend, one after another, and with the commit.
-use Rattle.std.proofs.Common.{◌≡◌, ◌⊎◌, inl, inr, ℕ, ◌+◌, ◌<◌, ◌≤◌, true, false, List, [], ◌∷◌, ◌++◌, length, drop, refl, sym, ap, ◌∙◌, subst, arith, append_assoc}
+use Rattle.std.proofs.Common.{◌≡◌, ◌⊎◌, inl, inr, ℕ, ◌+◌, ◌<◌, true, false, List, [], ◌∷◌, ◌++◌, length, drop, refl, sym, ap, ◌∙◌, subst, arith, append_assoc}
 use Rattle.std.specs.Prelude.{Option, Some, None, Err}
 use Rattle.std.proofs.Math.Seq.{drop-append_seam}
 use Rattle.std.proofs.lemmas.List.Sums.{sum_by-append}
-use Rattle.zst_space.specs.FreeSectors.{FreeSectors, largest_of, total}
+use Rattle.zst_space.specs.FreeSectors.{FreeSectors, largest_of}
 use Rattle.zst_block.specs.IoCalls.{TakesAtMost, Works}
 use Rattle.zst_block.specs.IoStates.{IoState}
 use Rattle.zst_block.specs.declared.fault.BlockFault.{BlockFault}
 use Rattle.zst_block.specs.declared.fault.BlockFault.TheVariants as blocks
 use Rattle.zst_block.proofs.TakenSectors.{of_tree, takes_more, takes_none, takes_then, takes_wider}
-use Rattle.zst_image.specs.Reads.{free_by}
+use Rattle.zst_dir.specs.Spelling.{dir_bytes}
+use Rattle.zst_image.specs.Bodies.{free_by}
+use Rattle.zst_image.specs.Commits.{commit_sectors}
 use Rattle.zst_image.specs.declared.pool_state.PoolState.{PoolState}
 use Rattle.zst_objset.specs.declared.fault.ObjFault.{ObjFault}
 use Rattle.zst_objset.specs.declared.fault.ObjFault.TheVariants as sets
 use Rattle.zst_objset.specs.Answers as objset
 use Rattle.zst_pool.specs.Calls.{CallGrows, IsCallFull}
+use Rattle.zst_pool.proofs.Room.{commit-more}
+use Rattle.zst_pool.proofs.TakenSectors.{fewer_extents}
 use Rattle.zst_reader.specs.StandsFor.{StandsFor}
 use Rattle.zst_reader.specs.declared.reader.Reader.{Reader}
 use Rattle.zst_record.specs.Heads.{Covered}
@@ -134,7 +138,7 @@ stop_same index (sets.Block blocks.DiskFault) = refl
 pub short_read : (records : List Covered) (kept : PoolState) (left : FreeSectors) (stop : Option BlockFault) (need largest : ℕ) → stop ≡ Some (blocks.Full need largest) → largest < need → largest ≡ largest_of left
     → Spends records (free_by kept.body) left stop → PieceIsShort records kept left need largest
 short_read records kept left stop need largest is shorter longest spends = record {
-  taken = takes_more (records_cost records) (piece_cost records kept.dir) (free_by kept.body) left (omega arith) spends.takes;
+  taken = takes_more (records_cost records) (piece_cost records kept) (free_by kept.body) left (omega arith) spends.takes;
   shorter = shorter;
   needed = spends.needed need largest is;
   is_longest = longest;
@@ -145,11 +149,16 @@ short_read records kept left stop need largest is shorter longest spends = recor
 pub short_put : (records : List Covered) (kept : PoolState) (mid left : FreeSectors) (stop : Option BlockFault) (need largest : ℕ) → Spends records (free_by kept.body) mid stop
     → IsCallFull mid left kept.dir need largest → PieceIsShort records kept left need largest
 short_put records kept mid left stop need largest spends full = record {
-  taken = takes_then (free_by kept.body) mid left spends.takes (takes_wider mid left (λ count is. needed_none count records (of_tree is)) full.taken);
+  taken =
+      let fewer = commit-more (length (dir_bytes kept.dir) + 2048) (length (dir_bytes kept.dir) + 2048) (length mid.free) (length kept.body.free) (omega arith) (fewer_extents spends.takes) in
+      takes_more (records_cost records + commit_sectors (length (dir_bytes kept.dir) + 2048) (length mid.free)) (piece_cost records kept) (free_by kept.body) left (omega (arith, fewer))
+      (takes_then (free_by kept.body) mid left spends.takes (takes_wider mid left (λ count is. needed_none count records (of_tree is)) full.taken));
   shorter = full.shorter;
   needed = needed_none need records full.needed;
   is_longest = full.is_longest;
-  room = omega (arith, spends.takes.longest, full.before);
+  room =
+      let fewer = commit-more (length (dir_bytes kept.dir) + 2048) (length (dir_bytes kept.dir) + 2048) (length mid.free) (length kept.body.free) (omega arith) (fewer_extents spends.takes) in
+      omega (arith, spends.takes.longest, full.before, fewer);
 }
 
 -- a fault of the pool is that fault
@@ -162,19 +171,15 @@ full_keeps_none fault need largest keeps is = let none : keeps_before fault ≡ 
 
 -- ---- what is committed
 
--- without extents below the end, that came no further than the records cost
-pub ends_within : {IsLength : ℕ → Type 0} → (records : List Covered) (kept : PoolState) (space : FreeSectors) → TakesAtMost (records_cost records) IsLength (free_by kept.body) space → space.end ≤ space.sectors
-    → (space.free ≡ []) × (space.end ≤ kept.body.end + records_cost records)
-ends_within records kept space takes within =
-    let none : space.free ≡ [] = takes.unbroken refl in
-    let nothing : total space.free ≡ 0 = ap total none in
-    (none, omega (arith, takes.left, takes.sectors, nothing, within))
-
 -- a commit behind the records, or none
-pub piece_grows : {IsLength : ℕ → Type 0} → (records : List Covered) (kept after : PoolState) (space : FreeSectors) → TakesAtMost (records_cost records) IsLength (free_by kept.body) space → space.end ≤ space.sectors
+pub piece_grows : (records : List Covered) (kept after : PoolState) (space : FreeSectors) → TakesAtMost (records_cost records) (λ count. IsNeeded count records) (free_by kept.body) space
     → (after ≡ kept) ⊎ CallGrows space kept after → PieceGrows records kept after
-piece_grows records kept after space takes within (inl same) = subst (PieceGrows records kept) (sym same) (record { directory = omega arith; sectors = refl; end = omega arith })
-piece_grows records kept after space takes within (inr grows) =
-    let ends = ends_within records kept space takes within in
-    let most = grows.end ends.0 in
-    record { directory = grows.directory; sectors = grows.sectors; end = omega (arith, most, ends.1) }
+piece_grows records kept after space takes (inl same) = subst (PieceGrows records kept) (sym same) (record { directory = omega arith; takes = takes_none (free_by kept.body) })
+piece_grows records kept after space takes (inr grows) =
+    let fewer = commit-more (length (dir_bytes kept.dir) + 2048) (length (dir_bytes kept.dir) + 2048) (length space.free) (length kept.body.free) (omega arith) (fewer_extents takes) in
+    record {
+      directory = grows.directory;
+      takes =
+          takes_more (records_cost records + commit_sectors (length (dir_bytes kept.dir) + 2048) (length space.free)) (piece_cost records kept) (free_by kept.body) (free_by after.body) (omega (arith, fewer))
+          (takes_then (free_by kept.body) space (free_by after.body) takes (takes_wider space (free_by after.body) (λ count is. needed_none count records (of_tree is)) grows.takes));
+    }

@@ -8,8 +8,9 @@ use Rattle.zst_block.specs.IoStates.{IsHonest, disk_of}
 use Rattle.zst_block.specs.declared.fault.BlockFault.TheVariants as blocks
 use Rattle.zst_block.specs.declared.io.Io.{Io}
 use Rattle.zst_dir.specs.Rows.{Rows}
-use Rattle.zst_image.specs.Commits.{Ready}
-use Rattle.zst_image.specs.Reads.{free_by}
+use Rattle.zst_image.specs.Commits.{HasItsExtents, Ready}
+use Rattle.zst_image.specs.Bodies.{free_by}
+use Rattle.zst_image.proofs.Growth.{HasItsExtents-kept}
 use Rattle.zst_pool.specs.Faults.{HasDiskCause, is_disk_fault}
 use Rattle.zst_pool.specs.Queries as queries
 use Rattle.zst_pool.specs.declared.fault.PoolFault.{PoolFault}
@@ -107,6 +108,7 @@ module _ {D : Type 0} {g : Ghosts D} where
     stays = λ fault is keeps. refl;
     blocks = λ apart ptr bytes has. has;
     stood = λ apart ptr bytes has. has;
+    extents = λ apart has. has;
     size = refl;
     ready = λ alive. absurd (let both : true ≡ false = sym failed ∙ alive in cc both);
     failed = failed ∙ ap (λ (b : Bool). b || false) (sym failed);
@@ -122,8 +124,9 @@ module _ {D : Type 0} {g : Ghosts D} where
         → (io.failed ≡ false → Ready (disk_of io) new.kept.body) → (is_damage (stop_at fault) ≡ false → io.checksum_errors ≡ old.io.checksum_errors) → io.failed ≡ fails (stop_at fault) → HasCause (disk_of old.io).faults (disk_of io).faults (stop_at fault)
         → (IsHonest io → IsHonest old.io) → io.disk.ghost_name ≡ old.io.disk.ghost_name
         → (¬ (fault ≡ faults.Pool pools.DiskFault) → KeepsBlocks (disk_of old.io).seen (free_by old.kept.body) (disk_of io).seen (free_by new.kept.body))
-        → (¬ (fault ≡ faults.Pool pools.DiskFault) → KeepsBlocks (disk_of old.io).seen (free_by old.kept.body) (disk_of io).seen (free_by old.kept.body)) → (disk_of io).size ≡ (disk_of old.io).size → LeavesPool old new (answer fault)
-    leaves_refused fault io is known stays ready counts failed cause honest same blocks stood size = record {
+        → (¬ (fault ≡ faults.Pool pools.DiskFault) → KeepsBlocks (disk_of old.io).seen (free_by old.kept.body) (disk_of io).seen (free_by old.kept.body))
+        → (¬ (fault ≡ faults.Pool pools.DiskFault) → HasItsExtents (disk_of old.io) old.kept.body → HasItsExtents (disk_of io) new.kept.body) → (disk_of io).size ≡ (disk_of old.io).size → LeavesPool old new (answer fault)
+    leaves_refused fault io is known stays ready counts failed cause honest same blocks stood extents size = record {
       failed_pool = λ fell. absurd (let both : true ≡ false = sym fell ∙ alive in cc both);
       idle_disk = λ fell. absurd (let both : true ≡ false = sym fell ∙ alive in cc both);
       idle_kept = λ fell. absurd (let both : true ≡ false = sym fell ∙ alive in cc both);
@@ -132,6 +135,7 @@ module _ {D : Type 0} {g : Ghosts D} where
       stays = λ other told keeps. stays (ap keeps_before (told_fault fault other told) ∙ keeps);
       blocks = λ apart. subst (λ (i : Io D g). KeepsBlocks (disk_of old.io).seen (free_by old.kept.body) (disk_of i).seen (free_by new.kept.body)) (sym is) (blocks (λ told. apart (ap answer told)));
       stood = λ apart. subst (λ (i : Io D g). KeepsBlocks (disk_of old.io).seen (free_by old.kept.body) (disk_of i).seen (free_by old.kept.body)) (sym is) (stood (λ told. apart (ap answer told)));
+      extents = λ apart has. subst (λ (i : Io D g). HasItsExtents (disk_of i) new.kept.body) (sym is) (extents (λ told. apart (ap answer told)) has);
       size = ap (λ (i : Io D g). (disk_of i).size) is ∙ size;
       ready = λ still. subst (λ (i : Io D g). Ready (disk_of i) new.kept.body) (sym is) (ready (sym (ap (λ (i : Io D g). i.failed) is) ∙ still));
       failed = ap (λ (i : Io D g). i.failed) is ∙ failed ∙ ap (λ (b : Bool). b || fails (stop_at fault)) (sym alive);
@@ -151,14 +155,16 @@ module _ {D : Type 0} {g : Ghosts D} where
         → (¬ (fault ≡ faults.Pool pools.DiskFault) → KeepsBlocks (disk_of old.io).seen (free_by old.kept.body) (disk_of io).seen (free_by old.kept.body)) → (disk_of io).size ≡ (disk_of old.io).size → LeavesPool old new (answer fault)
     leaves_body fault io is known body ready counts failed cause honest same stood size =
         leaves_refused fault io is known (λ keeps. body) ready counts failed cause honest same
-        (λ apart. subst (KeepsBlocks (disk_of old.io).seen (free_by old.kept.body) (disk_of io).seen) (sym (ap free_by body)) (stood apart)) stood size
+        (λ apart. subst (KeepsBlocks (disk_of old.io).seen (free_by old.kept.body) (disk_of io).seen) (sym (ap free_by body)) (stood apart)) stood
+        (λ apart has. subst (HasItsExtents (disk_of io)) (sym body) (HasItsExtents-kept (disk_of old.io) (disk_of io) old.kept.body (stood apart) has)) size
 
     -- or it was taken and committed
     pub leaves_fed : (told : coded_recv.FeedReport) → KeepsBlocks (disk_of old.io).seen (free_by old.kept.body) (disk_of new.io).seen (free_by new.kept.body)
         → (new.io.failed ≡ false → Ready (disk_of new.io) new.kept.body) → new.io.checksum_errors ≡ old.io.checksum_errors → new.io.failed ≡ false → HasCause (disk_of old.io).faults (disk_of new.io).faults None
         → (IsHonest new.io → IsHonest old.io) → new.io.disk.ghost_name ≡ old.io.disk.ghost_name
-        → KeepsBlocks (disk_of old.io).seen (free_by old.kept.body) (disk_of new.io).seen (free_by old.kept.body) → (disk_of new.io).size ≡ (disk_of old.io).size → LeavesPool old new (Ok told)
-    leaves_fed told blocks ready counts failed cause honest same stood size = record {
+        → KeepsBlocks (disk_of old.io).seen (free_by old.kept.body) (disk_of new.io).seen (free_by old.kept.body) → (HasItsExtents (disk_of old.io) old.kept.body → HasItsExtents (disk_of new.io) new.kept.body)
+        → (disk_of new.io).size ≡ (disk_of old.io).size → LeavesPool old new (Ok told)
+    leaves_fed told blocks ready counts failed cause honest same stood extents size = record {
       failed_pool = λ fell. absurd (let both : true ≡ false = sym fell ∙ alive in cc both);
       idle_disk = λ fell. absurd (let both : true ≡ false = sym fell ∙ alive in cc both);
       idle_kept = λ fell. absurd (let both : true ≡ false = sym fell ∙ alive in cc both);
@@ -167,6 +173,7 @@ module _ {D : Type 0} {g : Ghosts D} where
       stays = λ fault is keeps. absurd (cc is);
       blocks = λ apart. blocks;
       stood = λ apart. stood;
+      extents = λ apart. extents;
       size = size;
       ready = ready;
       failed = failed ∙ ap (λ (b : Bool). b || false) (sym alive);

@@ -6,7 +6,8 @@ use Rattle.zst_outside.specs.Images.{DiskState, Leaves-none}
 use Rattle.zst_space.specs.FreeSectors.{FreeSectors}
 use Rattle.zst_block.specs.Blocks.{Has}
 use Rattle.zst_dir.specs.Rows.{Rows}
-use Rattle.zst_image.specs.Reads.{Reads, bound_of, free_by}
+use Rattle.zst_image.specs.Bodies.{free_by}
+use Rattle.zst_image.specs.Reads.{Reads, bound_of}
 use Rattle.zst_image.specs.declared.pool_state.PoolState.{PoolState}
 use Rattle.zst_model.specs.declared.refusals.faults.Quantity.TheVariants as quantities
 use Rattle.zst_model.specs.declared.refusals.plan_fault.PlanFault.TheVariants as plans
@@ -217,6 +218,13 @@ module _ (tight : Bool) (old last : DiskState) (after : PoolState) (recv : Recv)
       subst (λ (f : RecvFault). Feeds tight old last after recv text piece stage running (Err f)) (sym is)
       (subst (λ (d : DiskState). Feeds tight old d after recv text piece stage running (Err (faults.Pool (pools.Plan (plans.Limit quantities.Stream stream_limit))))) (sym same)
       (record { moments = Leaves-none old (λ c. Reads tight (kept_of running) c ⊎ Reads tight (kept_of (pool_of (fed_piece recv.ask text piece stage running))) c); answer = (refl, long, rests) }))
+
+  -- no memory was left
+  pub no_memory : last ≡ old → IsAtRest tight old after (left_by stage running) → (fault : RecvFault) → fault ≡ faults.Pool pools.OutOfMemory → Feeds tight old last after recv text piece stage running (Err fault)
+  no_memory same rests fault is =
+      subst (λ (f : RecvFault). Feeds tight old last after recv text piece stage running (Err f)) (sym is)
+      (subst (λ (d : DiskState). Feeds tight old d after recv text piece stage running (Err (faults.Pool pools.OutOfMemory))) (sym same)
+      (record { moments = Leaves-none old (λ c. Reads tight (kept_of running) c ⊎ Reads tight (kept_of (pool_of (fed_piece recv.ask text piece stage running))) c); answer = rests }))
 
   -- the piece wasn't read
   pub lost : (ask : RecvAsk) (two : DiskState) (kept : PoolState) (space : FreeSectors) (given fault : RecvFault) → recv.ask ≡ ask → IsUnderWay tight old two space kept running → last ≡ two → given ≡ fault → ReadFault (fault_in ask running text piece (at_stage stage)) fault

@@ -5,7 +5,7 @@ use Rattle.std.proofs.Math.Seq.{drop-append_seam}
 use Rattle.zst_outside.specs.Images.{DiskState}
 use Rattle.zst_block.specs.Blocks.{Has}
 use Rattle.zst_dir.specs.Rows.{Rows}
-use Rattle.zst_image.specs.Reads.{free_by}
+use Rattle.zst_image.specs.Bodies.{free_by}
 use Rattle.zst_image.specs.declared.pool_state.PoolState.{PoolState}
 use Rattle.zst_model.specs.declared.refusals.refusal.Refusal.{Refusal}
 use Rattle.zst_model.specs.declared.sends.header.Header.{Header}

@@ -43,7 +43,8 @@ use Rattle.zst_objset.specs.declared.fault.ObjFault.{ObjFault}
 use Rattle.zst_objset.specs.declared.fault.ObjFault.TheVariants as sets
 use Rattle.zst_apply.specs.AppliedRecords.{Applies, RefusesRecord, received_all}
 use Rattle.zst_dir.specs.declared.rows.Partial.{Partial}
-use Rattle.zst_image.specs.Reads.{PartialIs, RunsBy, SetIs, bound_of, free_by}
+use Rattle.zst_image.specs.Bodies.{free_by}
+use Rattle.zst_image.specs.Reads.{PartialIs, RunsBy, SetIs, bound_of}
 use Rattle.zst_image.specs.declared.pool_state.PoolState.{PoolState}
 use Rattle.zst_image.proofs.Growth.{PartialIs-grows, RunsBy-grows}
 use Rattle.zst_plan.specs.declared.receive.RecvAsk.{RecvAsk}
@@ -307,9 +308,9 @@ module _ {tight : Bool} (start now : DiskState) (space : FreeSectors) (kept : Po
       (RunsBy-grows start.seen (free_by kept.body) now.seen space (KeepsBlocks-fills start now (free_by kept.body) space under.fills) kept.dir running under.rested.runs_by)
 
   -- its next commit's number fits
-  pub next_number : (number : ℕ) → number ≡ min (kept.body.number + 1) (2 ^ 64 - 1) → number ≡ running.number + 1
+  pub next_number : (number : ℕ) → number ≡ min (kept.body.uber.number + 1) (2 ^ 64 - 1) → number ≡ running.number + 1
   unfolding last_number
   next_number number is =
-      let same : running.number ≡ kept.body.number = under.rested.rests.reads.described.number in
+      let same : running.number ≡ kept.body.uber.number = under.rested.rests.reads.described.number in
       let few = under.rested.lawful.number in
       omega arith

@@ -9,7 +9,7 @@ use Rattle.zst_tree.proofs.LaterDamage.{IsSummedBelow-more, spares_before}
 use Rattle.zst_objset.specs.Damage.{AreTreesWithin}
 use Rattle.zst_objset.proofs.DamageLaws.{StandsIn-more, set_now}
 use Rattle.zst_dir.specs.Rows.{Rows}
-use Rattle.zst_image.specs.Reads.{free_by}
+use Rattle.zst_image.specs.Bodies.{free_by}
 use Rattle.zst_image.specs.declared.pool_state.PoolState.{PoolState}
 use Rattle.zst_apply.specs.Damage.{apply_damage}
 use Rattle.zst_plan.specs.declared.receive.RecvAsk.{RecvAsk}

@@ -2,7 +2,8 @@
 use Rattle.std.specs.Prelude.{◌≡◌, ◌⊎◌, ◌+◌, ◌<◌, ◌++◌, ℕ, Bool, true, false, not, List, length, Option, Some, Result, Ok, Err}
 use Rattle.zst_outside.specs.Images.{DiskState, Leaves}
 use Rattle.zst_block.specs.Blocks.{Has}
-use Rattle.zst_image.specs.Reads.{Reads, bound_of, free_by}
+use Rattle.zst_image.specs.Bodies.{free_by}
+use Rattle.zst_image.specs.Reads.{Reads, bound_of}
 use Rattle.zst_image.specs.declared.pool_state.PoolState.{PoolState}
 use Rattle.zst_model.specs.declared.refusals.faults.Quantity.TheVariants.{Stream}
 use Rattle.zst_model.specs.declared.refusals.plan_fault.PlanFault.TheVariants.{Limit}

@@ -6,7 +6,7 @@ use Rattle.zst_block.specs.Blocks.{KeepsBlocks}
 use Rattle.zst_block.specs.IoCalls.{is_damage}
 use Rattle.zst_block.specs.IoStates.{IsHonest, disk_of}
 use Rattle.zst_dir.specs.Rows.{Rows, is_for}
-use Rattle.zst_image.specs.Commits.{Ready}
+use Rattle.zst_image.specs.Commits.{HasItsExtents, Ready}
 use Rattle.zst_image.specs.Reads.{Reads}
 use Rattle.zst_image.specs.declared.pool_state.PoolState.{PoolState}
 use Rattle.zst_model.specs.declared.refusals.refusal.Refusal.{Refusal}
@@ -46,6 +46,8 @@ module _ {D : Type 0} {g : Ghosts D} where
     -- before E24 no free extent had as many sectors as a directory may take that has 2,048 bytes more, and a commit grows by no more
     pub short : (need largest : ℕ) → result ≡ Err (Full need largest) → IsCallFull old.io.space new.io.space old.kept.dir need largest
     pub grows : OnOk result ((new.kept ≡ old.kept) ⊎ CallGrows old.io.space old.kept new.kept)
+    -- the latest body's free extents stand in sectors that it leaves not free, where those of the one before did
+    pub extents : OnOk result (HasItsExtents (disk_of old.io) old.kept.body → HasItsExtents (disk_of new.io) new.kept.body)
     pub ready : new.io.failed ≡ false → Ready (disk_of new.io) new.kept.body
     -- unless the disk failed, each block that was there still stands, and the disk is as long
     pub stood : ¬ (result ≡ Err DiskFault) → KeepsBlocks (disk_of old.io).seen old.io.space (disk_of new.io).seen old.io.space

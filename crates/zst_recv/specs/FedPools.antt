@@ -5,8 +5,8 @@ use Rattle.zst_block.specs.Blocks.{KeepsBlocks}
 use Rattle.zst_block.specs.IoCalls.{HasCause, fails, is_damage}
 use Rattle.zst_block.specs.IoStates.{IsHonest, disk_of}
 use Rattle.zst_dir.specs.Rows.{Rows, is_for}
-use Rattle.zst_image.specs.Commits.{Ready}
-use Rattle.zst_image.specs.Reads.{free_by}
+use Rattle.zst_image.specs.Commits.{HasItsExtents, Ready}
+use Rattle.zst_image.specs.Bodies.{free_by}
 use Rattle.zst_model.specs.declared.refusals.faults.Quantity.TheVariants.{Stream}
 use Rattle.zst_model.specs.declared.refusals.plan_fault.PlanFault.TheVariants.{Limit}
 use Rattle.zst_pool.specs.declared.fault.PoolFault.TheVariants as pools
@@ -39,6 +39,8 @@ module _ {D : Type 0} {g : Ghosts D} where
     pub blocks : ¬ (result ≡ Err (faults.Pool pools.DiskFault)) → KeepsBlocks (disk_of old.io).seen (free_by old.kept.body) (disk_of new.io).seen (free_by new.kept.body)
     -- and whatever it answers, unless the disk failed, each block still stands that stood in sectors which the body left not free; the disk is as long
     pub stood : ¬ (result ≡ Err (faults.Pool pools.DiskFault)) → KeepsBlocks (disk_of old.io).seen (free_by old.kept.body) (disk_of new.io).seen (free_by old.kept.body)
+    -- so do the latest body's free extents, in sectors that it leaves not free, where those of the one before did
+    pub extents : ¬ (result ≡ Err (faults.Pool pools.DiskFault)) → HasItsExtents (disk_of old.io) old.kept.body → HasItsExtents (disk_of new.io) new.kept.body
     pub size : (disk_of new.io).size ≡ (disk_of old.io).size
     pub ready : new.io.failed ≡ false → Ready (disk_of new.io) new.kept.body
     pub failed : new.io.failed ≡ (old.io.failed || fails (stop_of result))

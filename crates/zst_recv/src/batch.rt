@@ -127,7 +127,7 @@ impl Batch {
                 self.end();
                 Ok(())
             }
-            _ => self.go_on(io, kept.body.number.saturating_add(1), covered),
+            _ => self.go_on(io, kept.body.uber().number.saturating_add(1), covered),
         }
     }
 

@@ -2,7 +2,8 @@
 ghost use Rattle.std.specs.Prelude.{◌≡◌, ◌+◌, Bool, ℕ, List, Option, OnOk, false, true};
 ghost use Rattle.zst_block.specs.Blocks.{KeepsBlocks};
 ghost use Rattle.zst_block.specs.IoStates.{IsHonest, blocks_of, disk_of};
-ghost use Rattle.zst_image.specs.Reads.{bound_of, free_by};
+ghost use Rattle.zst_image.specs.Bodies.{free_by};
+ghost use Rattle.zst_image.specs.Reads.{bound_of};
 ghost use Rattle.zst_model.specs.pools.Pool.{Pool as Plain};
 ghost use Rattle.zst_pool.specs.Calls.{CanCommit, IsUnderWay};
 ghost use Rattle.zst_recv.specs.Faults.{keeps_before};

@@ -42,7 +42,8 @@ impl Recv {
     ghost use Rattle.zst_block.specs.Blocks.{Has};
     ghost use Rattle.zst_block.specs.IoStates.{IsHonest, disk_of};
     ghost use Rattle.zst_image.specs.Commits.{Ready};
-    ghost use Rattle.zst_image.specs.Reads.{bound_of, free_by};
+    ghost use Rattle.zst_image.specs.Bodies.{free_by};
+    ghost use Rattle.zst_image.specs.Reads.{bound_of};
     ghost use Rattle.zst_model.specs.pools.Pool.{Pool as Plain};
     ghost use Rattle.zst_pool.specs.Calls.{IsAtRest};
     ghost use Rattle.zst_pool.specs.Partials.{without_unkept};
@@ -128,9 +129,9 @@ impl Recv {
             → IsAtRest tight (disk_of pool.old.io) pool.old.kept running → TellsBefore (ask_of self.old) stage pool.old.kept.dir running
             → Receives (bound_of tight running.number) (Has (disk_of pool.old.io).seen (free_by pool.old.kept.body)) self.old text stage
             → Feeds tight (disk_of pool.old.io) (disk_of pool.new.io) pool.new.kept self.new text piece.now stage running result }
-        // Whatever the image and the text that it was fed: what reading says of it with the piece, unless the pool has failed, and what
-        // the piece costs by what it covers behind what was handed out.
-        ensures texts { pool.old.io.failed ≡ false → (text : List ℕ) (handed : List Covered) → StandsFor (reader_of self.old) text handed
+        // Whatever the image and the text that it was fed: what reading says of it with the piece, unless the pool has failed or no memory is
+        // left, and what the piece costs by what it covers behind what was handed out.
+        ensures texts { pool.old.io.failed ≡ false → ¬ (result ≡ Err (RecvFault.Pool PoolFault.OutOfMemory)) → (text : List ℕ) (handed : List Covered) → StandsFor (reader_of self.old) text handed
             → ReadsText pool.old.kept.dir (ask_of self.old) text handed (text ++ piece.now) (stage_of self.old) (stage_of self.new) (reader_of self.new) result }
         ensures costs { (text : List ℕ) (handed : List Covered) → StandsFor (reader_of self.old) text handed
             → CostsPiece (records_behind handed (text ++ piece.now)) pool.old.kept pool.new.kept pool.new.io.space result }
@@ -149,7 +150,10 @@ impl Recv {
         if piece.len() as u64 > STREAM_LIMIT - started {
             return Err(self.give_up(pool, held, too_long()));
         }
-        pool.renew(alloc);
+        if pool.renew(alloc).is_err() {
+            let fault = RecvFault::Pool(PoolFault::OutOfMemory);
+            return Err(self.give_up(pool, held, fault));
+        }
         let mut batch = Batch::new(mem::replace(&mut self.stage, Stage::Over));
         let (io, kept) = (&mut pool.io, &pool.kept);
         match read(&mut self.reader, io, kept, &self.ask, &mut batch, piece) {

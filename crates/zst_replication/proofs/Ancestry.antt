@@ -1,5 +1,5 @@
 -- What stands before what, in the pool that runs while a receive is under way and in the pool that it began with.
-use Rattle.std.proofs.Common.{inl, inr, ℕ, ◌≤◌, List, [], ◌∷◌, ◌++◌, Option, Some, None, IfSome, Contains}
+use Rattle.std.proofs.Common.{inl, inr, ℕ, ◌≤◌, List, ◌∷◌, ◌++◌, Option, Some, None, IfSome, Contains}
 use Rattle.std.proofs.lemmas.List.Elements.{All-contains}
 use Rattle.zst_model.specs.pools.Pool.{Pool, Snapshot, Bookmark, Partial, HasDataset, HasSnapshot, IsLinked, dataset_of_snapshot, dataset_of_bookmark}
 use Rattle.zst_model.specs.pools.Ancestry.{IsOrigin, IsBase, Source, OfSnapshot, OfBookmark, StandsBefore, Earlier, AtOrigin, BeforeOrigin, BaseCounts, IsBefore, IsBeforePartial}

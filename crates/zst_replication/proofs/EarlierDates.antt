@@ -1,5 +1,5 @@
 -- Items of a later commit keep what the state under them dates earlier, whether they are lawful or not.
-use Rattle.std.proofs.Common.{◌≡◌, ℕ, ◌<◌, ◌≤◌, Bool, true, false, not, List, [], ◌∷◌, None, Ok, refl, sym, ap, ◌∙◌, subst, arith, ◌==◌, nat_lt, ◌&&◌, if◌then◌else◌}
+use Rattle.std.proofs.Common.{◌≡◌, ℕ, ◌<◌, ◌≤◌, Bool, true, false, List, [], ◌∷◌, None, Ok, refl, sym, ap, ◌∙◌, subst, arith, ◌==◌, nat_lt, ◌&&◌, if◌then◌else◌}
 use Rattle.std.proofs.lemmas.Bool.{cond-false, lt-ltb}
 use Rattle.zst_model.specs.declared.states.item.Item.{Item}
 use Rattle.zst_model.specs.declared.states.item.Item.TheVariants.{FreeObjects, At}

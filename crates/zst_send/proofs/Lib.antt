@@ -15,7 +15,7 @@ mod KeptBlocks
 mod WalkSteps
 mod TouchedItems
 pub mod SetDates
-mod SetsBut
+pub mod SetsBut
 mod ListReads
 mod SourceLists
 pub mod StandingRows

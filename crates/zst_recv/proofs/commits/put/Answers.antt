@@ -1,9 +1,10 @@
-use Rattle.std.proofs.Common.{◌≡◌, ◌+◌, ◌||◌, Bool, true, false, Ok, refl, sym, ap, ◌∙◌, subst}
+use Rattle.std.proofs.Common.{◌≡◌, ◌+◌, true, false, Ok, refl, sym, ap, ◌∙◌, subst}
 use Rattle.std.specs.Prelude.{Result}
 use Rattle.zst_space.specs.FreeSectors.{FreeSectors}
 use Rattle.zst_block.specs.Blocks.{Has, KeepsBlocks}
 use Rattle.zst_dir.specs.declared.rows.Partial.{Partial as Row}
-use Rattle.zst_image.specs.Reads.{PartialIs, bound_of, free_by}
+use Rattle.zst_image.specs.Bodies.{free_by}
+use Rattle.zst_image.specs.Reads.{PartialIs, bound_of}
 use Rattle.zst_image.specs.declared.pool_state.PoolState.{PoolState}
 use Rattle.zst_pool.specs.FinishedRows.{rows_with_finished}
 use Rattle.zst_pool.specs.PartialRows.{CanPut, rows_with_partial}
@@ -136,7 +137,7 @@ returns-in_ok-put_partial-in-Lives-clause-free g c = λ taken begun.
     let e = c.in_ok-put_partial-in-Lives.ensures in
     let pool = c.args.pool.now in
     let after = c.put_partial.new.self in
-    let free : after.io.space ≡ free_by after.kept.body = e.settles.space (ap (λ (b : Bool). b || false) c.requires.open) in
+    let free : after.io.space ≡ free_by after.kept.body = e.settles.space in
     (free, subst (λ (s : FreeSectors). KeepsBlocks (g.D.Disk.state pool.io.disk.now).seen pool.io.space (g.D.Disk.state after.io.disk.now).seen s) free e.puts.blocks)
 
 pub returns-in_ok-finish_partial-in-Ends-clause-free : goal.returns-in_ok-finish_partial-in-Ends-clause-free
@@ -144,7 +145,7 @@ returns-in_ok-finish_partial-in-Ends-clause-free g c = λ taken begun.
     let e = c.in_ok-finish_partial-in-Ends.ensures in
     let pool = c.args.pool.now in
     let after = c.finish_partial.new.self in
-    let free : after.io.space ≡ free_by after.kept.body = e.settles.space (ap (λ (b : Bool). b || false) c.requires.open) in
+    let free : after.io.space ≡ free_by after.kept.body = e.settles.space in
     (free, subst (λ (s : FreeSectors). KeepsBlocks (g.D.Disk.state pool.io.disk.now).seen pool.io.space (g.D.Disk.state after.io.disk.now).seen s) free e.puts.blocks)
 
 pub returns-in-Waits-clause-free : goal.returns-in-Waits-clause-free
@@ -170,7 +171,7 @@ returns-in_ok-put_partial-in-Lives-clause-rows g c = λ target fits.
 pub returns-in_ok-finish_partial-in-Ends-clause-rows : goal.returns-in_ok-finish_partial-in-Ends-clause-rows
 returns-in_ok-finish_partial-in-Ends-clause-rows g c = λ target fits.
     let old = c.args.pool.now.kept in
-    let number = old.body.number + 1 in
+    let number = old.body.uber.number + 1 in
     rows_finished target old.dir c.finish_partial.new.self.kept.dir c.args.batch.now number c.in-Ends.partial c.in-Ends.is fits
     (c.in_ok-finish_partial-in-Ends.ensures.puts.rows ∙ ap (λ (r : Row). rows_with_finished number r old.dir) c.duplicate-in-Ends.ensures)
 

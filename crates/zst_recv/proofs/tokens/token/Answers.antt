@@ -5,7 +5,8 @@ use Rattle.zst_dir.specs.declared.rows.Partial.{Partial}
 use Rattle.zst_model.specs.declared.refusals.plan_fault.PlanFault.TheVariants.{NoPartial}
 use Rattle.zst_model.specs.declared.sends.header.Point.{Point}
 use Rattle.zst_model.specs.states.State.{number_bound}
-use Rattle.zst_image.specs.Reads.{bound_of, free_by}
+use Rattle.zst_image.specs.Bodies.{free_by}
+use Rattle.zst_image.specs.Reads.{bound_of}
 use Rattle.zst_recv.proofs.TokenRows.{found_fits, named_tell, point_told, running_tell, token_of_row}
 use Rattle.zst_recv.proofs.tokens.token.Goals as goal
 use Rattle.zst_recv.proofs.tokens.token.Goals.{in_default-via-in-Some+else-partial, in_default-via-in_default}

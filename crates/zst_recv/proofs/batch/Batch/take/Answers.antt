@@ -29,7 +29,7 @@ pub returns-in_default-clause-took : goal.returns-in_default-clause-took
 returns-in_default-clause-took g c = λ tight start running plain honest under tells is.
     let io = c.args.io.now in
     c.go_on.ensures.took tight running c.args.ask.now plain honest
-    (next_number (g.D.Disk.state start) (g.D.Disk.state io.disk.now) io.space c.args.kept.now running under c.saturating_add.result c.saturating_add.ensures) is
+    (next_number (g.D.Disk.state start) (g.D.Disk.state io.disk.now) io.space c.args.kept.now running under c.saturating_add.result (rw c.uber.ensures at c.saturating_add.ensures)) is
 
 pub returns-in-Begin-clause-damaged : goal.returns-in-Begin-clause-damaged
 returns-in-Begin-clause-damaged g c = λ text sector stated found honest is. absurd (told_none c.begin.result sector stated found c.begin.ensures.no_block is)

@@ -13,15 +13,16 @@ use Rattle.zst_block.specs.Blocks.{FillsFree, Has, KeepsBlocks, SparesTaken}
 use Rattle.zst_block.specs.IoCalls.{HasCause, fails, is_damage}
 use Rattle.zst_dir.specs.Rows.{is_for}
 use Rattle.zst_image.specs.Commits.{Ready}
-use Rattle.zst_image.specs.Reads.{bound_of, free_by}
+use Rattle.zst_image.specs.Bodies.{free_by}
+use Rattle.zst_image.specs.Reads.{bound_of}
 use Rattle.zst_image.specs.declared.pool_state.PoolState.{PoolState}
 use Rattle.zst_model.specs.pools.Pool.{Pool}
 use Rattle.zst_plan.specs.declared.receive.RecvAsk.{RecvAsk}
-use Rattle.zst_pool.specs.Calls.{CallGrows, CanCommit, IsAtRest, IsCallFull, IsUnderWay}
+use Rattle.zst_pool.specs.Calls.{CallGrows, CanCommit, IsAtRest, IsUnderWay}
 use Rattle.zst_pool.specs.Partials.{without_unkept}
 use Rattle.zst_pool.specs.declared.fault.PoolFault.{PoolFault}
 use Rattle.zst_pool.specs.declared.fault.PoolFault.TheVariants as pools
-use Rattle.zst_pool.proofs.PoolsAtRest.{commit_still, rests_on, rests_still}
+use Rattle.zst_pool.proofs.PoolsAtRest.{commit_still, free_by_fits, rests_on, rests_still}
 use Rattle.zst_model.specs.declared.refusals.faults.Quantity.TheVariants as quantities
 use Rattle.zst_model.specs.declared.refusals.plan_fault.PlanFault.{PlanFault}
 use Rattle.zst_model.specs.declared.refusals.plan_fault.PlanFault.TheVariants as plans
@@ -33,7 +34,7 @@ use Rattle.zst_recv.specs.Feeds.{new_records}
 use Rattle.zst_recv.specs.GoingOn.{IsRow}
 use Rattle.zst_recv.specs.Commits.{Puts}
 use Rattle.zst_recv.specs.Damage.{ComesFrom, MakesStage}
-use Rattle.zst_recv.specs.Stages.{HasRead, IsBatch, IsStage, Receives, StageFits, TellsBefore, fed_of, has_partial, is_live, kept_without, received_at, waits_at}
+use Rattle.zst_recv.specs.Stages.{HasRead, IsBatch, IsStage, Receives, StageFits, TellsBefore, has_partial, is_live, kept_without, received_at, waits_at}
 use Rattle.zst_recv.specs.TakenRecords.{Reads, TakesAll, fault_in, taken_of}
 use Rattle.zst_recv.specs.declared.batch.Batch as batches
 use Rattle.zst_recv.specs.declared.recv.FeedReport as coded_recv
@@ -49,16 +50,16 @@ use Rattle.zst_recv.specs.declared.fault.RecvFault.{RecvFault}
 use Rattle.zst_recv.specs.declared.fault.RecvFault.TheVariants as faults
 use Rattle.zst_recv.proofs.DamageLemmas.{damaged_renewed, err_told, told_call}
 use Rattle.zst_recv.proofs.HandedRecords.{over_reads}
-use Rattle.zst_recv.proofs.FeedEnds.{behind_fits, both_false, by_test, fed_so, first_stage, first_way, fits_within, kept_is, known_call, left_rests, live_behind, live_fits, loose, lost, over_fits, received_for, received_then, stopped, too_long, unmade, untaken_stands, waits_behind}
+use Rattle.zst_recv.proofs.FeedEnds.{behind_fits, both_false, by_test, fed_so, first_stage, first_way, fits_within, kept_is, known_call, left_rests, live_behind, live_fits, loose, lost, no_memory, over_fits, received_for, received_then, stopped, too_long, unmade, untaken_stands, waits_behind}
 use Rattle.zst_stream.specs.Reading.{reading, waiting}
 use Rattle.zst_recv.specs.Costs.{PieceIsShort, Spends, records_behind}
-use Rattle.zst_recv.proofs.CostLemmas.{full_keeps_none, piece_grows, same_pool, short_put, short_read}
-use Rattle.zst_recv.specs.Plans.{RefusesEach, RefusesOne, is_planned}
+use Rattle.zst_recv.proofs.CostLemmas.{full_keeps_none, piece_grows, same_pool, short_read}
+use Rattle.zst_recv.specs.Plans.{RefusesEach, is_planned}
 use Rattle.zst_recv.proofs.KeptBlocks.{keeps_behind, partial_begun}
 use Rattle.zst_recv.proofs.LeftRows.{ends_leave, row_behind}
 use Rattle.zst_recv.proofs.SetOrigins.{comes_renewed, keeps_spared, keeps_written, makes_behind, piece_made}
 use Rattle.zst_recv.proofs.PlanRefusals.{both_planned, call_unplanned, over_waits, waits_ahead, waits_kept}
-use Rattle.zst_recv.proofs.recv.Recv.feed.Answers.Pieces.{can_commit, read_fits, read_failed, read_told, read_cause, read_honest, read_same, read_fills, read_stood, taken_begun, put_blocks, began_at, read_comes}
+use Rattle.zst_recv.proofs.recv.Recv.feed.Answers.Pieces.{at_err, renewed, can_commit, read_fits, read_failed, read_told, read_cause, read_honest, read_same, read_fills, read_stood, read_extents, taken_begun, put_blocks, began_at, read_comes, not_long, planned_so, short_by}
 use Rattle.zst_recv.proofs.recv.Recv.feed.Given.{Over}
 use Rattle.zst_recv.proofs.AnsweredFaults.{feed_answer, put_answer, put_told, read_answer, still_idle}
 use Rattle.zst_recv.proofs.recv.Recv.feed.Goals as goal
@@ -83,8 +84,8 @@ reads_piece g c tight running text stage result was honest rested tells is =
     let recv = c.args.self.now in
     let bound = bound_of tight (running.number + 1) in
     let disk = ap (λ (d : g.row.D.Denot). g.D.Disk.state d) c.renew.ensures.disk.now in
-    let way = first_way old one kept same space disk c.renew.ensures.kept c.renew.ensures.space running rested in
-    let stands = first_stage old one kept same space disk c.renew.ensures.kept c.renew.ensures.space tight running.number recv.stage stage is.stands in
+    let way = first_way old one kept same space disk c.renew.ensures.kept (renewed g c) running rested in
+    let stands = first_stage old one kept same space disk c.renew.ensures.kept (renewed g c) tight running.number recv.stage stage is.stands in
     let plain = c.new-batch.ensures.batch bound one.seen space stage (subst (λ (s : coded.Stage). IsStage bound (Has one.seen space) s stage) (sym c.replace.ensures.value) stands) in
     let read = c.read.ensures.read tight c.args.pool.now.io.disk.now running (at_stage stage) text is.handed honest way (subst (λ (k : PoolState). TellsBefore recv.ask stage k.dir running) (sym c.renew.ensures.kept) tells) is.reads plain in
     record {
@@ -133,6 +134,17 @@ returns-then-piece-started-clause-feeds g c = λ tight running text stage told a
     too_long tight old (g.D.Disk.state c.give_up.new.pool.io.disk.now) c.give_up.new.pool.kept c.give_up.new.self text c.args.piece.now stage running last
     (left g at.After-has_partial-held running text stage is old c.give_up.new.pool.kept (c.give_up.ensures.rests tight c.args.pool.now.io.disk.now running rested))
     (omega (arith, c.if-piece-started.true, c.pushed-started.ensures, is.reads.stands.pushed)) c.give_up.result (c.give_up.ensures.fault ∙ c.too_long.ensures)
+
+pub returns-then-is_err-clause-feeds : goal.returns-then-is_err-clause-feeds
+returns-then-is_err-clause-feeds g c = λ tight running text stage told alive rested tells is.
+    let at = goal.at.returns-then-is_err-clause-feeds g c in
+    let gave = c.give_up-then-is_err in
+    let pool = c.args.pool.now in
+    let old = g.D.Disk.state pool.io.disk.now in
+    let last = ap (λ (io : _). g.D.Disk.state io.disk.now) gave.ensures.io ∙ ap (λ (d : g.row.D.Denot). g.D.Disk.state d) c.renew.ensures.disk.now in
+    let rests = subst (λ (k : PoolState). IsAtRest tight old k running) (sym c.renew.ensures.kept) rested in
+    no_memory tight old (g.D.Disk.state gave.new.pool.io.disk.now) gave.new.pool.kept gave.new.self text c.args.piece.now stage running last
+    (left g at.After-has_partial-held running text stage is old gave.new.pool.kept (gave.ensures.rests tight pool.io.disk.now running rests)) gave.result gave.ensures.fault
 
 pub returns-in-Err-2-clause-feeds : goal.returns-in-Err-2-clause-feeds
 returns-in-Err-2-clause-feeds g c = λ tight running text stage told alive rested tells is.
@@ -248,6 +260,9 @@ returns-in-Ok-put-clause-feeds g c = λ tight running text stage told alive rest
     (λ read all stands over. c.go_on.ensures.front read all stands over ∙ ap (λ (n : ℕ). sum_by (λ c. size_of c.head) all - n) (c.pushed-started.ensures ∙ is.reads.stands.pushed))
     c.go_on.ensures.applied c.go_on.ensures.point c.go_on.ensures.done
 
+pub renew-requires : goal.renew-requires
+renew-requires g c = record { fits = free_by_fits (g.D.Disk.state c.args.pool.now.io.disk.now) c.args.pool.now.kept.body (c.requires.ready c.if-pool.false) }
+
 pub put-requires-clause-stage : goal.put-requires-clause-stage
 put-requires-clause-stage g c = (c.args.self.now.ask.target, read_fits g (goal.at.put-requires-clause-stage g c).After-read)
 
@@ -270,31 +285,6 @@ read-requires-clause-stage g c =
     subst (λ (k : PoolState). StageFits k.dir recv.ask.target c.new-batch.result.stage) (sym c.renew.ensures.kept)
     (subst (StageFits c.args.pool.now.kept.dir recv.ask.target) (sym (c.new-batch.ensures.stage ∙ c.replace.ensures.value)) fits)
 
--- a piece whose commit found no room is short of it
-short_by : (g : Over) (c : After-read g) (text : List ℕ) (handed : List Covered) (need largest : ℕ) (after last : FreeSectors) → StandsFor c.args.self.now.reader text handed → IsCallFull c.read.new.io.space after c.renew.new.self.kept.dir need largest → last ≡ after
-    → PieceIsShort (records_behind handed (text ++ c.args.piece.now)) c.args.pool.now.kept last need largest
-short_by g c text handed need largest after last stands full same =
-    let records = records_behind handed (text ++ c.args.piece.now) in
-    let kept = c.args.pool.now.kept in
-    let spends = subst (λ (s : FreeSectors). Spends records s c.read.new.io.space (stop_of c.read.result)) c.renew.ensures.space (c.read.ensures.spends text handed stands) in
-    subst (λ (s : FreeSectors). PieceIsShort records kept s need largest) (sym same)
-    (short_put records kept c.read.new.io.space after (stop_of c.read.result) need largest spends (subst (λ (k : PoolState). IsCallFull c.read.new.io.space after k.dir need largest) c.renew.ensures.kept full))
-
--- a piece that is read makes the stream no longer than one may be
-not_long : (g : Over) (c : After-read g) → stream_limit < fed_of c.args.self.now + length c.args.piece.now → ⊥
-not_long g c more =
-    let within = fits_within c.args.pool.now.kept.dir c.args.self.now c.requires.recv in
-    omega (arith, c.if-piece-started.false, c.pushed-started.ensures, within, more)
-
--- where BEGIN is covered, and its plan refuses the pool, that is what the reading answers, and the batch still waits
-planned_so : (g : Over) (c : After-read g) (text : List ℕ) (handed : List Covered) (fault : PlanFault) → StandsFor c.args.self.now.reader text handed → waits_at c.args.self.now.stage ≡ true → (reading text).covered ≡ []
-    → length (text ++ c.args.piece.now) ≤ stream_limit → RefusesOne c.args.pool.now.kept.dir c.args.self.now.ask (text ++ c.args.piece.now) fault
-    → (c.read.result ≡ Err (faults.Pool (pools.Plan fault))) × (waits_at c.read.new.batch.stage ≡ true)
-planned_so g c text handed fault stands waits none within refuses =
-    let at : waits_at c.new-batch.result.stage ≡ true = ap waits_at (c.new-batch.ensures.stage ∙ c.replace.ensures.value) ∙ waits in
-    let here = subst (λ (k : PoolState). RefusesOne k.dir c.args.self.now.ask (text ++ c.args.piece.now) fault) (sym c.renew.ensures.kept) refuses in
-    ((c.read.ensures.texts text handed stands).planned fault at none within here, (c.read.ensures.leaves text handed stands).refused fault at none here)
-
 -- ---- the pool had failed
 
 pub returns-then-pool-clause-texts : goal.returns-then-pool-clause-texts
@@ -306,7 +296,7 @@ returns-then-pool-clause-costs g c = λ text handed stands. record { short = λ 
 -- ---- the stream would be too long
 
 pub returns-then-piece-started-clause-texts : goal.returns-then-piece-started-clause-texts
-returns-then-piece-started-clause-texts g c = λ alive text handed stands.
+returns-then-piece-started-clause-texts g c = λ alive ample text handed stands.
     let told = c.give_up.ensures.fault ∙ c.too_long.ensures in
     record {
       stream = λ fault is. absurd (cc (told, is));
@@ -324,10 +314,51 @@ returns-then-piece-started-clause-costs g c = λ text handed stands.
     let told = c.give_up.ensures.fault ∙ c.too_long.ensures in
     record { short = λ need largest is. absurd (cc (told, is)); grows = tt }
 
+-- ---- no memory was left for the free extents
+
+pub returns-then-is_err-clause-texts : goal.returns-then-is_err-clause-texts
+returns-then-is_err-clause-texts g c = λ alive ample. absurd (ample (let gave = c.give_up-then-is_err in ap feed_answer gave.ensures.fault))
+
+pub returns-then-is_err-clause-costs : goal.returns-then-is_err-clause-costs
+returns-then-is_err-clause-costs g c = λ text handed stands.
+    let told = (let gave = c.give_up-then-is_err in gave.ensures.fault) in
+    record { short = λ need largest is. absurd (cc (told, is)); grows = tt }
+
+pub returns-then-is_err-clause-traces : goal.returns-then-is_err-clause-traces
+returns-then-is_err-clause-traces g c = λ text handed stands honest.
+    let told = (let gave = c.give_up-then-is_err in gave.ensures.fault) in
+    record { damaged = λ alive sector stated found is. absurd (cc (told, is)); makes = λ goes. absurd (cc goes) }
+
+pub returns-then-is_err-clause-leaves : goal.returns-then-is_err-clause-leaves
+returns-then-is_err-clause-leaves g c =
+    let at = goal.at.returns-then-is_err-clause-leaves g c in
+    let gave = c.give_up-then-is_err in
+    let pool = c.args.pool.now in
+    let recv = c.args.self.now in
+    let kept = c.renew.new.self.kept in
+    let fault = faults.Pool pools.OutOfMemory in
+    let io = gave.ensures.io ∙ ap (λ (p : _). p.io) (at_err c.renew.result (sym c.is_err.ensures.value ∙ c.if-is_err.true) c.renew.ensures.unchanged) in
+    let body = gave.ensures.body ∙ ap (λ (k : PoolState). k.body) c.renew.ensures.kept in
+    record {
+      kept = record {
+        waits = λ waits. absurd (over_waits gave.new.self.stage gave.ensures.over waits);
+        refused = λ alive keeps. left_kept g at.After-has_partial-held kept gave.new.pool.kept gave.ensures.kept c.renew.ensures.kept;
+      };
+      pool =
+          subst (λ (f : RecvFault). LeavesPool pool gave.new.pool (Err f)) (sym gave.ensures.fault)
+          (leaves_body pool gave.new.pool c.if-pool.false fault pool.io io tt body
+          (λ alive. subst (Ready (g.D.Disk.state pool.io.disk.now)) (sym body) (c.requires.ready c.if-pool.false)) (λ whole. refl) c.if-pool.false (record { later = omega arith; fault = λ is. absurd (cc is) }) (λ told. told) refl (λ apart ptr bytes has. has) refl);
+      long = λ alive more. absurd (let within = fits_within pool.kept.dir recv c.requires.recv in omega (arith, c.if-piece-started.false, c.pushed-started.ensures, within, more));
+      rows = record { others = left_others g at.After-has_partial-held kept gave.new.pool.kept gave.ensures.kept c.renew.ensures.kept; own = λ stood goes. absurd (cc goes) };
+      receive =
+          receive_over gave.new.pool.kept.dir c.args.piece.now recv gave.new.self gave.result gave.ensures.ask gave.ensures.over
+          (over_fits _ gave.new.self recv.reader gave.ensures.over gave.ensures.reader (over_reads _ recv.stage c.requires.recv.reads));
+    }
+
 -- ---- the piece wasn't read, and no record of it stays
 
 pub returns-in-Err-2-clause-texts : goal.returns-in-Err-2-clause-texts
-returns-in-Err-2-clause-texts g c = λ alive text handed stands.
+returns-in-Err-2-clause-texts g c = λ alive ample text handed stands.
     let gave = c.give_up-in-Err-2 in
     let t = c.in-Err.ensures.texts text handed stands in
     let was = λ (fault : RecvFault) (is : feed_answer gave.result ≡ feed_answer fault). ap read_answer (sym gave.ensures.fault ∙ err_told coded_recv.FeedReport _ _ is) in
@@ -355,7 +386,7 @@ returns-in-Err-2-clause-costs g c = λ text handed stands.
       short = λ need largest is.
           let full = ap stop_at (sym gave.ensures.fault ∙ err_told coded_recv.FeedReport _ _ is) in
           let told = c.in-Err.ensures.writes.fills.full need largest full in
-          let spends = subst (λ (s : FreeSectors). Spends records s c.read.new.io.space (stop_at c.in-Err.fault)) c.renew.ensures.space (c.in-Err.ensures.spends text handed stands) in
+          let spends = subst (λ (s : FreeSectors). Spends records s c.read.new.io.space (stop_at c.in-Err.fault)) (renewed g (goal.at.returns-in-Err-2-clause-costs g c).After-read) (c.in-Err.ensures.spends text handed stands) in
           subst (λ (s : FreeSectors). PieceIsShort records kept s need largest) (sym (ap (λ (io : _). io.space) gave.ensures.io))
           (short_read records kept c.read.new.io.space (stop_at c.in-Err.fault) need largest full told.0 told.1 spends);
       grows = tt;
@@ -364,7 +395,7 @@ returns-in-Err-2-clause-costs g c = λ text handed stands.
 -- ---- its commit was refused
 
 pub returns-in-Err-put-clause-texts : goal.returns-in-Err-put-clause-texts
-returns-in-Err-put-clause-texts g c = λ alive text handed stands.
+returns-in-Err-put-clause-texts g c = λ alive ample text handed stands.
     let gave = c.give_up-in-Err-put in
     record {
       stream = λ fault is. absurd (cc (gave.ensures.fault, is));
@@ -392,7 +423,7 @@ returns-in-Err-put-clause-costs g c = λ text handed stands.
 -- ---- the commit of the records before a fault was refused
 
 pub returns-in-Err-put-2-clause-texts : goal.returns-in-Err-put-2-clause-texts
-returns-in-Err-put-2-clause-texts g c = λ alive text handed stands.
+returns-in-Err-put-2-clause-texts g c = λ alive ample text handed stands.
     let gave = c.give_up-in-Err-put-2 in
     record {
       stream = λ fault is. absurd (cc (gave.ensures.fault, is));
@@ -420,7 +451,7 @@ returns-in-Err-put-2-clause-costs g c = λ text handed stands.
 -- ---- the records before a fault were committed
 
 pub returns-in-Ok-put-2-clause-texts : goal.returns-in-Ok-put-2-clause-texts
-returns-in-Ok-put-2-clause-texts g c = λ alive text handed stands.
+returns-in-Ok-put-2-clause-texts g c = λ alive ample text handed stands.
     let t = c.in-Err.ensures.texts text handed stands in
     let was = λ (fault : RecvFault) (is : feed_answer c.in-Err.fault ≡ feed_answer fault). ap read_answer (err_told coded_recv.FeedReport _ _ is) in
     record {
@@ -448,7 +479,7 @@ returns-in-Ok-put-2-clause-costs g c = λ text handed stands.
 -- ---- all of it was taken and committed
 
 pub returns-in-Ok-put-clause-texts : goal.returns-in-Ok-put-clause-texts
-returns-in-Ok-put-clause-texts g c = λ alive text handed stands.
+returns-in-Ok-put-clause-texts g c = λ alive ample text handed stands.
     let batch = c.read.new.batch in
     let recv = c.args.self.now in
     let t = c.in-Ok.ensures.texts text handed stands in
@@ -470,11 +501,11 @@ returns-in-Ok-put-clause-texts g c = λ alive text handed stands.
 pub returns-in-Ok-put-clause-costs : goal.returns-in-Ok-put-clause-costs
 returns-in-Ok-put-clause-costs g c = λ text handed stands.
     let records = records_behind handed (text ++ c.args.piece.now) in
-    let spends = subst (λ (s : FreeSectors). Spends records s c.read.new.io.space None) c.renew.ensures.space (c.in-Ok.ensures.spends text handed stands) in
+    let spends = subst (λ (s : FreeSectors). Spends records s c.read.new.io.space None) (renewed g (goal.at.returns-in-Ok-put-clause-costs g c).After-read) (c.in-Ok.ensures.spends text handed stands) in
     record {
       short = λ need largest is. absurd (cc is);
       grows =
-          piece_grows records c.args.pool.now.kept c.put.new.pool.kept c.read.new.io.space spends.takes c.read.new.io.fits.extents.end
+          piece_grows records c.args.pool.now.kept c.put.new.pool.kept c.read.new.io.space spends.takes
           (subst (λ (k : PoolState). (c.put.new.pool.kept ≡ k) ⊎ CallGrows c.read.new.io.space k c.put.new.pool.kept) c.renew.ensures.kept c.in-Ok-put.ensures.commits.grows);
     }
 
@@ -517,7 +548,7 @@ returns-in-Err-2-clause-traces g c = λ text handed stands honest. record {
       let now = subst (λ (d : DiskState). d.honest) last honest in
       let told = (c.in-Err.ensures.leaves text handed stands).damaged sector stated found now (ap (λ (f : RecvFault). Err f) (sym gave.ensures.fault ∙ err_told coded_recv.FeedReport _ _ is)) in
       damaged_renewed (g.D.Disk.state c.args.pool.now.io.disk.now) (g.D.Disk.state c.renew.new.self.io.disk.now) c.renew.new.self.io.space c.args.pool.now.kept c.renew.new.self.kept c.args.self.now.ask (text ++ c.args.piece.now) c.new-batch.result.stage c.args.self.now.stage sector stated found
-      (ap (λ (d : g.row.D.Denot). g.D.Disk.state d) c.renew.ensures.disk.now) c.renew.ensures.space c.renew.ensures.kept (began_at g (goal.at.returns-in-Err-2-clause-traces g c).After-read) told;
+      (ap (λ (d : g.row.D.Denot). g.D.Disk.state d) c.renew.ensures.disk.now) (renewed g (goal.at.returns-in-Err-2-clause-traces g c).After-read) c.renew.ensures.kept (began_at g (goal.at.returns-in-Err-2-clause-traces g c).After-read) told;
   makes = λ goes. absurd (cc goes);
 }
 
@@ -692,7 +723,7 @@ returns-in-Ok-put-2-clause-leaves g c =
           (subst (HasCause (g.D.Disk.state pool.io.disk.now).faults (g.D.Disk.state put.io.disk.now).faults) (sym none)
           (cause_none (g.D.Disk.state pool.io.disk.now).faults (g.D.Disk.state c.read.new.io.disk.now).faults (g.D.Disk.state put.io.disk.now).faults _ why.later e.cause)) (λ told. read_honest g read (e.honest told)) (e.same ∙ read_same g read)
           (λ apart. put_blocks g read put.io.disk.now put.kept c.put-in-Err.ensures.idle (λ taken. (c.in-Ok-put-2.ensures.free taken (taken_begun g read taken)).1))
-          (λ apart. read_stood g read (g.D.Disk.state put.io.disk.now) (e.stood (λ told. absurd (cc told)))) (e.size ∙ fills.size);
+          (λ apart. read_stood g read (g.D.Disk.state put.io.disk.now) (e.stood (λ told. absurd (cc told)))) (λ apart has. e.extents (read_extents g read has)) (e.size ∙ fills.size);
       long = λ alive more. absurd (not_long g read more);
       rows = record { others = λ other apart. rows.others other apart ∙ ap (λ (k : PoolState). find (is_for other) k.dir.partials) c.renew.ensures.kept; own = λ stood goes. absurd (cc goes) };
       receive = receive_over put.kept.dir c.args.piece.now recv after fault refl c.replace.ensures.after (over_fits _ after c.read.new.reader c.replace.ensures.after refl c.read.ensures.takes.reads);
@@ -728,7 +759,7 @@ returns-in-Ok-put-clause-leaves g c =
           (put_blocks g read put.io.disk.now put.kept c.put.ensures.idle (λ taken. (c.in-Ok-put.ensures.free taken (taken_begun g read taken)).1))
           e.ready (e.told refl ∙ read_told g read (ap (λ (r : Result (Unit {0}) RecvFault). is_damage (stop_of r)) c.in-Ok.is)) e.failed
           (cause_none (g.D.Disk.state pool.io.disk.now).faults (g.D.Disk.state c.read.new.io.disk.now).faults three.faults _ why.later e.cause) (λ told. read_honest g read (e.honest told)) (e.same ∙ read_same g read)
-          (read_stood g read three (e.stood (λ told. absurd (cc told)))) (e.size ∙ fills.size);
+          (read_stood g read three (e.stood (λ told. absurd (cc told)))) (λ has. e.extents (read_extents g read has)) (e.size ∙ fills.size);
       long = λ alive more. absurd (not_long g read more);
       rows = record {
         others = λ other apart. rows.others other apart ∙ ap (λ (k : PoolState). find (is_for other) k.dir.partials) c.renew.ensures.kept;
