@@ -27,7 +27,7 @@ use Rattle.zst_script.specs.declared.event.Side.{Side}
 use Rattle.zst_script.specs.declared.event.Side.TheVariants.{Here, There}
 use Rattle.zst_sessions.specs.Lawfulness.{IsWorld, MovesKeepWorlds}
 use Rattle.zst_sessions.specs.Moves.{Answer, Moved, cut_off, ended, fed_to, feeding, if_new_receive, in_the_way, moved, most_receives, most_sends, no_session, on_receive, on_send, opened_receive, opened_send, pumped, refuses, resumed, stepped_to, told_by}
-use Rattle.zst_sessions.specs.Replay.{AsDefined, DiskFails, Fails, FeedFails, FindsNoMemory, FindsNoRoom, GoesOn, LosesDisk, Moves, Replay, Stays, TakeFails, given_up, given_up_pump}
+use Rattle.zst_sessions.specs.Replay.{AsDefined, DiskFails, Fails, FeedFails, FindsNoMemory, FindsNoRoom, GoesOn, LosesDisk, Moves, Replay, Stays, TakeFails, given_up, given_up_pump, TakesNoPiece}
 use Rattle.zst_sessions.specs.World.{OpenPool, OpenReceive, OpenSend, World, at_side, gone_on, held_at, is_side, is_used, left_of, moved_to, next_piece, other_side, put_receive, put_send, put_side, receive_with, send_with, without_receive}
 use Rattle.zst_token.specs.declared.token.Token.{Token}
 use Rattle.zst_interleaving.specs.LawfulFeeds.{FeedsKeepLawful, IsAsk}
@@ -284,6 +284,7 @@ module _ (steps : StepsKeepPools) (feeds : FeedsKeepLawful) (sent_bytes : SentAr
   event_keeps event answer next words (AsDefined told left) = subst IsLawfulWorld (sym left) (moved_keeps event words)
   event_keeps event answer next words (FindsNoRoom need largest told less may left) = subst IsLawfulWorld (sym left) (given_up_keeps event)
   event_keeps event answer next words (FindsNoMemory told left) = subst IsLawfulWorld (sym left) (given_up_keeps event)
+  event_keeps event answer next words (TakesNoPiece from into most which told left) = subst IsLawfulWorld (sym left) is
   event_keeps event answer next words (LosesDisk told fails) = lost_keeps event next words fails
 
 pub moves_lawful : StepsKeepPools → FeedsKeepLawful → SentAreBytes → RestsAreBytes → MovesKeepLawful

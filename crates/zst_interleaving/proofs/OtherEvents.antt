@@ -21,7 +21,7 @@ use Rattle.zst_send.specs.Openings.{rest_of}
 use Rattle.zst_token.specs.declared.token.Token.{Token}
 use Rattle.zst_sessions.specs.World.{OpenPool, OpenReceive, OpenSend, World, at_side, other_side, is_side, gone_on, held_at, is_used, moved_to, next_piece, put_receive, put_send, put_side, receive_with, send_with, with_running, without_receive}
 use Rattle.zst_sessions.specs.Moves.{Moved, ended, fed_to, feeding, if_new_receive, if_new_send, in_the_way, most_receives, most_sends, moved, no_session, on_receive, on_send, opened_send, refuses, resumed, stepped_to, told_by}
-use Rattle.zst_sessions.specs.Replay.{AsDefined, DiskFails, Fails, FindsNoMemory, FindsNoRoom, LosesDisk, given_up, given_up_pump}
+use Rattle.zst_sessions.specs.Replay.{AsDefined, DiskFails, Fails, FindsNoMemory, FindsNoRoom, LosesDisk, given_up, given_up_pump, TakesNoPiece}
 use Rattle.zst_interleaving.specs.Events.{FeedsOrEnds, ReceivesStay}
 
 -- ---- lists
@@ -245,4 +245,5 @@ pub receives_stay : ReceivesStay
 receives_stay now world next event answer id receive (AsDefined a is) found = subst (λ (w : World). Stays id receive event w.receives) (sym is) (moved_stays id receive now event world found)
 receives_stay now world next event answer id receive (FindsNoRoom need largest a less may is) found = subst (λ (w : World). Stays id receive event w.receives) (sym is) (given_up_stays id receive event world found)
 receives_stay now world next event answer id receive (FindsNoMemory a is) found = subst (λ (w : World). Stays id receive event w.receives) (sym is) (given_up_stays id receive event world found)
+receives_stay now world next event answer id receive (TakesNoPiece from into most which a is) found = subst (λ (w : World). Stays id receive event w.receives) (sym is) (inl found)
 receives_stay now world next event answer id receive (LosesDisk a fails) found = lost_stays id receive now event world next fails found

@@ -19,7 +19,7 @@ use Rattle.zst_script.specs.declared.event.Event.TheVariants as events
 use Rattle.zst_script.specs.declared.event.Side.{Side}
 use Rattle.zst_script.specs.declared.event.Side.TheVariants.{Here, There}
 use Rattle.zst_sessions.specs.Moves.{Answer, Moved, cut_off, fed_to, feeding, if_works, moved, no_session, on_receive, pumped, refuses}
-use Rattle.zst_sessions.specs.Replay.{AsDefined, DiskFails, Fails, FindsNoMemory, FindsNoRoom, LosesDisk, Moves, given_up, given_up_pump, image_of}
+use Rattle.zst_sessions.specs.Replay.{AsDefined, DiskFails, Fails, FindsNoMemory, FindsNoRoom, LosesDisk, Moves, given_up, given_up_pump, image_of, TakesNoPiece}
 use Rattle.zst_sessions.specs.World.{OpenPool, OpenReceive, OpenSend, World, at_side, gone_on, moved_to, next_piece, put_receive, put_send, put_side, receive_with, send_with, with_running, without_receive}
 use Rattle.zst_interleaving.specs.Courses.{IsOnCourse}
 use Rattle.zst_interleaving.specs.Events.{IsOnCourseIn, PumpsAreProgress, PumpsComplete, PumpsStayOnCourse}
@@ -131,6 +131,7 @@ module _ (now : ℕ) (world : World) (sends receives count : ℕ) (send : OpenSe
       by_pump next answer (AsDefined a is) = subst (λ (w : World). P (image_of receive.side w)) (sym is) by_moved
       by_pump next answer (FindsNoRoom need largest a less may is) = subst (λ (w : World). P (image_of receive.side w)) (sym is) by_given_up
       by_pump next answer (FindsNoMemory a is) = subst (λ (w : World). P (image_of receive.side w)) (sym is) by_given_up
+      by_pump next answer (TakesNoPiece from into most which a is) = subst (λ (w : World). P (image_of receive.side w)) (sym is) same
       by_pump next answer (LosesDisk a fails) = go fails
         where
           go : DiskFails now pump world next → P (image_of receive.side next)
@@ -242,6 +243,8 @@ module _ (now : ℕ) (world : World) (sends receives count : ℕ) (send : OpenSe
   pump_after next answer after (AsDefined a is) e = subst (λ (w : World). StandsAfter w after) (sym is) (moved_after after (subst (λ (w : World). receive_with receives w ≡ Some after) is e))
   pump_after next answer after (FindsNoRoom need largest a less may is) e = absurd (given_up_gone after (subst (λ (w : World). receive_with receives w ≡ Some after) is e))
   pump_after next answer after (FindsNoMemory a is) e = absurd (given_up_gone after (subst (λ (w : World). receive_with receives w ≡ Some after) is e))
+  pump_after next answer after (TakesNoPiece from into most which a is) e =
+      inl (same_Some after receive (sym (subst (λ (w : World). receive_with receives w ≡ Some after) is e) ∙ there), ap (λ (w : World). (at_side receive.side w).pool) is)
   pump_after next answer after (LosesDisk a fails) e = go fails
     where
       go : DiskFails now (events.Pump sends receives count) world next → StandsAfter next after
@@ -275,6 +278,7 @@ module _ (now : ℕ) (world : World) (sends receives count : ℕ) (send : OpenSe
           ∙ fed_pool receive piece (applied_of receive.ask receive.text piece receive.stage (at_side receive.side world).pool) taken (feeding receive.ask receive.text piece receive.stage (at_side receive.side world).pool)
   pump_answered next lines (FindsNoRoom need largest a less may is) = absurd cc
   pump_answered next lines (FindsNoMemory a is) = absurd cc
+  pump_answered next lines (TakesNoPiece from into most which a is) = absurd cc
   pump_answered next lines (LosesDisk a fails) = absurd cc
 
 pub pumps_stay : FeedsStayOnCourse → PumpsStayOnCourse

@@ -9,7 +9,8 @@ use Rattle.zst_dir.proofs.Matches.{Match-alike}
 use Rattle.zst_dir.specs.RowNames.{AreNamed, NamesSnapshot}
 use Rattle.zst_dir.specs.Rows.{Rows}
 use Rattle.zst_dir.specs.declared.rows.Snapshot.{Snapshot as Row}
-use Rattle.zst_image.specs.Reads.{RunsBy, free_by}
+use Rattle.zst_image.specs.Bodies.{free_by}
+use Rattle.zst_image.specs.Reads.{RunsBy}
 use Rattle.zst_image.specs.declared.pool_state.PoolState.{PoolState}
 use Rattle.zst_laws.specs.SendPlans.{PlansAreOfPool}
 use Rattle.zst_model.specs.declared.refusals.plan_fault.PlanFault.{PlanFault}
@@ -117,7 +118,7 @@ module _ {D : Type 0} {g : Ghosts D} (old mid : Pool D g) (same : SameDisk old.i
   named_still : (running : Plain) → IsAtRest true (disk_of old.io) old.kept running → AreNamed mid.kept.dir running
   named_still running rest = subst (λ (state : PoolState). AreNamed state.dir running) (sym kept) (rest_named (disk_of old.io) old.kept running rest).are_named
 
-  number_is : (running : Plain) → IsAtRest true (disk_of old.io) old.kept running → old.kept.body.number ≡ running.number
+  number_is : (running : Plain) → IsAtRest true (disk_of old.io) old.kept running → old.kept.body.uber.number ≡ running.number
   number_is running rest = sym (rest_named (disk_of old.io) old.kept running rest).number
 
   -- and what each send needs stands
@@ -140,7 +141,7 @@ module _ {D : Type 0} {g : Ghosts D} (old mid : Pool D g) (same : SameDisk old.i
     space_is = reads.looks.space ∙ space ∙ ap (λ (state : PoolState). free_by state.body) (sym kept ∙ sym reads.kept)
 
     -- a send by names
-    pub begun_named : RowsStandForSends → PlansAreOfPool → (ask : SendAsk) (name : List ℕ) → name ≡ ask.snap → (count : ℕ) → count ≡ old.kept.body.number
+    pub begun_named : RowsStandForSends → PlansAreOfPool → (ask : SendAsk) (name : List ℕ) → name ≡ ask.snap → (count : ℕ) → count ≡ old.kept.body.uber.number
         → ((running : Plain) → IsHonest new.io → mid.io.failed ≡ false → AreNamed mid.kept.dir running → StandsPlanned (blocks_of mid.io) mid.kept.dir running (send_plan ask running) → Opens (blocks_of new.io) ask running result)
         → BeginsOn None (λ running. with_list (send_plan ask running)) (kept_pool old) (kept_pool new) (with_begun name count result)
     begun_named law planned ask name asked count counted opens running honest alive rest =
@@ -150,7 +151,7 @@ module _ {D : Type 0} {g : Ghosts D} (old mid : Pool D g) (same : SameDisk old.i
 
     -- the rest of one
     pub begun_rest : RowsStandForSends → (token : Token) (plan : SendPlan) → AnswersPlan {E = PlanFault} mid.kept.dir (rest_of token) (Ok plan) → (row : Row) → get_or mid.kept.dir.snapshots plan.snap row ≡ row
-        → (name : List ℕ) → name ≡ row.name → (count : ℕ) → count ≡ old.kept.body.number
+        → (name : List ℕ) → name ≡ row.name → (count : ℕ) → count ≡ old.kept.body.uber.number
         → ((running : Plain) (sent : Sent) → IsHonest new.io → mid.io.failed ≡ false → AreNamed mid.kept.dir running → IsPlanOf mid.kept.dir running plan sent → StandsSent (blocks_of mid.io) mid.kept.dir running sent
         → Resumes (blocks_of new.io) sent token.point result)
         → BeginsOn (Some token.point) (λ running. with_list (rest_of token running)) (kept_pool old) (kept_pool new) (with_begun name count result)

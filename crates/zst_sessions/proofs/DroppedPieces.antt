@@ -19,8 +19,8 @@ use Rattle.zst_sessions.specs.EngineSteps.{EngineFits, StepsEngine, kept_pool}
 use Rattle.zst_sessions.specs.Engines.{BeforeOrAfter, Kept, SendStandsOn, Steps, kept_at}
 use Rattle.zst_sessions.specs.EventReplies.{answer_of}
 use Rattle.zst_sessions.specs.Moves.{Moved, answers, if_works, moved, no_session, on_send, refuses, took}
-use Rattle.zst_sessions.specs.Replay.{AsDefined, LosesDisk, Moves, image_of}
-use Rattle.zst_sessions.specs.Takes.{Gives, HadFailed, Loses, TakeEnds, Takes, TakesAt}
+use Rattle.zst_sessions.specs.Replay.{AsDefined, LosesDisk, Moves, image_of, FindsNoMemory}
+use Rattle.zst_sessions.specs.Takes.{Gives, HadFailed, Loses, TakeEnds, Takes, TakesAt, Starves}
 use Rattle.zst_sessions.specs.World.{OpenSend, World, at_side, gone_on, next_piece, put_send, send_with}
 use Rattle.zst_sessions.specs.declared.engine.Engine.{Engine}
 use Rattle.zst_sessions.specs.declared.event_reply.EventReply.{EventReply}
@@ -77,6 +77,7 @@ module _ (now id count : ℕ) (world : World) where
       (ap (λ (r : Result ℕ Refusal). answer_of (dropped r)) is ∙ ap (λ (n : ℕ). Ok (took n ∷ [])) count_is ∙ sym (ap (λ (m : Moved). m.answer) way))
       (next_is ∙ sym (ap (λ (m : Moved). m.world) way))
   drop_moves send room result next found (Loses is works fails) = LosesDisk (ap (λ (r : Result ℕ Refusal). answer_of (dropped r)) is) (send, found, fails)
+  drop_moves send room result next found (Starves is works next_is) = FindsNoMemory (ap (λ (r : Result ℕ Refusal). answer_of (dropped r)) is) next_is
   drop_moves send room result next found (HadFailed is fell next_is) =
       let way = found_drop send found ∙ works_not send.side world (answers (took (length (next_piece count send))) (put_send (gone_on count send) world)) fell in
       AsDefined (ap (λ (r : Result ℕ Refusal). answer_of (dropped r)) is ∙ sym (ap (λ (m : Moved). m.answer) way)) (next_is ∙ sym (ap (λ (m : Moved). m.world) way))

@@ -516,7 +516,7 @@ module _ {D E : Type 0} {g : Ghosts D} {h : Ghosts E} where
           (no_memory (subst (λ (f : PoolFault). LooksAtSide {T = Awaited} side old mid (Err f)) (is works) looks))
 
       module _ (begun : Awaited) (new : Engine D E g h) (result : Result EventReply Refusal) (looks : LooksAtSide side old mid (Ok begun))
-          (fresh : IsFresh (kept_on side old).state.dir ask begun.recv) (numbered : begun.number ≡ (kept_on side old).state.body.number)
+          (fresh : IsFresh (kept_on side old).state.dir ask begun.recv) (numbered : begun.number ≡ (kept_on side old).state.body.uber.number)
           (apart : All (λ one. one.side ≡ side → target_of one ≢ ask.target) old.receives.items)
           (adds : AddsReceive (awaited side id begun.recv) begun.number mid.receives.items new.receives.items result) where
         abbrev with_received : Engine D E g h

@@ -10,7 +10,7 @@ use Rattle.zst_block.specs.Blocks.{Has}
 use Rattle.zst_block.specs.IoCalls.{fails}
 use Rattle.zst_block.specs.IoStates.{IsHonest, disk_of}
 use Rattle.zst_block.specs.declared.fault.BlockFault.{BlockFault}
-use Rattle.zst_image.specs.Reads.{free_by}
+use Rattle.zst_image.specs.Bodies.{free_by}
 use Rattle.zst_model.specs.declared.refusals.refusal.Refusal.TheVariants as refusals
 use Rattle.zst_model.specs.declared.sends.header.Point.{Point}
 use Rattle.zst_model.specs.sends.Headers.{Sent}
@@ -18,7 +18,7 @@ use Rattle.zst_pool.specs.Queries.{stop_of}
 use Rattle.zst_pool.specs.declared.fault.PoolFault.{PoolFault}
 use Rattle.zst_pool.specs.declared.pool.Pool.{Pool}
 use Rattle.zst_script.specs.declared.event.Side.TheVariants.{Here, There}
-use Rattle.zst_send.specs.Sends.{SendFits, SendsFrom, TakesFrom}
+use Rattle.zst_send.specs.Sends.{SendFits, SendsFrom}
 use Rattle.zst_send.specs.declared.send.Send.{Send}
 use Rattle.zst_sessions.proofs.PoolRefusals.{answer_of_disk, answer_of_failed, refused, refused_gives}
 use Rattle.zst_sessions.proofs.ReadPools.{fit_read, looked_at, looked_later, read_none}
@@ -27,7 +27,7 @@ use Rattle.zst_sessions.proofs.TakenBytes.{PieceTaken, takes_on}
 use Rattle.zst_sessions.proofs.UnmovedEngines.{stays_later}
 use Rattle.zst_sessions.specs.EngineSteps.{EngineFits, SessionsFit, kept_pool, piece_limit}
 use Rattle.zst_sessions.specs.Engines.{Kept}
-use Rattle.zst_sessions.specs.Takes.{LooksAtPool, Takes, TakesAt}
+use Rattle.zst_sessions.specs.Takes.{GaveOrStarved, LooksAtPool, Takes, TakesAt}
 use Rattle.zst_sessions.specs.declared.engine.Engine.{Engine}
 use Rattle.zst_sessions.specs.declared.open_sessions.OpenSend as kept_sends
 
@@ -37,7 +37,7 @@ module _ {D : Type 0} {g : Ghosts D} where
   -- What a take of at most so many bytes of a send of this pool did, and what it put in front.
   pub record PoolTook (count : ℕ) (old new : Pool D g) (one after : Send) (front : List ℕ) (result : Result ℕ PoolFault) : Type 0 where
     pub takes : (sent : Sent) (start : Option Point) (given left : List ℕ) → IsHonest new.io → old.io.failed ≡ false
-        → SendsFrom (Has (disk_of old.io).seen (free_by old.kept.body)) one sent start given left → TakesFrom (Has (disk_of new.io).seen (free_by new.kept.body)) after sent start given left (take count front) result
+        → SendsFrom (Has (disk_of old.io).seen (free_by old.kept.body)) one sent start given left → GaveOrStarved (Has (disk_of new.io).seen (free_by new.kept.body)) one after sent start given left (take count front) result
     pub idle : old.io.failed ≡ true → after ≡ one
     pub within : IfOk result (λ taken. taken ≤ count)
     pub send : SendFits after

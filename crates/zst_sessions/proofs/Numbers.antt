@@ -32,7 +32,7 @@ use Rattle.zst_stream.specs.Reading.{reading}
 use Rattle.zst_token.specs.declared.token.Token.{Token}
 use Rattle.zst_sessions.specs.Moves.{Moved, answers, number_line, cut_off, ended, fed_to, feeding, if_new_receive, in_the_way, most_receives, most_sends, moved, no_session, on_receive, on_send, opened_send, pumped, refuses, resumed, stepped_to, told_by}
 use Rattle.zst_sessions.specs.Numbers.{NumbersRise, SamePartials, TokensAreOwn}
-use Rattle.zst_sessions.specs.Replay.{DiskFails, Fails, AsDefined, FindsNoRoom, FindsNoMemory, LosesDisk, given_up, given_up_pump}
+use Rattle.zst_sessions.specs.Replay.{DiskFails, Fails, AsDefined, FindsNoRoom, FindsNoMemory, LosesDisk, TakesNoPiece, given_up, given_up_pump}
 use Rattle.zst_sessions.specs.World.{OpenPool, OpenSend, OpenReceive, World, at_side, other_side, put_side, with_running, held_at, is_used, send_with, receive_with, put_send, gone_on, next_piece}
 
 -- ---- tokens
@@ -295,4 +295,5 @@ pub numbers_rise : CommitsCount → AnswersKeep → NumbersRise
 numbers_rise counts keep now world next event answer side (AsDefined a e) = subst (Rise world) (sym e) (moved_rises counts keep now world event) side
 numbers_rise counts keep now world next event answer side (FindsNoRoom need largest a less may e) = subst (Rise world) (sym e) (given_up_rises event world) side
 numbers_rise counts keep now world next event answer side (FindsNoMemory a e) = subst (Rise world) (sym e) (given_up_rises event world) side
+numbers_rise counts keep now world next event answer side (TakesNoPiece sends receives count which a e) = subst (Rise world) (sym e) (stays world) side
 numbers_rise counts keep now world next event answer side (LosesDisk a fails) = lost_rises counts keep now world next event fails side

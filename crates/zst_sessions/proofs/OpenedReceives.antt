@@ -3,7 +3,8 @@ use Rattle.std.proofs.Common.{◌≡◌, ◌++◌, ◌∷◌, ℕ, Bool, true, f
 use Rattle.zst_dir.proofs.Matches.{filter-Match}
 use Rattle.zst_dir.specs.RowNames.{Match}
 use Rattle.zst_dir.specs.Rows.{Rows}
-use Rattle.zst_image.specs.Reads.{bound_of, free_by}
+use Rattle.zst_image.specs.Bodies.{free_by}
+use Rattle.zst_image.specs.Reads.{bound_of}
 use Rattle.zst_model.specs.declared.refusals.faults.Quantity.TheVariants as quantities
 use Rattle.zst_model.specs.declared.refusals.refusal.Refusal.{Refusal}
 use Rattle.zst_model.specs.declared.refusals.refusal.Refusal.TheVariants as refusals

@@ -23,7 +23,7 @@ use Rattle.zst_send.specs.Sends.{SameViewsSameRest, begun_text}
 use Rattle.zst_token.specs.declared.token.Token.{Token}
 use Rattle.zst_sessions.specs.World.{OpenSend, OpenReceive, World, at_side, other_side, is_side, send_with, receive_with, is_used, held_at, put_send, next_piece, gone_on}
 use Rattle.zst_sessions.specs.Moves.{Moved, ended, fed_on, fed_to, if_new_receive, if_new_send, in_the_way, no_session, on_receive, on_send, most_receives, most_sends, moved, opened_send, pumped, refuses, resumed, stepped_to, told_by}
-use Rattle.zst_sessions.specs.Replay.{DiskFails, Fails, AsDefined, FindsNoRoom, FindsNoMemory, LosesDisk, given_up, given_up_pump}
+use Rattle.zst_sessions.specs.Replay.{DiskFails, Fails, AsDefined, FindsNoRoom, FindsNoMemory, LosesDisk, TakesNoPiece, given_up, given_up_pump}
 use Rattle.zst_sessions.specs.OwnSends.{Closes, PiecesAreAlike, PiecesAreOwn, SendsStay, asked_of}
 use Rattle.zst_sessions.proofs.FoundSessions.{found_front, found_other, found_put}
 use Rattle.zst_sessions.proofs.Worlds.{put_sends}
@@ -251,4 +251,5 @@ pub sends_stay : SendsStay
 sends_stay now world next event answer id send (AsDefined a is) found = subst (λ (w : World). Stays id send event w.sends) (sym is) (moved_stays id send now event world found)
 sends_stay now world next event answer id send (FindsNoRoom need largest a less may is) found = subst (λ (w : World). Stays id send event w.sends) (sym is) (given_up_stays id send event world found)
 sends_stay now world next event answer id send (FindsNoMemory a is) found = subst (λ (w : World). Stays id send event w.sends) (sym is) (given_up_stays id send event world found)
+sends_stay now world next event answer id send (TakesNoPiece sends receives count which a is) found = subst (λ (w : World). Stays id send event w.sends) (sym is) (inl found)
 sends_stay now world next event answer id send (LosesDisk a fails) found = lost_stays id send now event world next fails found

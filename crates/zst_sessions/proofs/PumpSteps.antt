@@ -37,7 +37,7 @@ use Rattle.zst_sessions.proofs.ChangedSides.{same_pools}
 use Rattle.zst_sessions.proofs.FedSessions.{fed_fit}
 use Rattle.zst_sessions.proofs.PumpedFeeds.{FeedSteps, feed_steps}
 use Rattle.zst_sessions.proofs.RemovedSessions.{none_matched}
-use Rattle.zst_sessions.proofs.SparedBlocks.{read_blocks, read_spares, spares, still_works}
+use Rattle.zst_sessions.proofs.SparedBlocks.{read_blocks, read_extents, read_spares, spares, still_works}
 use Rattle.zst_sessions.proofs.UnmovedEngines.{nothing_done, stays_later}
 use Rattle.zst_sessions.specs.EngineSteps.{EngineFits, IsLaterPool, NoneFailed, SessionsFit, SparesBlocks, StandsFor, StepsEngine, StepsWorld, here_with, kept_pool, there_with}
 use Rattle.zst_sessions.specs.Engines.{BeforeOrAfter, Kept, ReceiveStandsOn, SendStandsOn, Stands, Steps, kept_at}
@@ -46,8 +46,8 @@ use Rattle.zst_sessions.specs.Lawfulness.{MovesKeepWorlds}
 use Rattle.zst_sessions.specs.Moves.{Moved, if_works, moved, no_session, on_receive, pumped, refuses}
 use Rattle.zst_sessions.specs.Numbers.{NumbersRise}
 use Rattle.zst_sessions.specs.Pumps.{FeedsKept, FeedsSide, SettlesFeed, fed_reply, settled}
-use Rattle.zst_sessions.specs.Replay.{LosesDisk, Moves, image_of}
-use Rattle.zst_sessions.specs.Takes.{Gives, HadFailed, Loses, TakeEnds, Takes, TakesAt}
+use Rattle.zst_sessions.specs.Replay.{LosesDisk, Moves, image_of, TakesNoPiece}
+use Rattle.zst_sessions.specs.Takes.{Gives, HadFailed, Loses, TakeEnds, Takes, TakesAt, Starves}
 use Rattle.zst_sessions.specs.World.{OpenPool, OpenReceive, OpenSend, World, at_side, gone_on, next_piece, put_send, receive_with, send_with}
 use Rattle.zst_sessions.specs.declared.engine.Engine.{Engine}
 use Rattle.zst_sessions.specs.declared.event_reply.EventReply.{EventReply}
@@ -292,6 +292,13 @@ module _ {D E : Type 0} {g : Ghosts D} {h : Ghosts E} where
                   here_moments = Leaves-weaker (disk_of old.here.io) (disk_of mid.here.io) (Reads true (image_of Here world)) (BeforeOrAfter true Here world (moved old.now (events.Pump sends receives count) world).world) takes.here_moments (λ c reads. inl reads);
                   there_moments = Leaves-weaker (disk_of old.there.io) (disk_of mid.there.io) (Reads true (image_of There world)) (BeforeOrAfter true There world (moved old.now (events.Pump sends receives count) world).world) takes.there_moments (λ c reads. inl reads);
                 }
+                by_end (Starves is alive left) = record {
+                  next = takes.next;
+                  moves = TakesNoPiece sends receives count refl (ap (λ (r : Refusal). Err r) (cc is)) left;
+                  stands = takes.stands;
+                  here_moments = Leaves-weaker (disk_of old.here.io) (disk_of mid.here.io) (Reads true (image_of Here world)) (BeforeOrAfter true Here world (moved old.now (events.Pump sends receives count) world).world) takes.here_moments (λ c reads. inl reads);
+                  there_moments = Leaves-weaker (disk_of old.there.io) (disk_of mid.there.io) (Reads true (image_of There world)) (BeforeOrAfter true There world (moved old.now (events.Pump sends receives count) world).world) takes.there_moments (λ c reads. inl reads);
+                }
                 by_end (HadFailed is had left) = absurd (let both : true ≡ false = sym had ∙ works_at world stands takes.send takes.found in cc both)
 
         -- ---- the piece is fed
@@ -420,6 +427,7 @@ module _ {D E : Type 0} {g : Ghosts D} {h : Ghosts E} where
                 fed_so send found alive_there (sym same ∙ long) (ap (λ (n : ℕ). take n mid.room.items) (sym same) ∙ piece)
                 (subst (λ (w : World). Stands true (kept_pool mid.here) (kept_pool mid.there) mid.sends.items mid.receives.items w) left stands_mid) here_reads there_reads
             by_end send next found (Loses is alive_there fails) stands_mid here_reads there_reads = absurd (cc is)
+            by_end send next found (Starves is alive_there left) stands_mid here_reads there_reads = absurd (cc is)
             by_end send next found (HadFailed is had left) stands_mid here_reads there_reads = absurd (cc is)
 
           pumped_world : StepsWorld (events.Pump sends receives count) old new result
@@ -460,6 +468,7 @@ module _ {D E : Type 0} {g : Ghosts D} {h : Ghosts E} where
           -- the blocks of both pools stand behind the take and the feed
           here_spared : (side : Side) → FedSide side → SparesBlocks (events.Pump sends receives count ≡ events.Reopen Here) (kept_pool old.here) (kept_pool new.here)
           here_spared Here is = spares (kept_pool old.here) (kept_pool new.here) (λ works ptr bytes has. is.0.keeps.blocks works ptr bytes (read_blocks (kept_pool old.here) (kept_pool mid.here) gave.here_read ptr bytes has))
+              (λ works has. is.0.keeps.extents works (read_extents (kept_pool old.here) (kept_pool mid.here) gave.here_read has))
           here_spared There is =
               subst (λ (p : Pool D g). SparesBlocks (events.Pump sends receives count ≡ events.Reopen Here) (kept_pool old.here) (kept_pool p)) (sym is.2)
               (read_spares (kept_pool old.here) (kept_pool mid.here) gave.here_read)
@@ -469,6 +478,7 @@ module _ {D E : Type 0} {g : Ghosts D} {h : Ghosts E} where
               subst (λ (p : Pool E h). SparesBlocks (events.Pump sends receives count ≡ events.Reopen There) (kept_pool old.there) (kept_pool p)) (sym is.2)
               (read_spares (kept_pool old.there) (kept_pool mid.there) gave.there_read)
           there_spared There is = spares (kept_pool old.there) (kept_pool new.there) (λ works ptr bytes has. is.0.keeps.blocks works ptr bytes (read_blocks (kept_pool old.there) (kept_pool mid.there) gave.there_read ptr bytes has))
+              (λ works has. is.0.keeps.extents works (read_extents (kept_pool old.there) (kept_pool mid.there) gave.there_read has))
 
           pub pumps_fed : StepsEngine (events.Pump sends receives count) old new result
           pumps_fed =

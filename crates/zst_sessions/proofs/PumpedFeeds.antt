@@ -10,7 +10,8 @@ use Rattle.zst_outside.specs.Images.{Leaves, Leaves-weaker}
 use Rattle.zst_block.specs.Blocks.{Has}
 use Rattle.zst_block.specs.IoCalls.{fails}
 use Rattle.zst_dir.specs.RowNames.{Match}
-use Rattle.zst_image.specs.Reads.{Reads, bound_of, free_by}
+use Rattle.zst_image.specs.Bodies.{free_by}
+use Rattle.zst_image.specs.Reads.{Reads, bound_of}
 use Rattle.zst_model.proofs.FoundElements.{found_passes}
 use Rattle.zst_model.specs.declared.refusals.faults.Quantity.TheVariants as quantities
 use Rattle.zst_model.specs.declared.refusals.plan_fault.PlanFault.TheVariants as plans

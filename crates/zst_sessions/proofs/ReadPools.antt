@@ -1,5 +1,5 @@
 -- What a pool that was only read keeps: it stands for the pool that it stood for, and so do the sessions on it.
-use Rattle.std.proofs.Common.{◌≡◌, ap, find, ◌||◌, ℕ, Bool, true, false, List, take, refl, sym, ◌∙◌, subst, get_or}
+use Rattle.std.proofs.Common.{◌≡◌, ap, find, ◌||◌, ℕ, Bool, true, false, List, take, Err, refl, sym, ◌∙◌, subst, get_or, arith}
 use Rattle.std.specs.Prelude.{IsTrue, Result}
 use Rattle.zst_outside.specs.Images.{DiskState, Leaves, Leaves-none, Leaves-weaker, OnlyReads, OnlyReads-none}
 use Rattle.zst_outside.specs.declared.disk.Disk.{Ghosts}
@@ -10,7 +10,8 @@ use Rattle.zst_block.specs.IoStates.{disk_of}
 use Rattle.zst_dir.specs.RowNames.{Match}
 use Rattle.zst_dir.specs.Rows.{IsLawful, is_for}
 use Rattle.zst_image.specs.Commits.{Ready}
-use Rattle.zst_image.specs.Reads.{Reads, ReadsAs, RunsBy, bound_of, free_by}
+use Rattle.zst_image.specs.Bodies.{free_by}
+use Rattle.zst_image.specs.Reads.{Reads, ReadsAs, RunsBy, bound_of}
 use Rattle.zst_image.specs.declared.pool_state.PoolState.{PoolState}
 use Rattle.zst_model.specs.pools.KeptPool.{kept_of}
 use Rattle.zst_model.specs.pools.Pool.{Pool}
@@ -18,6 +19,7 @@ use Rattle.zst_pool.proofs.PoolsAtRest.{ready_after}
 use Rattle.zst_pool.specs.Calls.{IsAtRest}
 use Rattle.zst_pool.specs.Queries.{stop_of}
 use Rattle.zst_pool.specs.declared.fault.PoolFault.{PoolFault}
+use Rattle.zst_pool.specs.declared.fault.PoolFault.TheVariants as faults
 use Rattle.zst_pool.specs.declared.pool.Pool as pools
 use Rattle.zst_recv.specs.GoingOn.{IsRow}
 use Rattle.zst_recv.specs.Stages.{RecvFits, Receives, ask_of, stage_of}
@@ -25,6 +27,7 @@ use Rattle.zst_script.specs.declared.event.Side.{Side}
 use Rattle.zst_script.specs.declared.event.Side.TheVariants.{Here, There}
 use Rattle.zst_send.specs.Sends.{SendsFrom, begun_text}
 use Rattle.zst_sessions.proofs.Beside.{Match-each}
+use Rattle.zst_sessions.proofs.SparedBlocks.{read_blocks, read_extents}
 use Rattle.zst_sessions.specs.EngineSteps.{IsLaterPool, KeepsSessions, ReceiveFits, SessionsFit, here_with, kept_pool, there_with}
 use Rattle.zst_sessions.specs.Engines.{Kept, PoolStands, ReceiveStandsOn, SendStandsOn, kept_at}
 use Rattle.zst_sessions.specs.Takes.{LooksAtPool, WasOnlyRead}
@@ -86,12 +89,24 @@ pub read_keeps : (old new : Kept) → WasOnlyRead old new → (old.failed ≡ fa
 read_keeps old new read ready lawful = record {
   mark = read.mark;
   ready = λ works. subst (λ (state : PoolState). Ready new.disk state.body) (sym read.state) (ready_read old.disk new.disk old.state read.reads (ready (read.mark works)));
-  blocks = λ works ptr bytes has.
-      subst (λ (state : PoolState). Has new.disk.seen (free_by state.body) ptr bytes) (sym read.state)
-      (subst (λ (seen : List ℕ). Has seen (free_by old.state.body) ptr bytes) (sym read.reads.seen) has);
+  blocks = λ works. read_blocks old new read;
+  extents = λ works. read_extents old new read;
   lawful = subst (λ (state : PoolState). IsLawful state.dir) (sym read.state) lawful;
   rows = λ target other. ap (λ (state : PoolState). find (is_for target) state.dir.partials) read.state;
 }
+
+-- a call found no memory before it did anything
+pub looks_unmoved : {T D : Type 0} {g : Ghosts D} (old new : pools.Pool D g) → new ≡ old → old.io.failed ≡ false → LooksAtPool {T = T} old new (Err faults.OutOfMemory)
+looks_unmoved {T = T} {D = D} {g = g} old new same works = subst (λ (p : pools.Pool D g). LooksAtPool {T = T} old p (Err faults.OutOfMemory)) (sym same) (record {
+  failed_pool = λ fell. absurd (let both : true ≡ false = sym fell ∙ works in cc both);
+  idle = λ fell. refl;
+  open_still = λ alive is. cc is;
+  reads = OnlyReads-none (disk_of old.io);
+  kept = refl;
+  failed = works ∙ ap (λ (b : Bool). b || false) (sym works);
+  cause = record { later = omega arith; fault = λ is. absurd (cc is) };
+  same = refl;
+})
 
 -- ---- sessions
 

@@ -6,10 +6,10 @@ use Rattle.zst_space.specs.FreeSectors.{FreeSectors}
 use Rattle.zst_block.specs.Blocks.{Has, KeepsBlocks}
 use Rattle.zst_block.specs.IoStates.{disk_of}
 use Rattle.zst_block.specs.declared.io.Io.{Io}
-use Rattle.zst_uber.specs.declared.uber.Uber.{Uber}
+use Rattle.zst_image.specs.Bodies.{Body, free_by}
 use Rattle.zst_dir.specs.Rows.{IsLawful, is_for}
-use Rattle.zst_image.specs.Commits.{Ready}
-use Rattle.zst_image.specs.Reads.{bound_of, free_by}
+use Rattle.zst_image.specs.Commits.{HasItsExtents, Ready}
+use Rattle.zst_image.specs.Reads.{bound_of}
 use Rattle.zst_image.specs.declared.pool_state.PoolState.{PoolState}
 use Rattle.zst_model.specs.pools.Pool.{Pool}
 use Rattle.zst_pool.specs.Calls.{IsAtRest}
@@ -47,10 +47,12 @@ module _ {D : Type 0} {g : Ghosts D} (old new : pools.Pool D g) (io : new.io ≡
     keeps = record {
       mark = works_as;
       ready = λ works.
-          subst (λ (i : Io D g). Ready (disk_of i) new.kept.body) (sym io) (subst (λ (b : Uber). Ready (disk_of old.io) b) (sym body) (ready (works_as works)));
+          subst (λ (i : Io D g). Ready (disk_of i) new.kept.body) (sym io) (subst (λ (b : Body). Ready (disk_of old.io) b) (sym body) (ready (works_as works)));
       blocks = λ works.
           subst (λ (i : Io D g). KeepsBlocks (disk_of old.io).seen (free_by old.kept.body) (disk_of i).seen (free_by new.kept.body)) (sym io)
-          (subst (λ (b : Uber). KeepsBlocks (disk_of old.io).seen (free_by old.kept.body) (disk_of old.io).seen (free_by b)) (sym body) (λ ptr bytes has. has));
+          (subst (λ (b : Body). KeepsBlocks (disk_of old.io).seen (free_by old.kept.body) (disk_of old.io).seen (free_by b)) (sym body) (λ ptr bytes has. has));
+      extents = λ works has.
+          subst (λ (i : Io D g). HasItsExtents (disk_of i) new.kept.body) (sym io) (subst (λ (b : Body). HasItsExtents (disk_of old.io) b) (sym body) has);
       lawful = lawful;
       rows = λ target other.
           ap (λ (k : PoolState). find (is_for target) k.dir.partials) kept ∙ leave (has_partial (stage_of recv)) (ask_of recv).target target old.kept other;

@@ -3,10 +3,13 @@ use Rattle.std.specs.Prelude.{◌≢◌, ◌⊎◌, ◌||◌, IsTrue, find, not,
 use Rattle.std.proofs.Common.{◌≡◌, ◌<◌, ◌≤◌, inl, inr, ℕ, Bool, true, false, cond, List, [], ◌∷◌, filter, Option, Some, None, Result, Ok, Err, bytes_eq, refl, sym, ap, ◌∙◌, subst, ⊎_elim}
 use Rattle.zst_outside.specs.Images.{Leaves, Leaves-none, Leaves-weaker}
 use Rattle.zst_outside.specs.declared.disk.Disk.{Ghosts}
+use Rattle.zst_block.specs.Blocks.{KeepsBlocks}
 use Rattle.zst_block.specs.IoStates.{IsHonest, disk_of}
 use Rattle.zst_dir.specs.Rows.{IsLawful, Rows, is_for}
 use Rattle.zst_dir.specs.declared.rows.Partial.{Partial}
-use Rattle.zst_image.specs.Commits.{Ready}
+use Rattle.zst_image.proofs.Growth.{HasItsExtents-kept}
+use Rattle.zst_image.specs.Bodies.{free_by}
+use Rattle.zst_image.specs.Commits.{HasItsExtents, Ready}
 use Rattle.zst_image.specs.Reads.{Reads}
 use Rattle.zst_image.specs.declared.pool_state.PoolState.{PoolState}
 use Rattle.zst_model.proofs.OrderLaws.{same_bytes}
@@ -94,7 +97,7 @@ rows_left holder free (commands.ListObjects name) rows target stays = refl
 
 -- its sessions are kept
 pub stays_kept : (own : List ℕ → Type 0) (kept : Kept) → (kept.failed ≡ false → Ready kept.disk kept.state.body) → IsLawful kept.state.dir → KeepsSessions own kept kept
-stays_kept own kept ready lawful = record { mark = λ works. works; ready = ready; blocks = λ works ptr bytes has. has; lawful = lawful; rows = λ target other. refl }
+stays_kept own kept ready lawful = record { mark = λ works. works; ready = ready; blocks = λ works ptr bytes has. has; extents = λ works has. has; lawful = lawful; rows = λ target other. refl }
 
 -- a command that ended so and left the pool as it was
 pub stays_stepped : (command : Command) (definition : Result Stepped Refusal) (opened : OpenPool) (kept : Kept) (answer : Answer) → PoolStands true kept opened → StepEnds command definition opened answer opened → StepsPool command definition opened kept kept answer
@@ -147,10 +150,20 @@ module _ {D : Type 0} {g : Ghosts D} (old new : Pool D g) where
     mark = λ works. (worked told settles.failed works).0;
     ready = settles.ready;
     blocks = λ works. did.blocks (worked told settles.failed works).1;
+    extents = λ works. extents_by told settles.extents settles.stays (did.blocks (worked told settles.failed works).1);
     lawful = lawful;
     rows = rows_by told partials settles.stays;
   }
     where
+      -- after a refusal what is kept is as it was, and so are the blocks in which its extents stand
+      extents_by : (answer : Result (List (List ℕ)) PoolFault) → OnOk answer (HasItsExtents (disk_of old.io) old.kept.body → HasItsExtents (disk_of new.io) new.kept.body) → OnErr answer (new.kept ≡ old.kept)
+          → KeepsBlocks (disk_of old.io).seen (free_by old.kept.body) (disk_of new.io).seen (free_by new.kept.body) → HasItsExtents (disk_of old.io) old.kept.body → HasItsExtents (disk_of new.io) new.kept.body
+      extents_by (Ok reply) hands stays blocks has = hands has
+      extents_by (Err fault) hands stays blocks has =
+          subst (λ (kept : PoolState). HasItsExtents (disk_of new.io) kept.body) (sym stays)
+          (HasItsExtents-kept (disk_of old.io) (disk_of new.io) old.kept.body
+          (subst (λ (kept : PoolState). KeepsBlocks (disk_of old.io).seen (free_by old.kept.body) (disk_of new.io).seen (free_by kept.body)) stays blocks) has)
+
       rows_by : (answer : Result (List (List ℕ)) PoolFault) → OnOk answer (new.kept.dir.partials ≡ rows_after command old.kept.dir.partials) → OnErr answer (new.kept ≡ old.kept)
           → (target : List ℕ) → ¬ (GivesUp holder command old.kept.dir target) → find (is_for target) new.kept.dir.partials ≡ find (is_for target) old.kept.dir.partials
       rows_by (Ok reply) left stays target other = ap (λ (rows : List Partial). find (is_for target) rows) left ∙ rows_left holder free command old.kept.dir target other

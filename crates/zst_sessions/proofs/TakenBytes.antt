@@ -1,5 +1,5 @@
 -- A take of bytes of one send: what it leaves of the sessions, and of a world.
-use Rattle.std.proofs.Common.{◌≡◌, ◌||◌, ◌==◌, ◌<◌, ◌≤◌, ℕ, zero, suc, Bool, true, false, List, [], ◌∷◌, length, set, get_or, take, Some, Ok, Err, inl, refl, sym, ap, ◌∙◌, subst, arith}
+use Rattle.std.proofs.Common.{◌≡◌, ◌||◌, ◌==◌, ◌<◌, ◌≤◌, ℕ, zero, suc, Bool, true, false, List, [], ◌∷◌, length, set, get_or, take, Some, Ok, Err, inl, inr, refl, sym, ap, ◌∙◌, subst, arith}
 use Rattle.std.specs.List.{position}
 use Rattle.std.specs.Prelude.{Option, Result}
 use Rattle.std.proofs.lemmas.List.{take-take}
@@ -9,7 +9,8 @@ use Rattle.zst_block.specs.Blocks.{Has}
 use Rattle.zst_block.specs.IoCalls.{fails}
 use Rattle.zst_dir.proofs.Matches.{Match-alike, find-Match}
 use Rattle.zst_dir.specs.RowNames.{Match}
-use Rattle.zst_image.specs.Reads.{Reads, free_by}
+use Rattle.zst_image.specs.Bodies.{free_by}
+use Rattle.zst_image.specs.Reads.{Reads}
 use Rattle.zst_model.specs.declared.refusals.refusal.Refusal.TheVariants as refusals
 use Rattle.zst_model.specs.declared.sends.header.Point.{Point}
 use Rattle.zst_model.specs.sends.Headers.{Sent}
@@ -20,6 +21,7 @@ use Rattle.zst_script.specs.declared.event.Side.{Side}
 use Rattle.zst_script.specs.declared.event.Side.TheVariants.{Here, There}
 use Rattle.zst_send.specs.Sends.{IsTakeFault, SendFits, SendsFrom, TakesFrom, begun_text}
 use Rattle.zst_send.specs.declared.send.Send.{Send}
+use Rattle.zst_tree.specs.Indices.{Blocks}
 use Rattle.zst_sessions.proofs.Frames.{given_match, takes_stand}
 use Rattle.zst_sessions.proofs.PoolRefusals.{refused}
 use Rattle.zst_sessions.proofs.ReadPools.{here_read, moments_read, pool_read, read_none, receives_read, sends_read, there_read}
@@ -28,7 +30,7 @@ use Rattle.zst_sessions.specs.EngineSteps.{here_with, there_with}
 use Rattle.zst_sessions.specs.Engines.{Kept, PoolStands, SendStands, SendStandsOn, Stands, kept_at}
 use Rattle.zst_sessions.specs.Lawfulness.{IsWorld}
 use Rattle.zst_sessions.specs.Replay.{image_of}
-use Rattle.zst_sessions.specs.Takes.{Gives, HadFailed, Loses, Takes, WasOnlyRead}
+use Rattle.zst_sessions.specs.Takes.{GaveOrStarved, Gives, HadFailed, Loses, Starves, Takes, WasOnlyRead}
 use Rattle.zst_sessions.specs.World.{OpenSend, World, at_side, gone_on, left_of, next_piece, put_send, put_side, send_with}
 use Rattle.zst_sessions.specs.declared.open_sessions.OpenReceive as kept_receives
 use Rattle.zst_sessions.specs.declared.open_sessions.OpenSend as kept_sends
@@ -116,7 +118,12 @@ pub record PieceTaken (count : ℕ) (old new : Kept) (one after : Send) (room : 
   pub open_still : old.failed ≡ false → ¬ (result ≡ Err faults.Failed)
   pub failed : new.failed ≡ (old.failed || fails (stop_of result))
   pub takes : old.failed ≡ false → (sent : Sent) (start : Option Point) (given left : List ℕ) → SendsFrom (Has old.disk.seen (free_by old.state.body)) one sent start given left
-      → TakesFrom (Has new.disk.seen (free_by new.state.body)) after sent start given left (take count room) result
+      → GaveOrStarved (Has new.disk.seen (free_by new.state.body)) one after sent start given left (take count room) result
+
+-- one that is answered with bytes gave them
+gave_those : (has : Blocks) (one after : Send) (sent : Sent) (start : Option Point) (given left into : List ℕ) (taken : ℕ) → GaveOrStarved has one after sent start given left into (Ok taken) → TakesFrom has after sent start given left into (Ok taken)
+gave_those has one after sent start given left into taken (inl took) = took
+gave_those has one after sent start given left into taken (inr starved) = absurd (cc starved.0)
 
 -- a take that isn't refused by a mark finds its disk failing
 lost_disk : (fault : PoolFault) → IsTakeFault fault → ¬ (fault ≡ faults.Failed) → fault ≡ faults.DiskFault
@@ -168,7 +175,7 @@ module _ (count : ℕ) (here there new : Kept) (sends : List kept_sends.OpenSend
       → (taken ≡ length (next_piece count send)) × (take taken room ≡ next_piece count send) × SendStandsOn new (record one { send = after }) gone
   goes taken piece works =
       let into = take count room in
-      let took = piece.takes works send.sent send.start (take send.given (begun_text send.sent send.start)) (left_of send) (is.sends works) in
+      let took = gave_those _ one.send after send.sent send.start _ _ into taken (piece.takes works send.sent send.start (take send.given (begun_text send.sent send.start)) (left_of send) (is.sends works)) in
       let standing : SendStands false own.disk.seen (free_by own.state.body) one send = subst (λ (b : Bool). SendStands b own.disk.seen (free_by own.state.body) one send) works is in
       let then = takes_stand own.disk.seen new.disk.seen into (free_by own.state.body) (free_by new.state.body) one send after taken standing piece.fits took in
       let few : taken ≤ count = omega (arith, took.0, long) in
@@ -220,6 +227,25 @@ module _ (count : ℕ) (here there new : Kept) (sends : List kept_sends.OpenSend
         there_moments = there_moments piece.read;
       }
 
+  -- and where no memory is left, neither
+  starves : (id : ℕ) → send_with id world ≡ Some send → PieceTaken count own new one.send after room (Err faults.OutOfMemory) → own.failed ≡ false → after ≡ one.send
+      → Takes id count world here there here' there' coded receives room (Err refusals.OutOfMemory)
+  starves id found piece works stays =
+      let same = remade_same send.side world.sends world in
+      let match = set_match Is sends world.sends place one (record one { send = after }) (matched piece.read) below
+      (λ (y : OpenSend) stood. subst (λ (s : Send). Is (record one { send = s }) y) (sym stays) (subst (λ (c : kept_sends.OpenSend). Is c y) at_place stood)) in
+      record {
+        send = send;
+        found = found;
+        next = world;
+        ends = Starves refl (sym marked ∙ works) refl;
+        stands = subst (λ (w : World). Stands true here' there' coded receives w) same
+            (stands_remade send.side here there new sends coded receives world (at_side send.side world).failed world.sends piece.read
+            (piece.failed ∙ ap (λ (b : Bool). b || false) works ∙ sym works ∙ marked) stands match (subst IsWorld (sym same) stands.lawful));
+        here_moments = here_moments piece.read;
+        there_moments = there_moments piece.read;
+      }
+
   -- and where it fails, nothing but its mark is another
   loses : (id : ℕ) → send_with id world ≡ Some send → PieceTaken count own new one.send after room (Err faults.DiskFault) → own.failed ≡ false
       → Takes id count world here there here' there' coded receives room (Err refusals.DiskFault)
@@ -264,9 +290,15 @@ module _ (count : ℕ) (here there new : Kept) (sends : List kept_sends.OpenSend
       go : (failed : Bool) → own.failed ≡ failed → (result : Result ℕ PoolFault) → PieceTaken count own new one.send after room result → Takes id count world here there here' there' coded receives room (refused result)
       go true fell result piece = had_failed id result found piece fell
       go false works (Ok taken) piece = gives id taken found piece works
-      go false works (Err fault) piece =
-          let took = piece.takes works send.sent send.start (take send.given (begun_text send.sent send.start)) (left_of send) (is.sends works) in
-          stopped fault (lost_disk fault took.0 (λ same. piece.open_still works (ap err same))) piece works
+      go false works (Err fault) piece = by_take (piece.takes works send.sent send.start (take send.given (begun_text send.sent send.start)) (left_of send) (is.sends works))
+        where
+          by_take : GaveOrStarved (Has new.disk.seen (free_by new.state.body)) one.send after send.sent send.start (take send.given (begun_text send.sent send.start)) (left_of send) (take count room) (Err fault)
+              → Takes id count world here there here' there' coded receives room (refused (Err fault))
+          by_take (inl took) = stopped fault (lost_disk fault took.0 (λ same. piece.open_still works (ap err same))) piece works
+          by_take (inr starved) =
+              let which : fault ≡ faults.OutOfMemory = cc starved.0 in
+              subst (λ (f : PoolFault). Takes id count world here there here' there' coded receives room (refused (Err f))) (sym which)
+              (starves id found (subst (λ (f : PoolFault). PieceTaken count own new one.send after room (Err f)) which piece) works starved.1)
 
 -- of the pool on a side, whichever that is
 pub takes_on : (side : Side) (count : ℕ) (here there new : Kept) (sends : List kept_sends.OpenSend) (receives : List kept_receives.OpenReceive) (world : World)

@@ -30,7 +30,7 @@ use Rattle.zst_send.specs.Openings.{rest_of}
 use Rattle.zst_token.specs.declared.token.Token.{Token}
 use Rattle.zst_sessions.specs.World.{OpenPool, OpenSend, OpenReceive, World, at_side, other_side, is_side, put_side, claim_of, hold_of, sends_on, receives_on, held_at, is_used, send_with, receive_with, put_send, moved_to, next_piece, gone_on}
 use Rattle.zst_sessions.specs.Moves.{Moved, cut_off, ended, fed_to, feeding, if_new_receive, if_works, in_the_way, most_receives, most_sends, moved, no_session, on_receive, on_send, opened_send, pumped, refuses, resumed, stepped_to, told_by}
-use Rattle.zst_sessions.specs.Replay.{DiskFails, Fails, AsDefined, FindsNoRoom, FindsNoMemory, LosesDisk, given_up, given_up_pump}
+use Rattle.zst_sessions.specs.Replay.{DiskFails, Fails, AsDefined, FindsNoRoom, FindsNoMemory, LosesDisk, TakesNoPiece, given_up, given_up_pump}
 use Rattle.zst_sessions.specs.Lawfulness.{ClaimedStays, EndsLeaveOthers, FeedsLeaveOthers, FeedsStand, IsEnded, IsStanding, IsWorld, MovesKeepWorlds}
 use Rattle.zst_sessions.proofs.FoundSessions.{placed}
 use Rattle.zst_sessions.proofs.SessionLists.{AllPairs-snoc, id_differs, moved_ask, moved_id, moved_side, none_found, pair_of, placed_id}
@@ -570,4 +570,5 @@ module _ (claims : ClaimedStays) (leave : FeedsLeaveOthers) (stand : FeedsStand)
   moves_keep now world next event answer (AsDefined a e) is = subst IsWorld (sym e) (moved_keeps now world is event)
   moves_keep now world next event answer (FindsNoRoom need largest a less may e) is = subst IsWorld (sym e) (given_up_keeps now world is event)
   moves_keep now world next event answer (FindsNoMemory a e) is = subst IsWorld (sym e) (given_up_keeps now world is event)
+  moves_keep now world next event answer (TakesNoPiece sends receives count which a e) is = subst IsWorld (sym e) is
   moves_keep now world next event answer (LosesDisk a fails) is = lost_keeps now world next is event fails

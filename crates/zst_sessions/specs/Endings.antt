@@ -2,8 +2,9 @@
 use Rattle.std.specs.Prelude.{◌≡◌, ℕ, false, true, List, Result, Ok, Err}
 use Rattle.zst_outside.specs.Images.{Leaves, OnlyReads}
 use Rattle.zst_block.specs.Blocks.{Has}
-use Rattle.zst_image.specs.Commits.{Ready}
-use Rattle.zst_image.specs.Reads.{Reads, bound_of, free_by}
+use Rattle.zst_image.specs.Commits.{HasItsExtents, Ready}
+use Rattle.zst_image.specs.Bodies.{free_by}
+use Rattle.zst_image.specs.Reads.{Reads, bound_of}
 use Rattle.zst_model.specs.declared.refusals.refusal.Refusal.{Refusal}
 use Rattle.zst_model.specs.declared.refusals.refusal.Refusal.TheVariants as refusals
 use Rattle.zst_model.specs.pools.KeptPool.{kept_of}
@@ -36,7 +37,7 @@ pub record OpensAgain (old new : Kept) (result : Result ℕ Refusal) : Type 0 wh
   pub reads : OnlyReads old.disk new.disk
   pub ready : new.failed ≡ false → Ready new.disk new.state.body
   pub works : ¬ (result ≡ Err refusals.DiskFault) → old.failed ≡ false → new.failed ≡ false
-  -- unless its disk had failed, or a read gave other bytes, its body is the one that was kept
-  pub body : old.failed ≡ false → new.disk.honest → new.state.body ≡ old.state.body
+  -- unless its disk had failed, or a read gave other bytes, its body is the one that was kept, where the extents of that stood in sectors that it left not free
+  pub body : old.failed ≡ false → new.disk.honest → HasItsExtents old.disk old.state.body → new.state.body ≡ old.state.body
   pub ends : (running : Pool) → new.disk.honest → Reads true (kept_of running) old.disk.seen → (old.failed ≡ false → IsAtRest true old.disk old.state running)
       → OpeningEnds old new (kept_of running) result

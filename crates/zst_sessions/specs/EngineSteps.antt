@@ -6,8 +6,8 @@ use Rattle.zst_block.specs.Blocks.{KeepsBlocks}
 use Rattle.zst_block.specs.IoStates.{disk_of}
 use Rattle.zst_dir.specs.RowNames.{Match}
 use Rattle.zst_dir.specs.Rows.{Rows, IsLawful, is_for}
-use Rattle.zst_image.specs.Commits.{Ready}
-use Rattle.zst_image.specs.Reads.{free_by}
+use Rattle.zst_image.specs.Commits.{HasItsExtents, Ready}
+use Rattle.zst_image.specs.Bodies.{free_by}
 use Rattle.zst_model.specs.declared.refusals.refusal.Refusal.{Refusal}
 use Rattle.zst_model.specs.declared.refusals.refusal.Refusal.TheVariants as refusals
 use Rattle.zst_model.specs.pools.Sessions.{Held, Holds, Claims}
@@ -87,15 +87,18 @@ pub record KeepsSessions (own : List ℕ → Type 0) (old new : Kept) : Type 0 w
   pub mark : new.failed ≡ false → old.failed ≡ false
   pub ready : new.failed ≡ false → Ready new.disk new.state.body
   pub blocks : new.failed ≡ false → KeepsBlocks old.disk.seen (free_by old.state.body) new.disk.seen (free_by new.state.body)
+  pub extents : new.failed ≡ false → HasItsExtents old.disk old.state.body → HasItsExtents new.disk new.state.body
   pub lawful : IsLawful new.state.dir
   pub rows : (target : List ℕ) → ¬ (own target) → find (is_for target) new.state.dir.partials ≡ find (is_for target) old.state.dir.partials
 
 -- What an event leaves of the blocks of one pool, whatever the image is, unless the disk has failed by then. Each block still stands that stood in sectors which the
--- latest body from before left not free. And each block that was there still is, over the sectors that the latest body then leaves free; of a pool that was opened again it
--- is so where its disk hadn't failed, and no read gave other bytes.
+-- latest body from before left not free. And each block that was there still is, over the sectors that the latest body then leaves free, and so do that body's own free extents
+-- stand where those of the one before did; of a pool that was opened again it is so where its disk hadn't failed, no read gave other bytes, and the extents of the body from
+-- before stood in sectors that it left not free.
 pub record SparesBlocks (again : Type 0) (old new : Kept) : Type 0 where
   pub stood : new.failed ≡ false → KeepsBlocks old.disk.seen (free_by old.state.body) new.disk.seen (free_by old.state.body)
-  pub blocks : (again → (old.failed ≡ false) × new.disk.honest) → new.failed ≡ false → KeepsBlocks old.disk.seen (free_by old.state.body) new.disk.seen (free_by new.state.body)
+  pub blocks : (again → (old.failed ≡ false) × new.disk.honest × HasItsExtents old.disk old.state.body) → new.failed ≡ false → KeepsBlocks old.disk.seen (free_by old.state.body) new.disk.seen (free_by new.state.body)
+  pub extents : (again → (old.failed ≡ false) × new.disk.honest) → new.failed ≡ false → HasItsExtents old.disk old.state.body → HasItsExtents new.disk new.state.body
 
 -- Sends stand on where a pool changes so.
 abbrev pub SendsStandBeside : Type 1

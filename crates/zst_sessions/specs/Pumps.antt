@@ -6,7 +6,8 @@ use Rattle.zst_outside.specs.Images.{Leaves}
 use Rattle.zst_outside.specs.declared.disk.Disk.{Ghosts}
 use Rattle.zst_block.specs.Blocks.{Has}
 use Rattle.zst_block.specs.IoCalls.{HasCause, fails}
-use Rattle.zst_image.specs.Reads.{Reads, bound_of, free_by}
+use Rattle.zst_image.specs.Bodies.{free_by}
+use Rattle.zst_image.specs.Reads.{Reads, bound_of}
 use Rattle.zst_model.specs.declared.refusals.faults.Quantity.TheVariants.{Stream}
 use Rattle.zst_model.specs.declared.refusals.plan_fault.PlanFault.TheVariants.{Limit}
 use Rattle.zst_model.specs.declared.refusals.refusal.Refusal.{Refusal}

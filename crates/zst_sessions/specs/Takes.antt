@@ -1,5 +1,5 @@
 -- What a call that only reads a pool leaves of it, and what a take of bytes makes of the sessions and of a world.
-use Rattle.std.specs.Prelude.{◌≡◌, ◌⊎◌, ◌||◌, ◌==◌, ◌≤◌, IsTrue, ℕ, true, false, List, length, take, Some, Result, Ok, Err, IfOk, OnOk}
+use Rattle.std.specs.Prelude.{◌≡◌, ◌⊎◌, ◌||◌, ◌==◌, ◌≤◌, IsTrue, ℕ, true, false, List, length, take, Option, Some, Result, Ok, Err, IfOk, OnOk}
 use Rattle.std.specs.List.{position}
 use Rattle.zst_outside.specs.Causes.{Rose}
 use Rattle.zst_outside.specs.Images.{Leaves, OnlyReads}
@@ -9,11 +9,16 @@ use Rattle.zst_block.specs.IoStates.{disk_of}
 use Rattle.zst_image.specs.Reads.{Reads}
 use Rattle.zst_model.specs.declared.refusals.refusal.Refusal.{Refusal}
 use Rattle.zst_model.specs.declared.refusals.refusal.Refusal.TheVariants as refusals
+use Rattle.zst_model.specs.declared.sends.header.Point.{Point}
+use Rattle.zst_model.specs.sends.Headers.{Sent}
 use Rattle.zst_pool.specs.Queries.{stop_of}
 use Rattle.zst_pool.specs.declared.fault.PoolFault.{PoolFault}
 use Rattle.zst_pool.specs.declared.fault.PoolFault.TheVariants as faults
 use Rattle.zst_pool.specs.declared.pool.Pool.{Pool}
 use Rattle.zst_script.specs.declared.event.Side.TheVariants.{Here, There}
+use Rattle.zst_send.specs.Sends.{TakesFrom}
+use Rattle.zst_send.specs.declared.send.Send.{Send}
+use Rattle.zst_tree.specs.Indices.{Blocks}
 use Rattle.zst_sessions.specs.EngineSteps.{EngineFits, IsLaterPool, NoneFailed, StandsFor, kept_pool}
 use Rattle.zst_sessions.specs.Engines.{Kept, Stands}
 use Rattle.zst_sessions.specs.Replay.{Fails, image_of}
@@ -46,13 +51,18 @@ module _ {D : Type 0} {g : Ghosts D} where
 
 -- ---- bytes of a send
 
+-- A take gave what is next of a send, or was refused as one is; or no memory was left for the free extents of its pool, and the send stands as it stood.
+abbrev pub GaveOrStarved : Blocks → (before after : Send) → Sent → Option Point → (given left into : List ℕ) → Result ℕ PoolFault → Type 0
+GaveOrStarved has before after sent start given left into result = TakesFrom has after sent start given left into result ⊎ ((result ≡ Err faults.OutOfMemory) × (after ≡ before))
+
 -- How a take of at most so many bytes of a send ends, and the world that it leaves: the room begins with the next piece, and the send has gone on; or the disk of its pool
--- fails, whose mark is set; or it had failed before.
+-- fails, whose mark is set; or it had failed before; or no memory was left.
 pub data TakeEnds (count : ℕ) (send : OpenSend) (world : World) (room : List ℕ) (result : Result ℕ Refusal) (next : World) : Type 0 where
   Gives : (taken : ℕ) → result ≡ Ok taken → (at_side send.side world).failed ≡ false → taken ≡ length (next_piece count send) → take taken room ≡ next_piece count send
       → next ≡ put_send (gone_on count send) world → TakeEnds count send world room result next
   Loses : result ≡ Err refusals.DiskFault → (at_side send.side world).failed ≡ false → Fails send.side world world next → TakeEnds count send world room result next
   HadFailed : result ≡ Err refusals.Failed → (at_side send.side world).failed ≡ true → next ≡ world → TakeEnds count send world room result next
+  Starves : result ≡ Err refusals.OutOfMemory → (at_side send.side world).failed ≡ false → next ≡ world → TakeEnds count send world room result next
 
 -- So it is with the send of a world that has this id: what then stands is the world that is left, and each image reads as it did.
 pub record Takes (id count : ℕ) (world : World) (here there here' there' : Kept) (sends : List kept_sends.OpenSend) (receives : List kept_receives.OpenReceive) (room : List ℕ) (result : Result ℕ Refusal) : Type 0 where

@@ -16,6 +16,7 @@ use crate::laws::{moves_keep_worlds, numbers_rise, sessions_stand_beside};
 use crate::open_sessions::{OpenReceive, OpenSend};
 use crate::takes::no_session;
 use std::alloc::Global;
+use zst_extents::root_has_one_set_of_extents;
 use zst_model::{Refusal, StreamFault};
 use zst_outside::Disk;
 use zst_pool::Pool;
@@ -66,9 +67,10 @@ fn open_again<D: Disk>(pool: &mut Pool<'_, D>, alloc: Global) -> Result<u64, Ref
     ensures cause { result ≡ Err Refusal.DiskFault → Rose (disk_of pool.old.io).faults (disk_of pool.new.io).faults }
     ensures open_still { ¬ (result ≡ Err Refusal.Failed) }
 {
+    root_has_one_set_of_extents();
     pool.drop_unkept();
     pool.reopen(alloc)?;
-    Ok(pool.kept.body.number)
+    Ok(pool.kept.body.uber().number)
 }
 
 impl<'a, 'b, D: Disk, E: Disk> Engine<'a, 'b, D, E> {

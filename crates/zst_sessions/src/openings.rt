@@ -60,12 +60,12 @@ fn begin_send<D: Disk>(
     if pool.io.failed {
         return Err(PoolFault::Failed);
     }
-    pool.renew(alloc);
+    pool.renew(alloc)?;
     let send = Send::open(pool, alloc, ask)?;
     Ok(Begun {
         send,
         snapshot: ask.snap.duplicate(),
-        number: pool.kept.body.number,
+        number: pool.kept.body.uber().number,
     })
 }
 
@@ -84,14 +84,14 @@ fn begin_rest<D: Disk>(
     if pool.io.failed {
         return Err(PoolFault::Failed);
     }
-    pool.renew(alloc);
+    pool.renew(alloc)?;
     let plan = rest_plan(&pool.kept.dir, token)?;
     let snapshot = pool.kept.dir.snapshots()[plan.snap].name.duplicate();
     let send = Send::resume(pool, alloc, &plan, token.point)?;
     Ok(Begun {
         send,
         snapshot,
-        number: pool.kept.body.number,
+        number: pool.kept.body.uber().number,
     })
 }
 
@@ -102,7 +102,7 @@ fn begin_receive<D: Disk>(
     ask: RecvAsk,
 ) -> Result<Awaited, PoolFault>
     ensures fresh { IfOk result (λ begun. IsFresh pool.old.kept.dir ask begun.recv) }
-    ensures number { IfOk result (λ begun. begun.number ≡ pool.old.kept.body.number) }
+    ensures number { IfOk result (λ begun. begun.number ≡ pool.old.kept.body.uber.number) }
     ensures known { pool.old.io.failed ≡ false → IfErr result (λ fault. fault ≡ PoolFault.OutOfMemory) }
     ensures pool { LooksAtPool pool.old pool.new result }
 {
@@ -112,7 +112,7 @@ fn begin_receive<D: Disk>(
     let recv = Recv::open(pool, alloc, ask)?;
     Ok(Awaited {
         recv,
-        number: pool.kept.body.number,
+        number: pool.kept.body.uber().number,
     })
 }
 
@@ -282,7 +282,7 @@ impl<'a, 'b, D: Disk, E: Disk> Engine<'a, 'b, D, E> {
         ask: RecvAsk,
     ) -> Result<Awaited, PoolFault>
         ensures fresh { IfOk result (λ begun. IsFresh (kept_on side self.old).state.dir ask begun.recv) }
-        ensures number { IfOk result (λ begun. begun.number ≡ (kept_on side self.old).state.body.number) }
+        ensures number { IfOk result (λ begun. begun.number ≡ (kept_on side self.old).state.body.uber.number) }
         ensures known { (kept_on side self.old).failed ≡ false → IfErr result (λ fault. fault ≡ PoolFault.OutOfMemory) }
         ensures looks { LooksAtSide side self.old self.new result }
     {

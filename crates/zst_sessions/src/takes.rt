@@ -4,15 +4,15 @@ ghost use Rattle.std.specs.List.{position};
 ghost use Rattle.zst_block.specs.Blocks.{Has};
 ghost use Rattle.zst_block.specs.IoStates.{IsHonest, disk_of};
 ghost use Rattle.zst_image.specs.Commits.{Ready};
-ghost use Rattle.zst_image.specs.Reads.{free_by};
+ghost use Rattle.zst_image.specs.Bodies.{free_by};
 ghost use Rattle.zst_model.specs.declared.sends.header.Point.{Point};
 ghost use Rattle.zst_model.specs.sends.Headers.{Sent};
 ghost use Rattle.zst_script.specs.declared.event.Event.TheVariants as events;
-ghost use Rattle.zst_send.specs.Sends.{SendFits, SendsFrom, TakesFrom};
+ghost use Rattle.zst_send.specs.Sends.{SendFits, SendsFrom};
 ghost use Rattle.zst_sessions.specs.EngineSteps.{EngineFits, StepsEngine, kept_pool, piece_limit};
 ghost use Rattle.zst_sessions.specs.Engines.{kept_at};
 ghost use Rattle.zst_sessions.specs.Moves.{no_session};
-ghost use Rattle.zst_sessions.specs.Takes.{LooksAtPool, TakesAt};
+ghost use Rattle.zst_sessions.specs.Takes.{GaveOrStarved, LooksAtPool, TakesAt};
 
 use crate::engine::Engine;
 use crate::event_reply::EventReply;
@@ -41,10 +41,10 @@ fn take_from<D: Disk>(
     requires ready { pool.old.io.failed ≡ false → Ready (disk_of pool.old.io) pool.old.kept.body }
     requires send { SendFits send.old }
     requires count { count ≤ length room.old }
-    // The next bytes of the text are given, over the blocks that the latest body leaves taken.
+    // The next bytes of the text are given, over the blocks that the latest body leaves taken; or no memory is left for its free extents.
     ensures takes { (sent : Sent) (start : Option Point) (given left : List ℕ) → IsHonest pool.new.io → pool.old.io.failed ≡ false
         → SendsFrom (Has (disk_of pool.old.io).seen (free_by pool.old.kept.body)) send.old sent start given left
-        → TakesFrom (Has (disk_of pool.new.io).seen (free_by pool.new.kept.body)) send.new sent start given left (take count room.new) result }
+        → GaveOrStarved (Has (disk_of pool.new.io).seen (free_by pool.new.kept.body)) send.old send.new sent start given left (take count room.new) result }
     ensures idle { pool.old.io.failed ≡ true → send.new ≡ send.old }
     ensures within { IfOk result (λ taken. taken ≤ count) }
     ensures send { SendFits send.new }
@@ -53,7 +53,7 @@ fn take_from<D: Disk>(
     if pool.io.failed {
         return Err(PoolFault::Failed);
     }
-    pool.renew(alloc);
+    pool.renew(alloc)?;
     send.take(pool, &mut room[..count])
 }
 

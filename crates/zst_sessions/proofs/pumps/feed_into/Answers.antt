@@ -2,7 +2,7 @@ use Rattle.std.proofs.Common.{◌≡◌, ◌||◌, Bool, true, false, Result, Er
 use Rattle.zst_outside.specs.Images.{Leaves, Leaves-none}
 use Rattle.zst_block.specs.IoCalls.{fails}
 use Rattle.zst_dir.specs.Rows.{Rows}
-use Rattle.zst_image.specs.Reads.{free_by}
+use Rattle.zst_image.specs.Bodies.{free_by}
 use Rattle.zst_model.specs.pools.Pool.{Pool}
 use Rattle.zst_plan.specs.Receipts.{TellsDates}
 use Rattle.zst_plan.specs.declared.receive.RecvAsk.{RecvAsk}
@@ -35,6 +35,7 @@ returns-clause-fed g c =
     let rows = c.feed-fed.ensures.leaves.rows in
     let old = g.D.Disk.state c.args.pool.now.io.disk.now in
     let result = c.feed-fed.result in
+    let worked_so = worked c.feed-fed.new.pool.io.failed c.args.pool.now.io.failed (fails (stop_of result)) pool.failed in
     record {
       feeds = λ running text stage honest works rests receives.
           c.feed-fed.ensures.feeds true running text stage honest works rests
@@ -48,9 +49,10 @@ returns-clause-fed g c =
       open_still = pool.open_still;
       lost = λ one other moments images tells. c.lost_disks_read.ensures true one other c.args.pool.now.io.disk.now c.feed-fed.new.pool.io.disk.now moments images tells;
       keeps = record {
-        mark = λ works. (worked c.feed-fed.new.pool.io.failed c.args.pool.now.io.failed (fails (stop_of result)) pool.failed works).0;
+        mark = λ works. (worked_so works).0;
         ready = pool.ready;
-        blocks = λ works. pool.blocks (no_fault result (worked c.feed-fed.new.pool.io.failed c.args.pool.now.io.failed (fails (stop_of result)) pool.failed works).1);
+        blocks = λ works. pool.blocks (no_fault result (worked_so works).1);
+        extents = λ works. pool.extents (no_fault result (worked_so works).1);
         lawful = c.datasets-lawful.ensures.lawful;
         rows = rows.others;
       };
