@@ -11,7 +11,8 @@ use Rattle.zst_model.specs.declared.sends.header.Point.{Point}
 use Rattle.zst_model.specs.pools.Pool.{Pool}
 use Rattle.zst_model.specs.sends.Headers.{Sent}
 use Rattle.zst_model.specs.sends.SendPlan.{send_plan}
-use Rattle.zst_image.specs.Reads.{free_by, kept_rows}
+use Rattle.zst_image.specs.Bodies.{free_by}
+use Rattle.zst_image.specs.Reads.{kept_rows}
 use Rattle.zst_block.specs.Blocks.{Has}
 use Rattle.zst_pool.proofs.NamedPools.{rows_named}
 use Rattle.zst_send.specs.Openings.{RowsStandForSends}
@@ -92,20 +93,21 @@ worlds_alike alike same here here' there there' = record {
 -- an image that reads as a pool has what each send needs
 pub reads_for_sends : RowsStandForSends → ReadsForSends
 reads_for_sends law request pool image is =
-    let uber = is.0 in
+    let body = is.0 in
     let rows = is.1 in
     let reads = is.2 in
     let all = reads.described in (
-      uber,
+      body,
       rows,
       record {
         stands = reads.stands;
         fits = reads.fits;
         in_range = reads.in_range;
         extents = all.extents;
+        apart = all.apart;
         directory = all.directory;
-        named = record { id = all.id; number = all.number; guids = all.guids; are_named = rows_named (Has image (free_by uber)) (kept_rows rows) pool all.rows_are };
+        named = record { id = all.id; number = all.number; guids = all.guids; are_named = rows_named (Has image (free_by body)) (kept_rows rows) pool all.rows_are };
         lawful = all.lawful;
-        sent = λ sent planned. law image (free_by uber) (kept_rows rows) pool sent all.rows_are;
+        sent = λ sent planned. law image (free_by body) (kept_rows rows) pool sent all.rows_are;
       },
     )

@@ -63,7 +63,7 @@ module _ (tight : Bool) (ask : RecvAsk) (into : Pool) (text : List ℕ) (there t
   left : Waited tight ask into was.receives.pieces there'
   left =
       waited_of tight ask into was.receives.pieces there' was.input was.input_after was.refusal was.cut
-      (was.receives.ends tight was.uber was.rows into was.honest was.reads was.may)
+      (was.receives.ends tight was.body was.rows into was.honest was.reads was.may)
 
   read_is : concat was.receives.pieces ≡ text
   read_is = append_cancel_left was.input.given (concat was.receives.pieces) text (sym was.receives.consumed ∙ was.gave)
@@ -75,7 +75,7 @@ cuts_tell keeps left_kept law there there' far far' tight other ask into beside 
     let pieces = one.receives.pieces in
     let same : two.receives.pieces ≡ pieces =
     one_reading two.receives.pieces pieces two.receives.are_pieces one.receives.are_pieces (read_is other ask beside text far far' two ∙ sym (read_is tight ask into text there there' one)) in
-    let told = law ask into beside a.after b.after a.stage b.stage pieces (keeps tight one.uber one.rows into there.seen one.reads) (keeps other two.uber two.rows beside far.seen two.reads) begins
+    let told = law ask into beside a.after b.after a.stage b.stage pieces (keeps tight one.body one.rows into there.seen one.reads) (keeps other two.body two.rows beside far.seen two.reads) begins
     a.is (open_live a.stage a.live) (subst (λ (ps : List (List ℕ)). receives ask beside ps ≡ Goes b.after b.stage) same b.is) (open_live b.stage b.live) in (
       left_by a.stage a.after,
       left_by b.stage b.after,

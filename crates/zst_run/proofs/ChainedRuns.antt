@@ -99,7 +99,7 @@ rest_stands keeps can law kept here here' there there' tight token receive from 
     let of = of_rest can tight token receive from into sent also here there there' sender receiver run.pieces input input' (subst (λ (t : List ℕ). IsReadOf t input input') text piped.2) run.consumed in
     let gives = gives can tight token receive from into sent also here there there' sender receiver in
     let same = same_partial can tight token receive from into sent also here there there' sender receiver partial underway.there in
-    let end = received_so tight receive into run.pieces there' input input' other other' received.answer (run.ends tight receiver.uber receiver.rows into receiver.honest receiver.reads receiver.may) received.replied in
+    let end = received_so tight receive into run.pieces there' input input' other other' received.answer (run.ends tight receiver.body receiver.rows into receiver.honest receiver.reads receiver.may) received.replied in
     let done = end.1 in
     let one = law sent also state receive into done.after partial done.partial run.pieces (lawful can tight token receive from into sent also here there there' sender receiver) underway
     (subst (λ (p : Partial). GivesRest sent also p.point) same gives) (subst (λ (p : Partial). AreOfStream run.pieces also (Some p.point)) same of) done.is in
@@ -110,7 +110,7 @@ rest_stands keeps can law kept here here' there there' tight token receive from 
       is_target = one.1;
       more =
           subst (λ (p : Pool). HasOneMore p (kept_of done.after) receive.target partial.component partial.base (header_of sent) one.0)
-          (whole keeps tight receiver.uber receiver.rows into there.seen receiver.reads)
+          (whole keeps tight receiver.body receiver.rows into there.seen receiver.reads)
           (kept into done.after receive.target partial.component partial.base (header_of sent) one.0 one.2);
     }
 
@@ -121,9 +121,9 @@ rests_so keeps can law here there there' tight token receive from into partial s
     let gives = gives can tight token receive from into sent also here there there' sender receiver in
     let same = same_partial can tight token receive from into sent also here there there' sender receiver partial underway.there in
     let course = course_on partial state in
-    each_image (Progress receive (sent_view sent) course into) there there' tight receive receiver.uber receiver.rows into result out out' input input' receiver.honest receiver.reads receiver.may received
+    each_image (Progress receive (sent_view sent) course into) there there' tight receive receiver.body receiver.rows into result out out' input input' receiver.honest receiver.reads receiver.may received
     (λ n. subst (λ (p : Pool). Progress receive (sent_view sent) course p (kept_of (pool_of (receives receive into (take n run.pieces)))))
-    (whole keeps tight receiver.uber receiver.rows into there.seen receiver.reads)
+    (whole keeps tight receiver.body receiver.rows into there.seen receiver.reads)
     (law sent also state receive into partial (take n run.pieces) (lawful can tight token receive from into sent also here there there' sender receiver) underway
     (subst (λ (p : Partial). GivesRest sent also p.point) same gives)
     (first_of_stream n run.pieces also (Some partial.point) (subst (λ (p : Partial). AreOfStream run.pieces also (Some p.point)) same of))))
@@ -135,7 +135,7 @@ chained_so fits can here there there' = record {
   first = λ tight ask receive from into sent component base result out out' input input' sender receiver begins received read.
       let run = received.does in
       let of : AreOfStream run.pieces sent None = pieces_read (begun_text sent None) input input' run.pieces read run.consumed in
-      each_image (Chain sent receive.target component base) there there' tight receive receiver.uber receiver.rows into result out out' input input' receiver.honest receiver.reads receiver.may received
+      each_image (Chain sent receive.target component base) there there' tight receive receiver.body receiver.rows into result out out' input input' receiver.honest receiver.reads receiver.may received
       (λ n. Begun receive into (take n run.pieces) refl (into_is fits tight ask receive from into sent here there there' sender receiver) receiver.alone
       receiver.matches begins (sendable fits tight ask receive from into sent here there there' sender receiver)
       (first_of_stream n run.pieces sent None of));
@@ -143,7 +143,7 @@ chained_so fits can here there there' = record {
       let run = received.does in
       let is = told can tight token receive from into sent also here there there' sender receiver in
       let of = of_rest can tight token receive from into sent also here there there' sender receiver run.pieces input input' read run.consumed in
-      each_image (Chain sent receive.target component base) there there' tight receive receiver.uber receiver.rows into result out out' input input' receiver.honest receiver.reads receiver.may received
+      each_image (Chain sent receive.target component base) there there' tight receive receiver.body receiver.rows into result out out' input input' receiver.honest receiver.reads receiver.may received
       (λ n. GoneOn also receive into is.partial (take n run.pieces) chain refl (lawful can tight token receive from into sent also here there there' sender receiver) is.there
       (gives can tight token receive from into sent also here there there' sender receiver) (first_of_stream n run.pieces also (Some is.partial.point) of));
 }
@@ -152,13 +152,13 @@ pub chains_so : KeepsWhole → RestCanBeSent → resumption.ChainsComplete → O
 chains_so keeps can law kept here there there' tight token receive from into sent also component base out out' input input' chain sender receiver received read =
     let run = received.does in
     let is = told can tight token receive from into sent also here there there' sender receiver in
-    let end = received_so tight receive into run.pieces there' input input' out out' received.answer (run.ends tight receiver.uber receiver.rows into receiver.honest receiver.reads receiver.may) received.replied in
+    let end = received_so tight receive into run.pieces there' input input' out out' received.answer (run.ends tight receiver.body receiver.rows into receiver.honest receiver.reads receiver.may) received.replied in
     let done = end.1 in
     let one = law sent also receive.target component base receive into done.after is.partial done.partial run.pieces chain refl (lawful can tight token receive from into sent also here there there' sender receiver) is.there
     (gives can tight token receive from into sent also here there there' sender receiver) (of_rest can tight token receive from into sent also here there there' sender receiver run.pieces input input' read run.consumed) done.is in (
       done.after,
       done.keeps,
       subst (λ (p : Pool). HasOneMore p (kept_of done.after) receive.target component (base_name base) (header_of sent) (sent_state sent))
-          (whole keeps tight receiver.uber receiver.rows into there.seen receiver.reads)
+          (whole keeps tight receiver.body receiver.rows into there.seen receiver.reads)
           (kept into done.after receive.target component (base_name base) (header_of sent) (sent_state sent) one),
     )

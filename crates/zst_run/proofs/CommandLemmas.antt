@@ -1,11 +1,11 @@
 -- What stands after a command on the pool of an image, from what opening and stepping say.
 use Rattle.std.specs.Prelude.{false, Some, None, Result, Ok, Err}
-use Rattle.std.proofs.Common.{◌≡◌, ◌≢◌, ◌⊎◌, inl, inr, ⊎_elim, ℕ, ◌≤◌, List, [], ◌∷◌, refl, sym, ap, ◌∙◌, subst, arith, Bool}
+use Rattle.std.proofs.Common.{◌≡◌, ◌≢◌, ◌⊎◌, inl, inr, ⊎_elim, ℕ, ◌≤◌, List, [], ◌∷◌, length, refl, sym, ap, ◌∙◌, subst, arith, Bool}
 use Rattle.zst_outside.specs.Causes.{Rose-earlier}
 use Rattle.zst_outside.specs.Images.{DiskState, Leaves, Leaves-weaker, Leaves-then, OnlyReads, OnlyReads-then, IsSynced}
 use Rattle.zst_space.specs.FreeSectors.{FreeSectors}
 use Rattle.zst_block.specs.Blocks.{SparesTaken}
-use Rattle.zst_uber.specs.declared.uber.Uber.{Uber}
+use Rattle.zst_image.specs.Bodies.{Body, free_by}
 use Rattle.zst_model.specs.pools.KeptPool.{KeepsAll, kept_of}
 use Rattle.zst_model.specs.pools.Pool.{Pool}
 use Rattle.zst_model.specs.refusals.Refusal.{refusal_of}
@@ -25,7 +25,7 @@ use Rattle.zst_pool.proofs.PoolsAtRest.{rest_plain}
 use Rattle.zst_image.specs.Faults.{open_refusal}
 use Rattle.zst_uber.specs.DiskCalls as disk_calls
 use Rattle.zst_image.specs.OpenAnswers.{GivesPool, OpenAnswers}
-use Rattle.zst_image.specs.Reads.{IsNamedBy, Reads, ReadsAs, Rests, free_by, kept_rows}
+use Rattle.zst_image.specs.Reads.{IsNamedBy, Reads, ReadsAs, Rests, kept_rows}
 use Rattle.zst_image.specs.declared.pool_state.PoolState.{PoolState}
 use Rattle.zst_image.specs.declared.open_fault.OpenFault.{OpenFault}
 use Rattle.zst_image.specs.declared.open_fault.OpenFault.TheVariants as opens
@@ -140,18 +140,18 @@ refused_open here here' fault cause = record { one = inl (fault, refl); alive = 
 -- ---- opening
 
 -- a disk that read as a pool and where nothing is pending rests as that pool
-pub rests_read : {tight : Bool} (here mid : DiskState) (uber : Uber) (rows : Rows) (pool : Pool) → ReadsAs tight uber rows pool here.seen → OnlyReads here mid → IsSynced mid → Rests tight mid uber rows pool
-rests_read {tight = tight} here mid uber rows pool is reads synced =
-    let read : ReadsAs tight uber rows pool mid.seen = subst (λ (bytes : List ℕ). ReadsAs tight uber rows pool bytes) (sym reads.seen) is in
-    record { reads = read; each = λ c image. subst (λ (bytes : List ℕ). ReadsAs tight uber rows pool bytes) (sym (synced c image)) read }
+pub rests_read : {tight : Bool} (here mid : DiskState) (body : Body) (rows : Rows) (pool : Pool) → ReadsAs tight body rows pool here.seen → OnlyReads here mid → IsSynced mid → Rests tight mid body rows pool
+rests_read {tight = tight} here mid body rows pool is reads synced =
+    let read : ReadsAs tight body rows pool mid.seen = subst (λ (bytes : List ℕ). ReadsAs tight body rows pool bytes) (sym reads.seen) is in
+    record { reads = read; each = λ c image. subst (λ (bytes : List ℕ). ReadsAs tight body rows pool bytes) (sym (synced c image)) read }
 
 -- what holds of the body that is kept holds of the body that it is
-for_kept : (P : Uber → Type 0) (kept : PoolState) (uber : Uber) (rows : Rows) → GivesPool uber rows (Ok kept) → P kept.body → P uber
-for_kept P kept uber rows same is = subst P same.0 is
+for_kept : (P : Body → Type 0) (kept : PoolState) (body : Body) (rows : Rows) → GivesPool body rows (Ok kept) → P kept.body → P body
+for_kept P kept body rows same is = subst P same.0 is
 
 -- what is kept of a pool that an image reads as, and of what a command makes of it, is all of it
 abbrev pub KeepLaws : Type 0
-KeepLaws = ((pool : Pool) → KeepsAll pool → kept_of pool ≡ pool) × StepsKeepKept × ((tight : Bool) (uber : Uber) (rows : Rows) (pool : Pool) (image : List ℕ) → ReadsAs tight uber rows pool image → KeepsAll pool)
+KeepLaws = ((pool : Pool) → KeepsAll pool → kept_of pool ≡ pool) × StepsKeepKept × ((tight : Bool) (body : Body) (rows : Rows) (pool : Pool) (image : List ℕ) → ReadsAs tight body rows pool image → KeepsAll pool)
 
 module _ (laws : KeepLaws) where
   -- what is kept of the pool that a command makes
@@ -176,13 +176,13 @@ moments_then {tight = tight} here mid here' pool after reads step whole =
 -- ---- answers
 
 -- where the pool reads, opening is refused by the disk or by want of memory alone
-pub answers_unopened : {tight : Bool} (command : Command) (mid : DiskState) (pool : Pool) (after : Result Stepped Refusal) (uber : Uber) (rows : Rows) (fault : OpenFault)
-    → (fault ≢ opens.DiskFault → Rests tight mid uber rows pool) → GivesPool uber rows (Err fault) → Answers tight command uber rows pool mid after (Err (open_refusal fault))
-answers_unopened command mid pool after uber rows (opens.Damaged sector stated found) rests gives = absurd gives
-answers_unopened command mid pool after uber rows opens.NoPool rests gives = absurd gives
-answers_unopened command mid pool after uber rows (opens.BadVersion version) rests gives = absurd gives
-answers_unopened command mid pool after uber rows opens.DiskFault rests gives = tt
-answers_unopened command mid pool after uber rows opens.OutOfMemory rests gives = rests (λ is. absurd (cc is))
+pub answers_unopened : {tight : Bool} (command : Command) (mid : DiskState) (pool : Pool) (after : Result Stepped Refusal) (body : Body) (rows : Rows) (fault : OpenFault)
+    → (fault ≢ opens.DiskFault → Rests tight mid body rows pool) → GivesPool body rows (Err fault) → Answers tight command body rows pool mid after (Err (open_refusal fault))
+answers_unopened command mid pool after body rows (opens.Damaged sector stated found) rests gives = absurd gives
+answers_unopened command mid pool after body rows opens.NoPool rests gives = absurd gives
+answers_unopened command mid pool after body rows (opens.BadVersion version) rests gives = absurd gives
+answers_unopened command mid pool after body rows opens.DiskFault rests gives = tt
+answers_unopened command mid pool after body rows opens.OutOfMemory rests gives = rests (λ is. absurd (cc is))
 
 -- rows in memory that last, and what they tell of room
 with_rows : (P : Rows → Type 0) (kept : PoolState) (rows : Rows) → kept.dir ≡ kept_rows rows → P kept.dir → P (kept_rows rows)
@@ -331,14 +331,14 @@ images_after old new P leaves before only now c image =
 
 -- opening was refused
 pub stepping_unopened : (now : ℕ) (command : Command) (here here' : DiskState) (fault : OpenFault)
-    → ((tight : Bool) (uber : Uber) (rows : Rows) (pool : Pool) → here'.honest → ReadsAs tight uber rows pool here.seen → GivesPool uber rows (Err fault))
+    → ((tight : Bool) (body : Body) (rows : Rows) (pool : Pool) → here'.honest → ReadsAs tight body rows pool here.seen → GivesPool body rows (Err fault))
     → (here'.honest → OpenAnswers here (Err fault)) → OnlyReads here here' → (fault ≢ opens.DiskFault → IsSynced here') → disk_calls.HasDiskCause {T = PoolState} opens.DiskFault here.faults here'.faults (Err fault)
     → Stepping now command here here' (Err (open_refusal fault))
 stepping_unopened now command here here' fault there answer reads synced cause = record {
   moments = λ tight pool told is. moments_read here here' pool (stepped [] now command pool) reads;
   images = λ tight pool told is c image. inl (reads.crash c image);
-  answers = λ tight uber rows pool told is. answers_unopened command here' pool (stepped [] now command pool) uber rows fault
-      (λ alive. rests_read here here' uber rows pool is reads (synced alive)) (there tight uber rows pool told is);
+  answers = λ tight body rows pool told is. answers_unopened command here' pool (stepped [] now command pool) body rows fault
+      (λ alive. rests_read here here' body rows pool is reads (synced alive)) (there tight body rows pool told is);
   opened = λ told. opened_refused now command here here' fault reads (answer told);
   refused = refused_open here here' fault cause;
   idle = λ not. reads;
@@ -347,22 +347,22 @@ stepping_unopened now command here here' fault there answer reads synced cause =
 
 -- by one image one pool is read, by one body and by rows that are one
 abbrev pub ReadsOne : Type 0
-ReadsOne = (tight : Bool) (uber other : Uber) (rows others : Rows) (pool another : Pool) (image : List ℕ) → ReadsAs tight uber rows pool image → ReadsAs tight other others another image → rows ≡ others
+ReadsOne = (tight : Bool) (body other : Body) (rows others : Rows) (pool another : Pool) (image : List ℕ) → ReadsAs tight body rows pool image → ReadsAs tight other others another image → rows ≡ others
 
 abbrev pub ReadsStay : Type 0
-ReadsStay = (tight : Bool) (uber : Uber) (rows : Rows) (pool : Pool) (old new : List ℕ) → SparesTaken (free_by uber) old new → ReadsAs tight uber rows pool old → ReadsAs tight uber rows pool new
+ReadsStay = (tight : Bool) (body : Body) (rows : Rows) (pool : Pool) (old new : List ℕ) → SparesTaken (free_by body) old new → ReadsAs tight body rows pool old → ReadsAs tight body rows pool new
 
 -- the command ran on what was opened
 module _ (laws : KeepLaws) (one : ReadsOne) (stay : ReadsStay) (now : ℕ) (command : Command) (here mid here' : DiskState) (kept kept' : PoolState)
-    (there : (tight : Bool) (uber : Uber) (rows : Rows) (pool : Pool) → mid.honest → ReadsAs tight uber rows pool here.seen → GivesPool uber rows (Ok kept))
+    (there : (tight : Bool) (body : Body) (rows : Rows) (pool : Pool) → mid.honest → ReadsAs tight body rows pool here.seen → GivesPool body rows (Ok kept))
     (falls : here'.honest → mid.honest) (answer : mid.honest → OpenAnswers here (Ok kept)) (reads : OnlyReads here mid)
-    (stands : (tight : Bool) (uber : Uber) (rows : Rows) (pool : Pool) → mid.honest → ReadsAs tight uber rows pool here.seen → Rests tight mid kept.body rows pool)
+    (stands : (tight : Bool) (body : Body) (rows : Rows) (pool : Pool) → mid.honest → ReadsAs tight body rows pool here.seen → Rests tight mid kept.body rows pool)
     (opened : (tight : Bool) (rows : Rows) (pool : Pool) → Rests tight mid kept.body rows pool → kept.dir ≡ kept_rows rows → IsAtRest tight mid kept pool) (later : here.faults ≤ mid.faults)
     (step : (tight : Bool) (pool : Pool) → here'.honest → IsAtRest tight mid kept pool → Leaves mid here' (BeforeOrAfter tight pool (stepped [] now command pool)))
     (looks : commits command ≡ false → OnlyReads mid here')
     (only : (c : List ℕ) → here.left_since here.moment c → here.images c) (now_left : (t : ℕ) (c : List ℕ) → t ≤ here'.moment → here'.images c → here'.left_since t c) where
-  rests : (tight : Bool) (uber : Uber) (rows : Rows) (pool : Pool) → here'.honest → ReadsAs tight uber rows pool here.seen → IsAtRest tight mid kept pool
-  rests tight uber rows pool told is = let gives = there tight uber rows pool (falls told) is in opened tight rows pool (stands tight uber rows pool (falls told) is) gives.1
+  rests : (tight : Bool) (body : Body) (rows : Rows) (pool : Pool) → here'.honest → ReadsAs tight body rows pool here.seen → IsAtRest tight mid kept pool
+  rests tight body rows pool told is = let gives = there tight body rows pool (falls told) is in opened tight rows pool (stands tight body rows pool (falls told) is) gives.1
 
   moments : (tight : Bool) (pool : Pool) → here'.honest → Reads tight pool here.seen → Leaves here here' (OldOrReads tight here pool (stepped [] now command pool))
   moments tight pool told is =
@@ -372,30 +372,30 @@ module _ (laws : KeepLaws) (one : ReadsOne) (stay : ReadsStay) (now : ℕ) (comm
   images : (tight : Bool) (pool : Pool) → here'.honest → Reads tight pool here.seen → (c : List ℕ) → here'.images c → OldOrReads tight here pool (stepped [] now command pool) c
   images tight pool told is = images_after here here' (OldOrReads tight here pool (stepped [] now command pool)) (moments tight pool told is) (λ c image. inl image) only now_left
 
-  done : (tight : Bool) (uber : Uber) (rows : Rows) (pool : Pool) (lines : List (List ℕ)) → GivesPool uber rows (Ok kept) → KeepsAll pool
-      → Grows (most_sectors (cost_of command).cells ((cost_of command).block pool) ((cost_of command).list pool) kept.dir) kept.body kept'.body → StepAnswer tight here' kept' pool (stepped [] now command pool) (Ok lines)
-      → Answers tight command uber rows pool here' (stepped [] now command pool) (Ok lines)
-  done tight uber rows pool lines same all grows is = for_kept (λ u. Answers tight command u rows pool here' (stepped [] now command pool) (Ok lines)) kept uber rows same (record {
+  done : (tight : Bool) (body : Body) (rows : Rows) (pool : Pool) (lines : List (List ℕ)) → GivesPool body rows (Ok kept) → KeepsAll pool
+      → Grows (most_sectors (cost_of command).cells ((cost_of command).block pool) ((cost_of command).list pool) kept.dir (length kept.body.free)) ((cost_of command).block pool) kept.body kept'.body → StepAnswer tight here' kept' pool (stepped [] now command pool) (Ok lines)
+      → Answers tight command body rows pool here' (stepped [] now command pool) (Ok lines)
+  done tight body rows pool lines same all grows is = for_kept (λ u. Answers tight command u rows pool here' (stepped [] now command pool) (Ok lines)) kept body rows same (record {
     done = is.0;
     accepts = is.1;
     reply = is.2;
-    body = kept'.body;
+    next = kept'.body;
     directory = is.3.rows;
     rests = subst (λ (p : Pool). Rests tight here' kept'.body is.3.rows p) (kept_done laws now command pool is.0 all is.1) is.3.rests;
-    grows = with_rows (λ r. Grows (most_sectors (cost_of command).cells ((cost_of command).block pool) ((cost_of command).list pool) r) kept.body kept'.body) kept rows same.1 grows;
+    grows = with_rows (λ r. Grows (most_sectors (cost_of command).cells ((cost_of command).block pool) ((cost_of command).list pool) r (length kept.body.free)) ((cost_of command).block pool) kept.body kept'.body) kept rows same.1 grows;
   })
 
   pub stepping_done : (lines : List (List ℕ)) → mid.faults ≤ here'.faults
       → Plans {T = List (List ℕ)} (λ pool. stepped [] now command pool) (numbers_end command) (indices_end command) (makes_list command) kept (Ok lines)
-      → ((pool : Pool) → here'.honest → IsAtRest false mid kept pool → Grows (most_sectors (cost_of command).cells ((cost_of command).block pool) ((cost_of command).list pool) kept.dir) kept.body kept'.body)
+      → ((pool : Pool) → here'.honest → IsAtRest false mid kept pool → Grows (most_sectors (cost_of command).cells ((cost_of command).block pool) ((cost_of command).list pool) kept.dir (length kept.body.free)) ((cost_of command).block pool) kept.body kept'.body)
       → ((tight : Bool) (pool : Pool) → here'.honest → IsAtRest tight mid kept pool → StepAnswer tight here' kept' pool (stepped [] now command pool) (Ok lines))
       → Stepping now command here here' (Ok lines)
   stepping_done lines after plan grows did = record {
     moments = moments;
     images = images;
-    answers = λ tight uber rows pool told is.
-        let before = rests tight uber rows pool told is in
-        done tight uber rows pool lines (there tight uber rows pool (falls told) is) (laws.2 tight uber rows pool here.seen is) (grows pool told (rest_plain mid kept pool before)) (did tight pool told before);
+    answers = λ tight body rows pool told is.
+        let before = rests tight body rows pool told is in
+        done tight body rows pool lines (there tight body rows pool (falls told) is) (laws.2 tight body rows pool here.seen is) (grows pool told (rest_plain mid kept pool before)) (did tight pool told before);
     opened = λ told. let was = answer (falls told) in (kept.body, was.1, ran_done now command here here' kept was.1 lines was.4 (was.0, was.2, was.3) plan);
     refused = tt;
     idle = λ not. OnlyReads-then here mid here' reads (looks not);
@@ -407,13 +407,13 @@ module _ (laws : KeepLaws) (one : ReadsOne) (stay : ReadsStay) (now : ℕ) (comm
   left_as tight fault pool same is = subst (λ (k : PoolState). StepFault (IsAtRest tight here' k pool) (stepped [] now command pool) fault) same is
 
   -- where free sectors alone were written the pool rests by the rows that it had
-  still_rests : (tight : Bool) (uber : Uber) (rows : Rows) (pool : Pool) → here'.honest → ReadsAs tight uber rows pool here.seen → SparesTaken (free_by kept.body) mid.seen here'.seen → IsAtRest tight here' kept pool → Rests tight here' kept.body rows pool
-  still_rests tight uber rows pool told is spares at_rest =
-      let before = stands tight uber rows pool (falls told) is in
+  still_rests : (tight : Bool) (body : Body) (rows : Rows) (pool : Pool) → here'.honest → ReadsAs tight body rows pool here.seen → SparesTaken (free_by kept.body) mid.seen here'.seen → IsAtRest tight here' kept pool → Rests tight here' kept.body rows pool
+  still_rests tight body rows pool told is spares at_rest =
+      let before = stands tight body rows pool (falls told) is in
       let read = stay tight kept.body rows pool mid.seen here'.seen spares before.reads in
       let rows_are = one tight kept.body kept.body at_rest.rows rows (kept_of pool) pool here'.seen at_rest.rests.reads read in
       subst (λ (r : Rows). Rests tight here' kept.body r pool) rows_are
-      (subst (λ (p : Pool). Rests tight here' kept.body at_rest.rows p) (laws.0 pool (laws.2 tight uber rows pool here.seen is)) at_rest.rests)
+      (subst (λ (p : Pool). Rests tight here' kept.body at_rest.rows p) (laws.0 pool (laws.2 tight body rows pool here.seen is)) at_rest.rests)
 
   pub stepping_refused : (fault : PoolFault) → kept' ≡ kept → HasDiskCause {T = List (List ℕ)} mid.faults here'.faults (Err fault) → fault ≢ faults.Failed
       → (fault ≢ faults.DiskFault → SparesTaken (free_by kept.body) mid.seen here'.seen)
@@ -427,12 +427,12 @@ module _ (laws : KeepLaws) (one : ReadsOne) (stay : ReadsStay) (now : ℕ) (comm
   stepping_refused fault same cause alive spares bounded damaged plan room less did = record {
     moments = moments;
     images = images;
-    answers = λ tight uber rows pool told is.
-        let before = rests tight uber rows pool told is in
-        let gives = there tight uber rows pool (falls told) is in
-        for_kept (λ u. Answers tight command u rows pool here' (stepped [] now command pool) (Err (pool_refusal fault))) kept uber rows gives
+    answers = λ tight body rows pool told is.
+        let before = rests tight body rows pool told is in
+        let gives = there tight body rows pool (falls told) is in
+        for_kept (λ u. Answers tight command u rows pool here' (stepped [] now command pool) (Err (pool_refusal fault))) kept body rows gives
         (answers_refused command here' kept rows pool (stepped [] now command pool) fault gives.1 (room pool told (rest_plain mid kept pool before)) (less pool told (rest_plain mid kept pool before))
-        (λ not at_rest. still_rests tight uber rows pool told is (spares not) at_rest) (left_as tight fault pool same (did tight pool told before)));
+        (λ not at_rest. still_rests tight body rows pool told is (spares not) at_rest) (left_as tight fault pool same (did tight pool told before)));
     opened = λ told. let was = answer (falls told) in opened_then now command here here' kept was.1 fault alive
         (λ not. ran_refused now command here mid here' kept was.1 fault was.4 (was.0, was.2, was.3) reads
         (subst (λ (bytes : List ℕ). SparesTaken (free_by kept.body) bytes here'.seen) reads.seen (spares not)) bounded (damaged told) plan);

@@ -7,7 +7,7 @@ use Rattle.std.proofs.lemmas.List.{append-nil, append_cancel_left, length-append
 use Rattle.zst_outside.specs.Images.{DiskState}
 use Rattle.zst_outside.specs.States.{SourceState, SinkState, Gave}
 use Rattle.zst_uber.specs.Slots.{latest}
-use Rattle.zst_uber.specs.declared.uber.Uber.{Uber}
+use Rattle.zst_image.specs.Bodies.{Body}
 use Rattle.zst_model.specs.declared.pools.command.Command.{Command}
 use Rattle.zst_model.specs.declared.refusals.faults.Quantity.TheVariants as quantities
 use Rattle.zst_model.specs.declared.refusals.plan_fault.PlanFault.{PlanFault}
@@ -114,12 +114,12 @@ answer_done out out' (Err refusal) result sink alone replied =
     inr (subst (λ (r : Refusal). result ≡ Err r) (alone refusal refl) replied.0)
 
 pub receives_complete : (here here' : DiskState) → ReceivesComplete here here'
-receives_complete here here' tight ask uber rows pool text input input' out out' result honest reads tells has within takes room disk source sink run =
+receives_complete here here' tight ask body rows pool text input input' out out' result honest reads tells has within takes room disk source sink run =
     let went = run.does in
     let found = of_front text input input' went.pieces went.are_pieces went.consumed has in
     let short : (need largest : ℕ) → run.answer ≡ Err (refusals.Full need largest) → ⊥ =
     λ need largest full. let costs = went.cost honest need largest full in room costs.0 costs.1 went.pieces costs.2 found.1 costs.3.cost in
-    let ends = went.ends tight uber rows pool honest reads tells in
+    let ends = went.ends tight body rows pool honest reads tells in
     answer_done out out' run.answer result sink
     (λ refusal is. refusal_done tight ask pool text went.pieces here here' input input' has found.0 takes.whole (takes.accepts went.pieces found.1) within disk source refusal
     (subst (λ (answer : Result (List (List ℕ)) Refusal). IfErr answer (IsReceiveRefusal here here' input input')) is went.refused)
@@ -129,22 +129,22 @@ receives_complete here here' tight ask uber rows pool text input input' out out'
 
 -- ---- the other lines
 
-step_refusal : (tight : Bool) (command : Command) (uber : Uber) (rows : Rows) (pool : Pool) (done : Stepped) (here here' : DiskState) (after : Result Stepped Refusal) (refusal : Refusal)
-    → after ≡ Ok done → HasRoomFor command uber rows pool after → NoneCounted here.faults here'.faults → IsPoolRefusal OfStepping here here' refusal
-    → Answers tight command uber rows pool here' after (Err refusal) → refusal ≡ refusals.OutOfMemory
-step_refusal tight command uber rows pool done here here' after refusals.DiskFault is room disk refused answers = absurd (disk (refused.cause refl))
-step_refusal tight command uber rows pool done here here' after (refusals.Full need largest) is room disk refused answers =
+step_refusal : (tight : Bool) (command : Command) (body : Body) (rows : Rows) (pool : Pool) (done : Stepped) (here here' : DiskState) (after : Result Stepped Refusal) (refusal : Refusal)
+    → after ≡ Ok done → HasRoomFor command body rows pool after → NoneCounted here.faults here'.faults → IsPoolRefusal OfStepping here here' refusal
+    → Answers tight command body rows pool here' after (Err refusal) → refusal ≡ refusals.OutOfMemory
+step_refusal tight command body rows pool done here here' after refusals.DiskFault is room disk refused answers = absurd (disk (refused.cause refl))
+step_refusal tight command body rows pool done here here' after (refusals.Full need largest) is room disk refused answers =
     absurd (⊎_elim (λ most. let short = answers.0.short.1.room in omega (arith, short, most)) (λ less. less answers.0.costs) room)
-step_refusal tight command uber rows pool done here here' after refusals.OutOfMemory is room disk refused answers = refl
-step_refusal tight command uber rows pool done here here' after refusal is room disk refused answers =
+step_refusal tight command body rows pool done here here' after refusals.OutOfMemory is room disk refused answers = refl
+step_refusal tight command body rows pool done here here' after refusal is room disk refused answers =
     absurd (let both : Ok done ≡ Err refusal = sym is ∙ answers.0 in cc)
 
 pub steps_complete : (here here' : DiskState) → StepsComplete here here'
-steps_complete here here' tight now command uber rows pool done out out' result honest reads is room disk sink steps =
+steps_complete here here' tight now command body rows pool done out out' result honest reads is room disk sink steps =
     answer_done out out' steps.answer result sink
-    (λ refusal e. step_refusal tight command uber rows pool done here here' (stepped [] now command pool) refusal is room disk
+    (λ refusal e. step_refusal tight command body rows pool done here here' (stepped [] now command pool) refusal is room disk
     (subst (λ (answer : Result (List (List ℕ)) Refusal). IfErr answer (IsPoolRefusal OfStepping here here')) e steps.does.refused)
-    (subst (λ (answer : Result (List (List ℕ)) Refusal). Answers tight command uber rows pool here' (stepped [] now command pool) answer) e (steps.does.answers tight uber rows pool honest reads)))
+    (subst (λ (answer : Result (List (List ℕ)) Refusal). Answers tight command body rows pool here' (stepped [] now command pool) answer) e (steps.does.answers tight body rows pool honest reads)))
     steps.replied
 
 create_refusal : (sectors id : ℕ) (here here' : DiskState) (refusal : Refusal) → latest here.seen ≡ None → 512 * sectors ≤ here.size → NoneCounted here.faults here'.faults

@@ -92,7 +92,7 @@ pub transfers_complete : SentCanBeSent → SentIsAccepted → ViewIsRead → (he
 transfers_complete fits accepted read here here' there there' tight ask receive from into sent text out out' other other' input input' result answer sender receiver can gave got = (
   sent_well (Named ask) from sent here here' out out' result sender.reads sender.is gave can.short,
   λ done wrote has.
-      receives_complete there there' tight receive receiver.uber receiver.rows into (begun_text sent None) input input' other other' answer receiver.honest receiver.reads receiver.may
+      receives_complete there there' tight receive receiver.body receiver.rows into (begun_text sent None) input input' other other' answer receiver.honest receiver.reads receiver.may
       (has_sent (Named ask) from sent here here' out out' result sender.reads sender.is gave text input input' done wrote has) can.short
       (sent_takes fits accepted read tight ask receive from into sent here there there' sender receiver can) can.room got.disk got.source got.sink got.receives,
 )
@@ -116,7 +116,7 @@ pub rest_transfers_complete : RestCanBeSent → RestIsAccepted → ViewIsRead �
 rest_transfers_complete fits accepted read here here' there there' tight token receive from into partial sent also state text out out' other other' input input' result answer sender receiver underway can gave got = (
   sent_well (Rest token) from also here here' out out' result sender.reads sender.is gave can.short,
   λ done wrote has.
-      receives_complete there there' tight receive receiver.uber receiver.rows into (begun_text also (Some token.point)) input input' other other' answer
+      receives_complete there there' tight receive receiver.body receiver.rows into (begun_text also (Some token.point)) input input' other other' answer
       receiver.honest receiver.reads receiver.may
       (has_sent (Rest token) from also here here' out out' result sender.reads sender.is gave text input input' done wrote has) can.short
       (rest_takes fits accepted read tight token receive from into partial sent also state here there there' sender receiver underway can)

@@ -5,7 +5,7 @@ use Rattle.zst_outside.specs.Causes.{Rose-earlier}
 use Rattle.zst_outside.specs.Images.{DiskState, IsSynced, Leaves, Leaves-then, Leaves-weaker, OnlyReads}
 use Rattle.zst_block.specs.Blocks.{KeepsBlocks}
 use Rattle.zst_uber.specs.DiskCalls as disk_calls
-use Rattle.zst_uber.specs.declared.uber.Uber.{Uber}
+use Rattle.zst_image.specs.Bodies.{Body, free_by}
 use Rattle.zst_model.specs.declared.refusals.refusal.Refusal.{Refusal}
 use Rattle.zst_model.specs.declared.refusals.refusal.Refusal.TheVariants as refusals
 use Rattle.zst_model.specs.pools.KeptPool.{kept_of}
@@ -13,7 +13,7 @@ use Rattle.zst_model.specs.pools.Pool.{Pool}
 use Rattle.zst_dir.specs.Rows.{Rows}
 use Rattle.zst_image.specs.Faults.{open_refusal}
 use Rattle.zst_image.specs.OpenAnswers.{GivesPool, OpenAnswers}
-use Rattle.zst_image.specs.Reads.{Reads, ReadsAs, Rests, free_by, kept_rows}
+use Rattle.zst_image.specs.Reads.{Reads, ReadsAs, Rests, kept_rows}
 use Rattle.zst_image.specs.declared.open_fault.OpenFault.{OpenFault}
 use Rattle.zst_image.specs.declared.open_fault.OpenFault.TheVariants as opens
 use Rattle.zst_image.specs.declared.pool_state.PoolState.{PoolState}
@@ -32,27 +32,27 @@ abbrev answered : Refusal → Result (List (List ℕ)) Refusal
 answered refusal = Err refusal
 
 -- the pool that was there stands
-none_stands : (tight : Bool) (now steps : ℕ) (here' : DiskState) (uber : Uber) (rows : Rows) (pool : Pool) → kept_of pool ≡ pool → Rests tight here' uber rows pool → StoppedAt tight now steps pool here'
-none_stands tight now steps here' uber rows pool whole rests = record {
+none_stands : (tight : Bool) (now steps : ℕ) (here' : DiskState) (body : Body) (rows : Rows) (pool : Pool) → kept_of pool ≡ pool → Rests tight here' body rows pool → StoppedAt tight now steps pool here'
+none_stands tight now steps here' body rows pool whole rests = record {
   count = 0;
   more = omega arith;
   made = record {
     after = pool;
     is = none_made now steps pool;
-    keeps = (uber, rows, subst (λ (p : Pool). Rests tight here' uber rows p) (sym whole) rests);
+    keeps = (body, rows, subst (λ (p : Pool). Rests tight here' body rows p) (sym whole) rests);
   };
 }
 
-unopened_ends : (tight : Bool) (now steps : ℕ) (here' : DiskState) (uber : Uber) (rows : Rows) (pool : Pool) (fault : OpenFault) → kept_of pool ≡ pool → GivesPool uber rows (Err fault)
-    → (fault ≢ opens.DiskFault → Rests tight here' uber rows pool) → GenEnds tight now steps pool here' (Err (open_refusal fault))
-unopened_ends tight now steps here' uber rows pool (opens.Damaged sector stated found) whole gives rests = absurd gives
-unopened_ends tight now steps here' uber rows pool opens.NoPool whole gives rests = absurd gives
-unopened_ends tight now steps here' uber rows pool (opens.BadVersion version) whole gives rests = absurd gives
-unopened_ends tight now steps here' uber rows pool opens.DiskFault whole gives rests = tt
-unopened_ends tight now steps here' uber rows pool opens.OutOfMemory whole gives rests = none_stands tight now steps here' uber rows pool whole (rests (λ is. absurd (cc is)))
+unopened_ends : (tight : Bool) (now steps : ℕ) (here' : DiskState) (body : Body) (rows : Rows) (pool : Pool) (fault : OpenFault) → kept_of pool ≡ pool → GivesPool body rows (Err fault)
+    → (fault ≢ opens.DiskFault → Rests tight here' body rows pool) → GenEnds tight now steps pool here' (Err (open_refusal fault))
+unopened_ends tight now steps here' body rows pool (opens.Damaged sector stated found) whole gives rests = absurd gives
+unopened_ends tight now steps here' body rows pool opens.NoPool whole gives rests = absurd gives
+unopened_ends tight now steps here' body rows pool (opens.BadVersion version) whole gives rests = absurd gives
+unopened_ends tight now steps here' body rows pool opens.DiskFault whole gives rests = tt
+unopened_ends tight now steps here' body rows pool opens.OutOfMemory whole gives rests = none_stands tight now steps here' body rows pool whole (rests (λ is. absurd (cc is)))
 
 pub unopened : KeepsWhole → (now steps : ℕ) (here here' : DiskState) (fault : OpenFault)
-    → ((tight : Bool) (uber : Uber) (rows : Rows) (pool : Pool) → here'.honest → ReadsAs tight uber rows pool here.seen → GivesPool uber rows (Err fault))
+    → ((tight : Bool) (body : Body) (rows : Rows) (pool : Pool) → here'.honest → ReadsAs tight body rows pool here.seen → GivesPool body rows (Err fault))
     → (here'.honest → OpenAnswers here (Err fault)) → OnlyReads here here' → (fault ≢ opens.DiskFault → IsSynced here')
     → disk_calls.HasDiskCause {T = PoolState} opens.DiskFault here.faults here'.faults (Err fault) → Generating now steps here here' (Err (open_refusal fault))
 unopened whole now steps here here' fault there answer reads synced cause = record {
@@ -90,9 +90,9 @@ whole_refusal here mid here' (Ok number) later why = tt
 whole_refusal here mid here' (Err refusal) later why = record { one = inr why.one; alive = why.alive; cause = λ is. Rose-earlier here.faults mid.faults here'.faults later (why.cause is) }
 
 module _ (now steps : ℕ) (here mid here' : DiskState) (kept : PoolState) (result : Result ℕ Refusal)
-    (there : (tight : Bool) (uber : Uber) (rows : Rows) (pool : Pool) → mid.honest → ReadsAs tight uber rows pool here.seen → GivesPool uber rows (Ok kept))
+    (there : (tight : Bool) (body : Body) (rows : Rows) (pool : Pool) → mid.honest → ReadsAs tight body rows pool here.seen → GivesPool body rows (Ok kept))
     (answers : mid.honest → OpenAnswers here (Ok kept)) (reads : OnlyReads here mid)
-    (stands : (tight : Bool) (uber : Uber) (rows : Rows) (pool : Pool) → mid.honest → ReadsAs tight uber rows pool here.seen → Rests tight mid kept.body rows pool)
+    (stands : (tight : Bool) (body : Body) (rows : Rows) (pool : Pool) → mid.honest → ReadsAs tight body rows pool here.seen → Rests tight mid kept.body rows pool)
     (at_rest : (tight : Bool) (rows : Rows) (pool : Pool) → Rests tight mid kept.body rows pool → kept.dir ≡ kept_rows rows → IsAtRest tight mid kept pool)
     (later : here.faults ≤ mid.faults) (falls : here'.honest → mid.honest)
     (says : (tight : Bool) (pool : Pool) → here'.honest → IsAtRest tight mid kept pool → AllDid tight now steps pool mid here' (lines_of steps result))

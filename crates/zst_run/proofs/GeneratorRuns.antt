@@ -245,7 +245,7 @@ module _ {D : Type 0} {g : Ghosts D} (now steps : ℕ) where
     }
 
     -- all were accepted
-    pub ran_all : count ≡ length (generated steps) → RunsAll now steps first pool (Ok pool.kept.body.number)
+    pub ran_all : count ≡ length (generated steps) → RunsAll now steps first pool (Ok pool.kept.body.uber.number)
     ran_all all = record {
       says = λ tight plain honest begins.
           let has = on.says tight plain honest begins in

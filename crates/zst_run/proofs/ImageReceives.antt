@@ -6,7 +6,7 @@ use Rattle.std.proofs.lemmas.List.{append-nil}
 use Rattle.zst_outside.specs.Causes.{Rose-earlier}
 use Rattle.zst_outside.specs.Images.{DiskState, IsSynced, Leaves, Leaves-then, Leaves-weaker, OnlyReads}
 use Rattle.zst_outside.specs.States.{SourceState, Gave}
-use Rattle.zst_uber.specs.declared.uber.Uber.{Uber}
+use Rattle.zst_image.specs.Bodies.{Body, free_by}
 use Rattle.zst_model.specs.declared.refusals.refusal.Refusal.{Refusal}
 use Rattle.zst_model.specs.declared.refusals.refusal.Refusal.TheVariants as refusals
 use Rattle.zst_model.specs.declared.refusals.stream_fault.StreamFault.{StreamFault}
@@ -18,7 +18,7 @@ use Rattle.zst_image.specs.Faults.{open_refusal}
 use Rattle.zst_uber.specs.DiskCalls as disk_calls
 use Rattle.zst_image.specs.OpenAnswers.{GivesPool, OpenAnswers}
 use Rattle.zst_block.specs.Blocks.{KeepsBlocks}
-use Rattle.zst_image.specs.Reads.{ReadsAs, Rests, free_by, kept_rows}
+use Rattle.zst_image.specs.Reads.{ReadsAs, Rests, kept_rows}
 use Rattle.zst_image.specs.declared.pool_state.PoolState.{PoolState}
 use Rattle.zst_image.specs.declared.open_fault.OpenFault.{OpenFault}
 use Rattle.zst_image.specs.declared.open_fault.OpenFault.TheVariants as opens
@@ -44,7 +44,7 @@ use Rattle.zst_run.proofs.ImageSends.{idle_says, is_of_opening, pool_is_open, ra
 
 -- what is kept of a pool that an image reads as is all of it
 abbrev pub KeepsWhole : Type 0
-KeepsWhole = ((pool : Pool) → KeepsAll pool → kept_of pool ≡ pool) × ((tight : Bool) (uber : Uber) (rows : Rows) (pool : Pool) (image : List ℕ) → ReadsAs tight uber rows pool image → KeepsAll pool)
+KeepsWhole = ((pool : Pool) → KeepsAll pool → kept_of pool ≡ pool) × ((tight : Bool) (body : Body) (rows : Rows) (pool : Pool) (image : List ℕ) → ReadsAs tight body rows pool image → KeepsAll pool)
 
 open_no_stream : (fault : OpenFault) (told : StreamFault) → open_refusal fault ≢ refusals.Stream told
 open_no_stream (opens.Damaged sector stated found) told is = absurd (cc is)
@@ -71,37 +71,37 @@ open_no_full opens.DiskFault need largest is = absurd (cc is)
 open_no_full opens.OutOfMemory need largest is = absurd (cc is)
 
 -- the pool that was there stands
-nothing_fed : (tight : Bool) (ask : RecvAsk) (here' : DiskState) (uber : Uber) (rows : Rows) (pool : Pool) → kept_of pool ≡ pool → Rests tight here' uber rows pool → Stopped tight ask pool [] here'
-nothing_fed tight ask here' uber rows pool whole rests = record {
+nothing_fed : (tight : Bool) (ask : RecvAsk) (here' : DiskState) (body : Body) (rows : Rows) (pool : Pool) → kept_of pool ≡ pool → Rests tight here' body rows pool → Stopped tight ask pool [] here'
+nothing_fed tight ask here' body rows pool whole rests = record {
   after = pool;
   stage = Waits;
   is = none_fed ask pool;
   live = tt;
-  keeps = (uber, rows, subst (λ (p : Pool). Rests tight here' uber rows p) (sym whole) rests);
+  keeps = (body, rows, subst (λ (p : Pool). Rests tight here' body rows p) (sym whole) rests);
 }
 
-unopened_ends : (tight : Bool) (ask : RecvAsk) (here' : DiskState) (input : SourceState) (uber : Uber) (rows : Rows) (pool : Pool) (fault : OpenFault) → kept_of pool ≡ pool → GivesPool uber rows (Err fault)
-    → (fault ≢ opens.DiskFault → Rests tight here' uber rows pool) → ReceiveEnds tight ask pool [] here' input input (Err (open_refusal fault))
-unopened_ends tight ask here' input uber rows pool (opens.Damaged sector stated found) whole gives rests = absurd gives
-unopened_ends tight ask here' input uber rows pool opens.NoPool whole gives rests = absurd gives
-unopened_ends tight ask here' input uber rows pool (opens.BadVersion version) whole gives rests = absurd gives
-unopened_ends tight ask here' input uber rows pool opens.DiskFault whole gives rests = tt
-unopened_ends tight ask here' input uber rows pool opens.OutOfMemory whole gives rests = nothing_fed tight ask here' uber rows pool whole (rests (λ is. absurd (cc is)))
+unopened_ends : (tight : Bool) (ask : RecvAsk) (here' : DiskState) (input : SourceState) (body : Body) (rows : Rows) (pool : Pool) (fault : OpenFault) → kept_of pool ≡ pool → GivesPool body rows (Err fault)
+    → (fault ≢ opens.DiskFault → Rests tight here' body rows pool) → ReceiveEnds tight ask pool [] here' input input (Err (open_refusal fault))
+unopened_ends tight ask here' input body rows pool (opens.Damaged sector stated found) whole gives rests = absurd gives
+unopened_ends tight ask here' input body rows pool opens.NoPool whole gives rests = absurd gives
+unopened_ends tight ask here' input body rows pool (opens.BadVersion version) whole gives rests = absurd gives
+unopened_ends tight ask here' input body rows pool opens.DiskFault whole gives rests = tt
+unopened_ends tight ask here' input body rows pool opens.OutOfMemory whole gives rests = nothing_fed tight ask here' body rows pool whole (rests (λ is. absurd (cc is)))
 
 pub unopened : KeepsWhole → (ask : RecvAsk) (here here' : DiskState) (input : SourceState) (fault : OpenFault)
-    → ((tight : Bool) (uber : Uber) (rows : Rows) (pool : Pool) → here'.honest → ReadsAs tight uber rows pool here.seen → GivesPool uber rows (Err fault))
+    → ((tight : Bool) (body : Body) (rows : Rows) (pool : Pool) → here'.honest → ReadsAs tight body rows pool here.seen → GivesPool body rows (Err fault))
     → (here'.honest → OpenAnswers here (Err fault)) → OnlyReads here here' → (fault ≢ opens.DiskFault → IsSynced here')
     → disk_calls.HasDiskCause {T = PoolState} opens.DiskFault here.faults here'.faults (Err fault) → Receiving ask here here' input input (Err (open_refusal fault))
 unopened whole ask here here' input fault there answer reads synced cause = record {
   pieces = [];
   are_pieces = tt;
   consumed = sym (append-nil input.given);
-  wanted = λ tight uber rows pool told is may n less. absurd (omega (arith, less));
-  moments = λ tight uber rows pool told is may. Leaves-weaker here here' here.images (IsOnTheWay tight here ask pool []) reads.time (λ c image. inl image);
-  images = λ tight uber rows pool told is may c image. inl (reads.crash c image);
-  ends = λ tight uber rows pool told is may.
-      unopened_ends tight ask here' input uber rows pool fault (whole.0 pool (whole.1 tight uber rows pool here.seen is)) (there tight uber rows pool told is)
-      (λ alive. rests_read here here' uber rows pool is reads (synced alive));
+  wanted = λ tight body rows pool told is may n less. absurd (omega (arith, less));
+  moments = λ tight body rows pool told is may. Leaves-weaker here here' here.images (IsOnTheWay tight here ask pool []) reads.time (λ c image. inl image);
+  images = λ tight body rows pool told is may c image. inl (reads.crash c image);
+  ends = λ tight body rows pool told is may.
+      unopened_ends tight ask here' input body rows pool fault (whole.0 pool (whole.1 tight body rows pool here.seen is)) (there tight body rows pool told is)
+      (λ alive. rests_read here here' body rows pool is reads (synced alive));
   opened = λ told. idle_says (List (List ℕ)) (OnlyReads here here' × (input ≡ input)) here (ReceiveRan ask [] here here' (Err (open_refusal fault))) fault (reads, refl) (answer told);
   text = says_other [] input input (open_refusal fault) (open_no_stream fault);
   cost = λ told need largest is. absurd (open_no_full fault need largest is);
@@ -178,23 +178,23 @@ told_err old now input input' (Ok receipt) is = tt
 told_err old now input input' (Err refusal) is = is
 
 module _ (ask : RecvAsk) (here mid here' : DiskState) (input input' : SourceState) (kept : PoolState) (result : Result Receipt Refusal)
-    (there : (tight : Bool) (uber : Uber) (rows : Rows) (pool : Pool) → mid.honest → ReadsAs tight uber rows pool here.seen → GivesPool uber rows (Ok kept))
+    (there : (tight : Bool) (body : Body) (rows : Rows) (pool : Pool) → mid.honest → ReadsAs tight body rows pool here.seen → GivesPool body rows (Ok kept))
     (answers : mid.honest → OpenAnswers here (Ok kept)) (reads : OnlyReads here mid)
-    (stands : (tight : Bool) (uber : Uber) (rows : Rows) (pool : Pool) → mid.honest → ReadsAs tight uber rows pool here.seen → Rests tight mid kept.body rows pool)
+    (stands : (tight : Bool) (body : Body) (rows : Rows) (pool : Pool) → mid.honest → ReadsAs tight body rows pool here.seen → Rests tight mid kept.body rows pool)
     (at_rest : (tight : Bool) (rows : Rows) (pool : Pool) → Rests tight mid kept.body rows pool → kept.dir ≡ kept_rows rows → IsAtRest tight mid kept pool)
     (later : here.faults ≤ mid.faults) (falls : here'.honest → mid.honest) (f : Fed (λ tight. IsReady ask tight mid kept) kept mid here' ask input input' (told result)) (plans : (text : List ℕ) → Gave input input' text → SaysOfPlan kept.dir ask text (told result))
     (damaged : (text : List ℕ) → Gave input input' text → (sector : ℕ) (stated found : List ℕ) → here'.honest → result ≡ Err (refusals.Damaged sector stated found) → IsDamagedReceive mid.seen mid.size kept.body kept.dir ask text sector stated found)
     (stood : ¬ (result ≡ Err refusals.DiskFault) → KeepsBlocks mid.seen (free_by kept.body) here'.seen (free_by kept.body))
     (only : (c : List ℕ) → here.left_since here.moment c → here.images c) (now_left : (t : ℕ) (c : List ℕ) → t ≤ here'.moment → here'.images c → here'.left_since t c) where
-  ready : (tight : Bool) (uber : Uber) (rows : Rows) (pool : Pool) → here'.honest → ReadsAs tight uber rows pool here.seen → IsTightOrNew tight ask pool → IsReady ask tight mid kept pool
-  ready tight uber rows pool honest is may =
-      let same = (there tight uber rows pool (falls honest) is).1 in
-      (at_rest tight rows pool (stands tight uber rows pool (falls honest) is) same, may)
+  ready : (tight : Bool) (body : Body) (rows : Rows) (pool : Pool) → here'.honest → ReadsAs tight body rows pool here.seen → IsTightOrNew tight ask pool → IsReady ask tight mid kept pool
+  ready tight body rows pool honest is may =
+      let same = (there tight body rows pool (falls honest) is).1 in
+      (at_rest tight rows pool (stands tight body rows pool (falls honest) is) same, may)
 
-  moments : (tight : Bool) (uber : Uber) (rows : Rows) (pool : Pool) → here'.honest → ReadsAs tight uber rows pool here.seen → IsTightOrNew tight ask pool → Leaves here here' (IsOnTheWay tight here ask pool f.pieces)
-  moments tight uber rows pool honest is may =
+  moments : (tight : Bool) (body : Body) (rows : Rows) (pool : Pool) → here'.honest → ReadsAs tight body rows pool here.seen → IsTightOrNew tight ask pool → Leaves here here' (IsOnTheWay tight here ask pool f.pieces)
+  moments tight body rows pool honest is may =
       Leaves-then here mid here' (IsOnTheWay tight here ask pool f.pieces) (ReadsAlong tight ask pool f.pieces)
-      (Leaves-weaker here mid here.images (IsOnTheWay tight here ask pool f.pieces) reads.time (λ c image. inl image)) (f.says tight pool honest (ready tight uber rows pool honest is may)).moments (λ c along. inr along)
+      (Leaves-weaker here mid here.images (IsOnTheWay tight here ask pool f.pieces) reads.time (λ c image. inl image)) (f.says tight pool honest (ready tight body rows pool honest is may)).moments (λ c along. inr along)
 
   pub opened : IfErr result (IsEnd mid here' input input') → mid.faults ≤ here'.faults → input.faults ≤ input'.faults → Receiving ask here here' input input' (told result)
   opened refused still input_later =
@@ -203,11 +203,11 @@ module _ (ask : RecvAsk) (here mid here' : DiskState) (input input' : SourceStat
         pieces = f.pieces;
         are_pieces = f.are_pieces;
         consumed = f.consumed;
-        wanted = λ tight uber rows pool honest is may. (f.says tight pool honest (ready tight uber rows pool honest is may)).wanted;
+        wanted = λ tight body rows pool honest is may. (f.says tight pool honest (ready tight body rows pool honest is may)).wanted;
         moments = moments;
-        images = λ tight uber rows pool honest is may.
-            images_after here here' (IsOnTheWay tight here ask pool f.pieces) (moments tight uber rows pool honest is may) (λ c image. inl image) only now_left;
-        ends = λ tight uber rows pool honest is may. (f.says tight pool honest (ready tight uber rows pool honest is may)).ends;
+        images = λ tight body rows pool honest is may.
+            images_after here here' (IsOnTheWay tight here ask pool f.pieces) (moments tight body rows pool honest is may) (λ c image. inl image) only now_left;
+        ends = λ tight body rows pool honest is may. (f.says tight pool honest (ready tight body rows pool honest is may)).ends;
         opened = λ honest. let was = answers (falls honest) in
             ran_says (OnlyReads here here' × (input' ≡ input)) here (ReceiveRan ask f.pieces here here' (told result)) (told result) (
               kept.body,

@@ -6,7 +6,7 @@ use Rattle.zst_outside.specs.Images.{DiskState, OnlyReads, OnlyReads-then}
 use Rattle.zst_outside.specs.States.{SinkState}
 use Rattle.zst_outside.specs.Printing.{Wrote-start}
 use Rattle.zst_block.specs.Blocks.{Has}
-use Rattle.zst_uber.specs.declared.uber.Uber.{Uber}
+use Rattle.zst_image.specs.Bodies.{Body, behind_end, free_by}
 use Rattle.zst_model.specs.declared.refusals.plan_fault.PlanFault.{PlanFault}
 use Rattle.zst_model.specs.declared.refusals.refusal.Refusal.{Refusal}
 use Rattle.zst_model.specs.declared.refusals.refusal.Refusal.TheVariants as refusals
@@ -19,7 +19,7 @@ use Rattle.zst_dir.specs.Rows.{Rows}
 use Rattle.zst_image.specs.Faults.{open_refusal}
 use Rattle.zst_uber.specs.DiskCalls as disk_calls
 use Rattle.zst_image.specs.OpenAnswers.{GivesPool, OpenAnswers, ReadFault}
-use Rattle.zst_image.specs.Reads.{free_by, kept_rows}
+use Rattle.zst_image.specs.Reads.{kept_rows}
 use Rattle.zst_image.specs.declared.pool_state.PoolState.{PoolState}
 use Rattle.zst_image.specs.declared.open_fault.OpenFault.{OpenFault}
 use Rattle.zst_image.specs.declared.open_fault.OpenFault.TheVariants as opens
@@ -36,8 +36,9 @@ use Rattle.zst_run.specs.SendPieces.{IfUnplanned}
 use Rattle.zst_run.specs.declared.send.SendRequest.{SendRequest}
 use Rattle.zst_run.specs.Sends.{HasSet, IsDamagedRequest, IsSendRefusal, OfGiving, OfSending, ReadsForAs, RefusalEnds, SendRan, Sends, SendsBy, TellsLong, TellsOf, start_of, to_give, to_send}
 use Rattle.zst_run.proofs.CommandLemmas.{open_alive, open_disk, told_before}
-use Rattle.zst_run.proofs.NamedImages.{OneDirectory, OneText, gives_pool}
+use Rattle.zst_run.proofs.NamedImages.{AreOne, gives_pool}
 use Rattle.zst_run.proofs.SendLemmas.{sent_earlier}
+use Rattle.zst_run.proofs.StandingBlocks.{sent_behind}
 
 -- ---- where the pool can't be opened
 
@@ -53,7 +54,7 @@ unopened_ends start planned before after out opens.NoPool is rose = absurd is
 unopened_ends start planned before after out (opens.BadVersion version) is rose = absurd is
 
 -- what opening answers, where nothing was done but reading the image
-pub idle_says : (T : Type 0) (Idle : Type 0) (here : DiskState) (Is : Uber → Rows → Type 0) (fault : OpenFault) → Idle → OpenAnswers here (Err fault) → SaysOfOpening {T = T} Idle here Is (Err (open_refusal fault))
+pub idle_says : (T : Type 0) (Idle : Type 0) (here : DiskState) (Is : Body → Rows → Type 0) (fault : OpenFault) → Idle → OpenAnswers here (Err fault) → SaysOfOpening {T = T} Idle here Is (Err (open_refusal fault))
 idle_says T Idle here Is (opens.Damaged sector stated found) idle is = inl (is, idle)
 idle_says T Idle here Is opens.NoPool idle is = (is, idle)
 idle_says T Idle here Is (opens.BadVersion version) idle is = (record { body = is.0; there = is.1; version = is.2; other = is.3 }, idle)
@@ -75,13 +76,13 @@ open_never_full (opens.BadVersion version) need largest is = absurd (cc is)
 open_never_full opens.DiskFault need largest is = absurd (cc is)
 open_never_full opens.OutOfMemory need largest is = absurd (cc is)
 
-pub unopened : OneText → OneDirectory → (request : SendRequest) (here here' : DiskState) (out : SinkState) (fault : OpenFault) → length here.seen ≡ here.size
+pub unopened : AreOne → (request : SendRequest) (here here' : DiskState) (out : SinkState) (fault : OpenFault) → length here.seen ≡ here.size
     → (here'.honest → OpenAnswers here (Err fault)) → OnlyReads here here' → disk_calls.HasDiskCause {T = PoolState} opens.DiskFault here.faults here'.faults (Err fault)
     → Sends request here here' out out (Err (open_refusal fault))
-unopened text directory request here here' out fault long answer reads cause = record {
+unopened one request here here' out fault long answer reads cause = record {
   reads = reads;
   sends = λ pool told is.
-      unopened_ends (start_of request) (to_give request pool) here.faults here'.faults out fault (gives_pool text directory here long request is.0 is.1 pool is.2 (Err fault) (answer told))
+      unopened_ends (start_of request) (to_give request pool) here.faults here'.faults out fault (gives_pool one here long request is.0 is.1 pool is.2 (Err fault) (answer told))
       (λ e. cause.fault (ap (λ (f : OpenFault). Err f) e));
   opened = λ told. idle_says (Unit {0}) (out ≡ out) here (SendRan request here out out (Err (open_refusal fault))) fault refl (answer told);
   refused = record {
@@ -123,7 +124,7 @@ pub record SaysOfRows (request : SendRequest) (end : ℕ) (dir : Rows) (disk dis
 
 -- so it is of the body and the rows that a pool was opened by
 ran : (request : SendRequest) (here mid here' : DiskState) (out out' : SinkState) (kept : PoolState) (rows : Rows) (result : Result (Unit {0}) Refusal) → kept.dir ≡ kept_rows rows → Opens here kept.body rows
-    → OnlyReads here mid → here'.honest → SaysOfRows request kept.body.end kept.dir mid here' out out' result → SendRan request here out out' result kept.body rows
+    → OnlyReads here mid → here'.honest → SaysOfRows request kept.body.uber.end kept.dir mid here' out out' result → SendRan request here out out' result kept.body rows
 ran request here mid here' out out' kept rows result same opens reads honest says = record {
   opens = opens;
   planned = λ pool fault named refused. rw refused at (says.planned pool (rw same named.are_named));
@@ -131,12 +132,12 @@ ran request here mid here' out out' kept rows result same opens reads honest say
   long = λ pool named. says.long pool (rw same named.are_named);
   damaged = λ sector stated found is.
       told_before here mid (λ seen size. ((set : ObjSet) × HasSet request (kept_rows rows) set × IsDamagedSend (IsSeen seen) size set sector stated found)
-      ⊎ IsDamagedOpening kept.body.end seen size (kept_rows rows) (to_send request) sector stated found) reads
-      (subst (λ (r : Rows). IsDamagedRequest request kept.body.end r mid sector stated found) same (says.damaged honest sector stated found is));
+      ⊎ IsDamagedOpening kept.body.uber.end seen size (kept_rows rows) (to_send request) sector stated found) reads
+      (subst (λ (r : Rows). IsDamagedRequest request kept.body.uber.end r mid sector stated found) same (says.damaged honest sector stated found is));
 }
 
 -- what is answered once a pool was opened
-pub ran_says : {T : Type 0} (Idle : Type 0) (here : DiskState) (Is : Uber → Rows → Type 0) (answer : Result T Refusal) → ((uber : Uber) × (rows : Rows) × Is uber rows) → IfErr answer (λ refusal. is_of_opening refusal ≡ false)
+pub ran_says : {T : Type 0} (Idle : Type 0) (here : DiskState) (Is : Body → Rows → Type 0) (answer : Result T Refusal) → ((body : Body) × (rows : Rows) × Is body rows) → IfErr answer (λ refusal. is_of_opening refusal ≡ false)
     → SaysOfOpening Idle here Is answer
 ran_says Idle here Is (Ok value) has is = has
 ran_says Idle here Is (Err refusals.NoPool) has is = absurd (false≢true (sym is))
@@ -172,27 +173,28 @@ sends_earlier start (Ok sent) before mid after out out' result later s = sent_ea
 sends_earlier start (Err fault) before mid after out out' result later s = record { front = s.front; ends = (plan_earlier fault before mid after result later s.ends.0, s.ends.1) }
 
 -- the rows in memory name the pool that the image reads as, and what a send needs stands by them
-module _ (request : SendRequest) (here mid : DiskState) (kept : PoolState) (uber : Uber) (rows : Rows) (pool : Pool) (reads : OnlyReads here mid) (same : GivesPool uber rows (Ok kept))
-    (is : ReadsForAs request uber rows pool here.seen) where
+module _ (request : SendRequest) (here mid : DiskState) (kept : PoolState) (body : Body) (rows : Rows) (pool : Pool) (reads : OnlyReads here mid) (same : GivesPool body rows (Ok kept))
+    (is : ReadsForAs request body rows pool here.seen) where
   named : AreNamed kept.dir pool
   named = subst (λ (r : Rows). AreNamed r pool) (sym same.1) is.named.are_named
 
-  stands : StandsPlanned (Has mid.seen (free_by kept.body)) kept.dir pool (to_send request pool)
+  stands : StandsPlanned (Has mid.seen (behind_end kept.body.uber)) kept.dir pool (to_send request pool)
   stands = λ sent planned.
-      subst (λ (seen : List ℕ). StandsSent (Has seen (free_by kept.body)) kept.dir pool sent) (sym reads.seen)
-      (subst (λ (u : Uber). StandsSent (Has here.seen (free_by u)) kept.dir pool sent) (sym same.0)
-      (subst (λ (r : Rows). StandsSent (Has here.seen (free_by uber)) r pool sent) (sym same.1) (is.sent sent planned)))
+      sent_behind mid.seen kept.body kept.dir pool sent
+      (subst (λ (seen : List ℕ). StandsSent (Has seen (free_by kept.body)) kept.dir pool sent) (sym reads.seen)
+      (subst (λ (u : Body). StandsSent (Has here.seen (free_by u)) kept.dir pool sent) (sym same.0)
+      (subst (λ (r : Rows). StandsSent (Has here.seen (free_by body)) r pool sent) (sym same.1) (is.sent sent planned))))
 
-pub opened : OneText → OneDirectory → (request : SendRequest) (here mid here' : DiskState) (out out' : SinkState) (kept : PoolState) (result : Result (Unit {0}) Refusal) → length here.seen ≡ here.size
+pub opened : AreOne → (request : SendRequest) (here mid here' : DiskState) (out out' : SinkState) (kept : PoolState) (result : Result (Unit {0}) Refusal) → length here.seen ≡ here.size
     → (mid.honest → OpenAnswers here (Ok kept)) → OnlyReads here mid → here.faults ≤ mid.faults → OnlyReads mid here' → mid.faults ≤ here'.faults
-    → ((pool : Pool) → here'.honest → AreNamed kept.dir pool → StandsPlanned (Has mid.seen (free_by kept.body)) kept.dir pool (to_send request pool)
+    → ((pool : Pool) → here'.honest → AreNamed kept.dir pool → StandsPlanned (Has mid.seen (behind_end kept.body.uber)) kept.dir pool (to_send request pool)
     → SendsBy (start_of request) (to_give request pool) mid.faults here'.faults out out' result)
-    → IfErr result (IsSendRefusal OfGiving mid here' out out') → SaysOfRows request kept.body.end kept.dir mid here' out out' result
+    → IfErr result (IsSendRefusal OfGiving mid here' out out') → SaysOfRows request kept.body.uber.end kept.dir mid here' out out' result
     → Sends request here here' out out' result
-opened text directory request here mid here' out out' kept result long answer reads later gave still gives refused says = record {
+opened one request here mid here' out out' kept result long answer reads later gave still gives refused says = record {
   reads = OnlyReads-then here mid here' reads gave;
   sends = λ pool told is.
-      let same = gives_pool text directory here long request is.0 is.1 pool is.2 (Ok kept) (answer (gave.honest told)) in
+      let same = gives_pool one here long request is.0 is.1 pool is.2 (Ok kept) (answer (gave.honest told)) in
       sends_earlier (start_of request) (to_give request pool) here.faults mid.faults here'.faults out out' result later
       (gives pool told (named request here mid kept is.0 is.1 pool reads same is.2) (stands request here mid kept is.0 is.1 pool reads same is.2));
   opened = λ told. let was = answer (gave.honest told) in

@@ -3,7 +3,7 @@ use Rattle.std.proofs.Common.{◌≡◌, inl, inr, ℕ, ◌≤◌, Bool, false, 
 use Rattle.std.specs.Result.{result_map_both}
 use Rattle.zst_outside.specs.Images.{DiskState, OnlyReads}
 use Rattle.zst_block.specs.Blocks.{Has}
-use Rattle.zst_uber.specs.declared.uber.Uber.{Uber}
+use Rattle.zst_image.specs.Bodies.{Body, free_by}
 use Rattle.zst_model.specs.declared.refusals.plan_fault.PlanFault.{PlanFault}
 use Rattle.zst_model.specs.declared.refusals.plan_fault.PlanFault.TheVariants.{NoPartial}
 use Rattle.zst_model.specs.declared.refusals.refusal.Refusal.{Refusal}
@@ -15,7 +15,7 @@ use Rattle.zst_space.specs.FreeSectors.{FreeSectors}
 use Rattle.zst_image.specs.Faults.{open_refusal}
 use Rattle.zst_uber.specs.DiskCalls as disk_calls
 use Rattle.zst_image.specs.OpenAnswers.{GivesPool, OpenAnswers, ReadFault}
-use Rattle.zst_image.specs.Reads.{ReadsAs, RunsBy, free_by}
+use Rattle.zst_image.specs.Reads.{ReadsAs, RunsBy}
 use Rattle.zst_image.specs.declared.pool_state.PoolState.{PoolState}
 use Rattle.zst_image.specs.declared.open_fault.OpenFault.{OpenFault}
 use Rattle.zst_image.specs.declared.open_fault.OpenFault.TheVariants as opens
@@ -43,7 +43,7 @@ unopened_says dataset here opens.DiskFault is = tt
 unopened_says dataset here opens.OutOfMemory is = tt
 
 pub unopened : (dataset : List ℕ) (here here' : DiskState) (fault : OpenFault)
-    → ((tight : Bool) (uber : Uber) (rows : Rows) (pool : Pool) → here'.honest → ReadsAs tight uber rows pool here.seen → GivesPool uber rows (Err fault))
+    → ((tight : Bool) (body : Body) (rows : Rows) (pool : Pool) → here'.honest → ReadsAs tight body rows pool here.seen → GivesPool body rows (Err fault))
     → (here'.honest → OpenAnswers here (Err fault)) → OnlyReads here here' → disk_calls.HasDiskCause {T = PoolState} opens.DiskFault here.faults here'.faults (Err fault)
     → TellsToken dataset here here' (Err (open_refusal fault))
 unopened dataset here here' fault there answer reads cause = record {
@@ -69,12 +69,12 @@ found_answers told (Ok token) same dataset missing = ap as_answer same
 found_answers told (Err fault) same dataset missing =
     subst (λ (f : PlanFault). AnswersBy told (Err (refusal_of f))) (sym missing) (subst (λ (f : PlanFault). Err (refusal_of f) ≡ as_answer told) missing (ap as_answer same))
 
-found_says : (dataset : List ℕ) (here : DiskState) (found : Result Token PlanFault) → IsMissing dataset found → ((uber : Uber) × (rows : Rows) × TokenRan dataset here (as_answer found) uber rows)
+found_says : (dataset : List ℕ) (here : DiskState) (found : Result Token PlanFault) → IsMissing dataset found → ((body : Body) × (rows : Rows) × TokenRan dataset here (as_answer found) body rows)
     → TokenOpened dataset here (as_answer found)
 found_says dataset here (Ok token) missing has = has
 found_says dataset here (Err fault) missing has =
     subst (λ (f : PlanFault). TokenOpened dataset here (Err (refusal_of f))) (sym missing)
-    (subst (λ (f : PlanFault). (uber : Uber) × (rows : Rows) × TokenRan dataset here (Err (refusal_of f)) uber rows) missing has)
+    (subst (λ (f : PlanFault). (body : Body) × (rows : Rows) × TokenRan dataset here (Err (refusal_of f)) body rows) missing has)
 
 found_refused : (dataset : List ℕ) (here here' : DiskState) (found : Result Token PlanFault) → IsMissing dataset found → IfErr (as_answer found) (IsPoolRefusal (OfToken dataset) here here')
 found_refused dataset here here' (Ok token) missing = tt
@@ -83,7 +83,7 @@ found_refused dataset here here' (Err fault) missing =
     (record { one = inr refl; alive = λ is. absurd (cc is); cause = λ is. absurd (cc is) })
 
 pub opened : (dataset : List ℕ) (here here' : DiskState) (kept : PoolState) (found : Result Token PlanFault)
-    → ((tight : Bool) (uber : Uber) (rows : Rows) (pool : Pool) → here'.honest → ReadsAs tight uber rows pool here.seen → GivesPool uber rows (Ok kept))
+    → ((tight : Bool) (body : Body) (rows : Rows) (pool : Pool) → here'.honest → ReadsAs tight body rows pool here.seen → GivesPool body rows (Ok kept))
     → (here'.honest → OpenAnswers here (Ok kept)) → OnlyReads here here' → here.faults ≤ here'.faults
     → ((pool : Pool) → AreNamed kept.dir pool → found ≡ token_told dataset pool)
     → ((bound : Option ℕ) (image : List ℕ) (space : FreeSectors) (pool : Pool) → RunsBy bound (Has image space) kept.dir pool → found ≡ token_told dataset pool) → IsMissing dataset found

@@ -8,6 +8,7 @@ pub mod ReplyLines
 pub mod LaterDisks
 pub mod PlannedSends
 pub mod SendLemmas
+pub mod StandingBlocks
 pub mod NamedImages
 pub mod ImageSends
 pub mod AlikeSends

@@ -5,7 +5,7 @@ use Rattle.std.specs.List.{concat}
 use Rattle.std.proofs.lemmas.List.{append-nil, append_cancel_left}
 use Rattle.zst_outside.specs.Images.{DiskState, Leaves, Leaves-weaker}
 use Rattle.zst_outside.specs.States.{SourceState, SinkState, Gave}
-use Rattle.zst_uber.specs.declared.uber.Uber.{Uber}
+use Rattle.zst_image.specs.Bodies.{Body}
 use Rattle.zst_model.specs.declared.refusals.faults.Quantity.TheVariants as quantities
 use Rattle.zst_model.specs.declared.refusals.plan_fault.PlanFault.{PlanFault}
 use Rattle.zst_model.specs.declared.refusals.refusal.Refusal.{Refusal}
@@ -43,14 +43,14 @@ use Rattle.zst_run.proofs.PlannedSends.{planned_of}
 -- ---- what an image keeps of its pool
 
 abbrev pub ImagesKeep : Type 0
-ImagesKeep = (tight : Bool) (uber : Uber) (rows : Rows) (pool : Pool) (image : List ℕ) → ReadsAs tight uber rows pool image → KeepsAll pool
+ImagesKeep = (tight : Bool) (body : Body) (rows : Rows) (pool : Pool) (image : List ℕ) → ReadsAs tight body rows pool image → KeepsAll pool
 
 -- the laws that what is kept of a pool that an image reads as is all of it
 abbrev pub KeepsWhole : Type 0
 KeepsWhole = KeepingIsDone × ImagesKeep
 
-pub whole : KeepsWhole → (tight : Bool) (uber : Uber) (rows : Rows) (pool : Pool) (image : List ℕ) → ReadsAs tight uber rows pool image → kept_of pool ≡ pool
-whole laws tight uber rows pool image reads = laws.0.0 pool (laws.1 tight uber rows pool image reads)
+pub whole : KeepsWhole → (tight : Bool) (body : Body) (rows : Rows) (pool : Pool) (image : List ℕ) → ReadsAs tight body rows pool image → kept_of pool ≡ pool
+whole laws tight body rows pool image reads = laws.0.0 pool (laws.1 tight body rows pool image reads)
 
 -- ---- what was sent and read
 
@@ -112,7 +112,7 @@ snapshot_stands keeps fits law kept here here' there there' tight ask receive fr
     let text = text_sent (Named ask) from sent here here' out out' piped.0 sender.reads sender.is honest sends piped.1 in
     let of : AreOfStream run.pieces sent None =
     pieces_read (begun_text sent None) input input' run.pieces (subst (λ (t : List ℕ). IsReadOf t input input') text piped.2) run.consumed in
-    let end = received_so tight receive into run.pieces there' input input' other other' received.answer (run.ends tight receiver.uber receiver.rows into receiver.honest receiver.reads receiver.may) received.replied in
+    let end = received_so tight receive into run.pieces there' input input' other other' received.answer (run.ends tight receiver.body receiver.rows into receiver.honest receiver.reads receiver.may) received.replied in
     let done = end.1 in
     let one = law sent receive into done.after done.partial run.pieces (sendable fits tight ask receive from into sent here there there' sender receiver)
     (into_is fits tight ask receive from into sent here there there' sender receiver) receiver.alone
@@ -125,7 +125,7 @@ snapshot_stands keeps fits law kept here here' there there' tight ask receive fr
       planned = one.1;
       more =
           subst (λ (p : Pool). HasOneMore p (kept_of done.after) receive.target done.partial.component (base_name one.0) (header_of sent) (sent_state sent))
-          (whole keeps tight receiver.uber receiver.rows into there.seen receiver.reads)
+          (whole keeps tight receiver.body receiver.rows into there.seen receiver.reads)
           (kept into done.after receive.target done.partial.component (base_name one.0) (header_of sent) (sent_state sent) one.2);
     }
 
@@ -170,12 +170,12 @@ module _ (law : CutLeavesNothing) (left : LeftIsKept) (tight : Bool) (ask : Recv
       ends_nothing pieces input input' fault waits (λ is. disk (let told = replied.0 in cc)) ends
 
 pub refused_so : KeepsWhole → CutLeavesNothing → LeftIsKept → (there there' : DiskState) → RefusedLeavesNothing there there'
-refused_so keeps law left there there' tight ask uber rows into refusal out out' input input' honest reads tells none fleeting receives disk sink =
+refused_so keeps law left there there' tight ask body rows into refusal out out' input input' honest reads tells none fleeting receives disk sink =
     let run = receives.does in
     let waits : WaitedForEach ask into run.pieces =
-    λ n below. let was = run.wanted tight uber rows into honest reads tells n below in (was.0, was.1, was.2, open_live was.1 was.3) in
-    let found = answer_nothing law left tight ask into none fleeting there' run.pieces input input' out out' refusal receives.answer waits disk sink (run.ends tight uber rows into honest reads tells) receives.replied in
-    (found.0, found.1, subst (λ (p : Pool). HasNothing ask p (kept_of found.0)) (whole keeps tight uber rows into there.seen reads) found.2)
+    λ n below. let was = run.wanted tight body rows into honest reads tells n below in (was.0, was.1, was.2, open_live was.1 was.3) in
+    let found = answer_nothing law left tight ask into none fleeting there' run.pieces input input' out out' refusal receives.answer waits disk sink (run.ends tight body rows into honest reads tells) receives.replied in
+    (found.0, found.1, subst (λ (p : Pool). HasNothing ask p (kept_of found.0)) (whole keeps tight body rows into there.seen reads) found.2)
 
 -- ---- each image on the way
 
@@ -185,17 +185,17 @@ EachImage Holds tight there there' =
     let Is : List ℕ → Type 0 = λ c. there.images c ⊎ ((after : Pool) × Reads tight (kept_of after) c × Holds (kept_of after)) in
     Leaves there there' Is × ((c : List ℕ) → there'.images c → Is c)
 
-pub each_image : (Holds : Pool → Type 0) (there there' : DiskState) (tight : Bool) (ask : RecvAsk) (uber : Uber) (rows : Rows) (into : Pool) (result : Result (Unit {0}) Refusal)
+pub each_image : (Holds : Pool → Type 0) (there there' : DiskState) (tight : Bool) (ask : RecvAsk) (body : Body) (rows : Rows) (into : Pool) (result : Result (Unit {0}) Refusal)
     (out out' : SinkState) (input input' : SourceState)
-    → there'.honest → ReadsAs tight uber rows into there.seen → IsTightOrNew tight ask into → (received : Replies (Receiving ask there there' input input') out out' result)
+    → there'.honest → ReadsAs tight body rows into there.seen → IsTightOrNew tight ask into → (received : Replies (Receiving ask there there' input input') out out' result)
     → ((n : ℕ) → Holds (kept_of (pool_of (receives ask into (take n received.does.pieces))))) → EachImage Holds tight there there'
-each_image Holds there there' tight ask uber rows into result out out' input input' honest reads tells received holds =
+each_image Holds there there' tight ask body rows into result out out' input input' honest reads tells received holds =
     let run = received.does in
     let Is : List ℕ → Type 0 = λ c. there.images c ⊎ ((after : Pool) × Reads tight (kept_of after) c × Holds (kept_of after)) in
     let on_way : (c : List ℕ) → IsOnTheWay tight there ask into run.pieces c → Is c =
     λ c. ⊎_elim (λ stood. inl stood) (λ came. inr (pool_of (receives ask into (take came.0 run.pieces)), came.1, holds came.0)) in (
-      Leaves-weaker there there' (IsOnTheWay tight there ask into run.pieces) Is (run.moments tight uber rows into honest reads tells) on_way,
-      λ c image. on_way c (run.images tight uber rows into honest reads tells c image),
+      Leaves-weaker there there' (IsOnTheWay tight there ask into run.pieces) Is (run.moments tight body rows into honest reads tells) on_way,
+      λ c image. on_way c (run.images tight body rows into honest reads tells c image),
     )
 
 -- ---- a receive that is stopped
@@ -205,9 +205,9 @@ stops_so keeps fits law here there there' tight ask receive from into sent compo
     let run = received.does in
     let of : AreOfStream run.pieces sent None = pieces_read (begun_text sent None) input input' run.pieces read run.consumed in
     let course = course_from component base in
-    each_image (Progress receive (sent_view sent) course into) there there' tight receive receiver.uber receiver.rows into result out out' input input' receiver.honest receiver.reads receiver.may received
+    each_image (Progress receive (sent_view sent) course into) there there' tight receive receiver.body receiver.rows into result out out' input input' receiver.honest receiver.reads receiver.may received
     (λ n. subst (λ (p : Pool). Progress receive (sent_view sent) course p (kept_of (pool_of (receives receive into (take n run.pieces)))))
-    (whole keeps tight receiver.uber receiver.rows into there.seen receiver.reads)
+    (whole keeps tight receiver.body receiver.rows into there.seen receiver.reads)
     (law sent receive into component base (take n run.pieces) (sendable fits tight ask receive from into sent here there there' sender receiver)
     (into_is fits tight ask receive from into sent here there there' sender receiver) receiver.alone
     receiver.matches begins (first_of_stream n run.pieces sent None of)))
@@ -215,11 +215,11 @@ stops_so keeps fits law here there there' tight ask receive from into sent compo
 -- ---- a sound pool
 
 pub sound_so : ReceivesKeepSound → (there there' : DiskState) → SoundStaysSound there there'
-sound_so law there there' tight ask uber rows into result out out' input input' honest reads tells named sound received =
-    each_image Sound there there' tight ask uber rows into result out out' input input' honest reads tells received
+sound_so law there there' tight ask body rows into result out out' input input' honest reads tells named sound received =
+    each_image Sound there there' tight ask body rows into result out out' input input' honest reads tells received
     (λ n. (law ask into (take n received.does.pieces) named reads.described.lawful sound).1)
 
 pub remembered_so : ReceivesRemember → (there there' : DiskState) → SourcesStillRemember there there'
-remembered_so law there there' tight ask uber rows into source state result out out' input input' honest reads tells named sound still received =
-    each_image (λ (p : Pool). StillRemembers p source state) there there' tight ask uber rows into result out out' input input' honest reads tells received
+remembered_so law there there' tight ask body rows into source state result out out' input input' honest reads tells named sound still received =
+    each_image (λ (p : Pool). StillRemembers p source state) there there' tight ask body rows into result out out' input input' honest reads tells received
     (λ n. (law ask into (take n received.does.pieces) source state named reads.described.lawful sound still).1)

@@ -9,8 +9,7 @@ use Rattle.zst_tree.specs.declared.tree.ObjSet.{ObjSet}
 use Rattle.zst_dir.specs.Rows.{Rows}
 use Rattle.zst_apply.specs.Damage.{apply_damage}
 use Rattle.zst_block.specs.IoCalls.{is_damage}
-use Rattle.zst_uber.specs.declared.uber.Uber.{Uber}
-use Rattle.zst_image.specs.Reads.{free_by}
+use Rattle.zst_image.specs.Bodies.{Body, free_by}
 use Rattle.zst_image.specs.declared.pool_state.PoolState.{PoolState}
 use Rattle.zst_model.specs.declared.refusals.refusal.Refusal.{Refusal}
 use Rattle.zst_model.specs.declared.refusals.refusal.Refusal.TheVariants as refusals
@@ -76,12 +75,12 @@ told_damaged (Ok receipt) refusal is = absurd (cc is)
 told_damaged (Err other) refusal is = let same : other ≡ refusal = cc (is) in ap (λ (r : Refusal). Err r) same
 
 -- opening only read
-pub damaged_here : (image other : List ℕ) (size same : ℕ) (uber : Uber) (rows listed : Rows) (ask : RecvAsk) (text : List ℕ) (sector : ℕ) (stated found : List ℕ) → other ≡ image → same ≡ size → rows ≡ listed
-    → IsDamagedReceive other same uber rows ask text sector stated found → IsDamagedReceive image size uber listed ask text sector stated found
-damaged_here image other size same uber rows listed ask text sector stated found seen long rows_are is =
-    subst (λ (i : List ℕ). IsDamagedReceive i size uber listed ask text sector stated found) seen
-    (subst (λ (n : ℕ). IsDamagedReceive other n uber listed ask text sector stated found) long
-    (subst (λ (r : Rows). IsDamagedReceive other same uber r ask text sector stated found) rows_are is))
+pub damaged_here : (image other : List ℕ) (size same : ℕ) (body : Body) (rows listed : Rows) (ask : RecvAsk) (text : List ℕ) (sector : ℕ) (stated found : List ℕ) → other ≡ image → same ≡ size → rows ≡ listed
+    → IsDamagedReceive other same body rows ask text sector stated found → IsDamagedReceive image size body listed ask text sector stated found
+damaged_here image other size same body rows listed ask text sector stated found seen long rows_are is =
+    subst (λ (i : List ℕ). IsDamagedReceive i size body listed ask text sector stated found) seen
+    (subst (λ (n : ℕ). IsDamagedReceive other n body listed ask text sector stated found) long
+    (subst (λ (r : Rows). IsDamagedReceive other same body r ask text sector stated found) rows_are is))
 
 -- ---- the sets that pieces make
 

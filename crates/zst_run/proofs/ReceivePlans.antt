@@ -122,7 +122,7 @@ starts kept recv stands waits none = record { fed = ([], stands); waits = λ is.
 
 -- nothing was read
 pub unread_plans : (rows : Rows) (ask : RecvAsk) (refusal : Refusal) → ((fault : PlanFault) → refusal ≡ refusals.Plan fault → ⊥) → (reading []).covered ≡ [] → SaysOfPlan rows ask [] (Err refusal)
-unread_plans rows ask refusal other none = record { planned = λ fault within refuses. absurd (none_refused rows ask [] fault none refuses); because = λ fault is. absurd (other fault (cc is)) }
+unread_plans rows ask refusal other none = record { planned = λ memory fault within refuses. absurd (none_refused rows ask [] fault none refuses); because = λ fault is. absurd (other fault (cc is)) }
 
 -- a receive that goes on was refused by no plan
 on_plans : (rows : Rows) (kept : PoolState) (recv : Recv) (text : List ℕ) (fault : PlanFault) → PlansOn rows kept recv text → RefusesOne rows recv.ask text fault → ⊥
@@ -136,13 +136,13 @@ cut_other Failed count fault is = cc (is)
 
 pub cut_plans : (rows : Rows) (kept : PoolState) (recv : Recv) (ask : RecvAsk) (text : List ℕ) (end : End) (count : ℕ) (refusal : Refusal) → recv.ask ≡ ask → refusal ≡ cut_refusal end count → PlansOn rows kept recv text → SaysOfPlan rows ask text (Err refusal)
 cut_plans rows kept recv ask text end count refusal ask_is is on = record {
-  planned = λ fault within refuses. absurd (on_plans rows kept recv text fault on (subst (λ (a : RecvAsk). RefusesOne rows a text fault) (sym ask_is) refuses));
+  planned = λ memory fault within refuses. absurd (on_plans rows kept recv text fault on (subst (λ (a : RecvAsk). RefusesOne rows a text fault) (sym ask_is) refuses));
   because = λ fault same. absurd (let told : refusal ≡ refusals.Plan fault = cc (same) in cut_other end count fault (sym is ∙ told));
 }
 
 -- END was covered
 pub received_plans : (rows : Rows) (ask : RecvAsk) (text : List ℕ) (lines : List (List ℕ)) → ((fault : PlanFault) → length text ≤ stream_limit → RefusesOne rows ask text fault → ⊥) → SaysOfPlan rows ask text (Ok lines)
-received_plans rows ask text lines none = record { planned = λ fault within refuses. absurd (none fault within refuses); because = λ fault is. absurd (cc is) }
+received_plans rows ask text lines none = record { planned = λ memory fault within refuses. absurd (none fault within refuses); because = λ fault is. absurd (cc is) }
 
 -- ---- one turn
 
@@ -156,13 +156,13 @@ turn_plans rows ask kept recv text None goes = goes
 turn_plans rows ask kept recv text (Some end) goes = goes
 
 module _ (law : FrontsAgree) (rows : Rows) (kept kept' : PoolState) (recv recv' : Recv) (text piece : List ℕ) (result : Result coded.FeedReport RecvFault) (on : PlansOn rows kept recv text) (ask_is : recv'.ask ≡ recv.ask)
-    (planned : (fault : PlanFault) → is_waiting recv ≡ true → (reading text).covered ≡ [] → length (text ++ piece) ≤ stream_limit → RefusesOne kept.dir recv.ask (text ++ piece) fault → result ≡ Err (faults.Pool (pools.Plan fault))) where
-  refused_so : (fault : PlanFault) → length (text ++ piece) ≤ stream_limit → RefusesOne rows recv.ask (text ++ piece) fault → result ≡ Err (faults.Pool (pools.Plan fault))
-  refused_so fault within refuses =
+    (planned : ¬ (result ≡ Err (faults.Pool pools.OutOfMemory)) → (fault : PlanFault) → is_waiting recv ≡ true → (reading text).covered ≡ [] → length (text ++ piece) ≤ stream_limit → RefusesOne kept.dir recv.ask (text ++ piece) fault → result ≡ Err (faults.Pool (pools.Plan fault))) where
+  refused_so : ¬ (result ≡ Err (faults.Pool pools.OutOfMemory)) → (fault : PlanFault) → length (text ++ piece) ≤ stream_limit → RefusesOne rows recv.ask (text ++ piece) fault → result ≡ Err (faults.Pool (pools.Plan fault))
+  refused_so memory fault within refuses =
       by_waiting (result ≡ Err (faults.Pool (pools.Plan fault))) recv
       (λ waits.
       let so = on.waits waits in
-      planned fault waits so.1 within (subst (λ (r : Rows). RefusesOne r recv.ask (text ++ piece) fault) (sym so.0) refuses))
+      planned memory fault waits so.1 within (subst (λ (r : Rows). RefusesOne r recv.ask (text ++ piece) fault) (sym so.0) refuses))
       (λ behind. absurd (on.passed behind piece fault refuses))
 
   -- it goes on
@@ -175,17 +175,20 @@ module _ (law : FrontsAgree) (rows : Rows) (kept kept' : PoolState) (recv recv' 
         let asks = subst (λ (a : RecvAsk). RefusesOne rows a ((text ++ piece) ++ more) fault) ask_is refuses in
         by_waiting ⊥ recv
         (λ waits. by_covered ⊥ (text ++ piece) (λ none. let both = sym (still waits none) ∙ behind in cc (both))
-        (λ first others covered. let so = refused_so fault fed.1.bounded (front_refused law rows recv.ask (text ++ piece) more fault first others covered asks) in cc (is, so)))
+        (λ first others covered. let so = refused_so (λ out. absurd (cc (is, out))) fault fed.1.bounded (front_refused law rows recv.ask (text ++ piece) more fault first others covered asks) in cc (is, so)))
         (λ was. on.passed was (piece ++ more) fault (subst (λ (t : List ℕ). RefusesOne rows recv.ask t fault) (append_assoc text piece more) asks));
   }
 
   pub ends_plans : (told : coded.FeedReport) → result ≡ Ok told → (fault : PlanFault) → length (text ++ piece) ≤ stream_limit → RefusesOne rows recv.ask (text ++ piece) fault → ⊥
-  ends_plans told is fault within refuses = let so = refused_so fault within refuses in cc (is, so)
+  ends_plans told is fault within refuses = let so = refused_so (λ out. absurd (cc (is, out))) fault within refuses in cc (is, so)
 
   pub refused_plans : (fault : RecvFault) → result ≡ Err fault
       → ((told : PlanFault) → is_planned told ≡ true → result ≡ Err (faults.Pool (pools.Plan told)) → (is_waiting recv ≡ true) × RefusesEach kept.dir recv.ask (text ++ piece) told) → SaysOfPlan rows recv.ask (text ++ piece) (Err (recv_refusal fault))
   refused_plans fault is because = record {
-    planned = λ told within refuses. let same : fault ≡ faults.Pool (pools.Plan told) = (let so = refused_so told within refuses in cc (is, so)) in ap (λ (f : RecvFault). Err (recv_refusal f)) same;
+    planned = λ memory told within refuses.
+        let alive : ¬ (result ≡ Err (faults.Pool pools.OutOfMemory)) =
+        λ out. let none : fault ≡ faults.Pool pools.OutOfMemory = cc (is, out) in memory (ap (λ (f : RecvFault). Err (recv_refusal f)) none) in
+        let same : fault ≡ faults.Pool (pools.Plan told) = (let so = refused_so alive told within refuses in cc (is, so)) in ap (λ (f : RecvFault). Err (recv_refusal f)) same;
     because = λ told same.
         let so = plan_only fault told (cc (same)) in
         let each = because told so.1 (is ∙ ap (λ (f : RecvFault). Err f) so.0) in

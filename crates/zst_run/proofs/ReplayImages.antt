@@ -6,15 +6,16 @@ use Rattle.zst_outside.specs.Causes.{Rose, Rose-earlier}
 use Rattle.zst_outside.specs.Images.{DiskState, Leaves, Leaves-then, Leaves-weaker, OnlyReads, OnlyReads-none}
 use Rattle.zst_outside.specs.States.{SourceState, SinkState}
 use Rattle.zst_outside.specs.declared.disk.Disk.{Ghosts}
-use Rattle.zst_block.specs.Blocks.{Has}
+use Rattle.zst_block.specs.Blocks.{Has, KeepsBlocks}
 use Rattle.zst_block.specs.IoStates.{disk_of}
 use Rattle.zst_uber.specs.DiskCalls as disk_calls
-use Rattle.zst_uber.specs.declared.uber.Uber.{Uber}
+use Rattle.zst_image.proofs.Growth.{HasItsExtents-kept}
+use Rattle.zst_image.specs.Bodies.{Body, free_by}
 use Rattle.zst_dir.specs.Rows.{Rows}
 use Rattle.zst_image.specs.Commits.{Ready}
 use Rattle.zst_image.specs.Faults.{open_refusal}
 use Rattle.zst_image.specs.OpenAnswers.{GivesPool, OpenAnswers}
-use Rattle.zst_image.specs.Reads.{Reads, ReadsAs, Rests, free_by, kept_rows}
+use Rattle.zst_image.specs.Reads.{Reads, ReadsAs, Rests, kept_rows}
 use Rattle.zst_image.specs.declared.open_fault.OpenFault.{OpenFault}
 use Rattle.zst_image.specs.declared.open_fault.OpenFault.TheVariants as opens
 use Rattle.zst_image.specs.declared.pool_state.PoolState.{PoolState}
@@ -43,16 +44,16 @@ use Rattle.zst_run.proofs.ReplayRuns.{CountsNow, OnlyNow}
 
 -- what opening an image says that isn't opened
 pub record CannotOpen (here here' : DiskState) (fault : OpenFault) : Type 0 where
-  pub there : (tight : Bool) (uber : Uber) (rows : Rows) (pool : Plain) → here'.honest → ReadsAs tight uber rows pool here.seen → GivesPool uber rows (Err fault)
+  pub there : (tight : Bool) (body : Body) (rows : Rows) (pool : Plain) → here'.honest → ReadsAs tight body rows pool here.seen → GivesPool body rows (Err fault)
   pub answer : here'.honest → OpenAnswers here (Err fault)
   pub reads : OnlyReads here here'
   pub cause : disk_calls.HasDiskCause {T = PoolState} opens.DiskFault here.faults here'.faults (Err fault)
 
 -- and one that is opened, and what is kept of its pool
 pub record HasOpened (here here' : DiskState) (kept : PoolState) : Type 0 where
-  pub there : (tight : Bool) (uber : Uber) (rows : Rows) (pool : Plain) → here'.honest → ReadsAs tight uber rows pool here.seen → GivesPool uber rows (Ok kept)
+  pub there : (tight : Bool) (body : Body) (rows : Rows) (pool : Plain) → here'.honest → ReadsAs tight body rows pool here.seen → GivesPool body rows (Ok kept)
   pub answer : here'.honest → OpenAnswers here (Ok kept)
-  pub stands : (tight : Bool) (uber : Uber) (rows : Rows) (pool : Plain) → here'.honest → ReadsAs tight uber rows pool here.seen → Rests tight here' kept.body rows pool
+  pub stands : (tight : Bool) (body : Body) (rows : Rows) (pool : Plain) → here'.honest → ReadsAs tight body rows pool here.seen → Rests tight here' kept.body rows pool
   pub ready : Ready here' kept.body
   pub reads : OnlyReads here here'
   pub later : here.faults ≤ here'.faults
@@ -138,10 +139,14 @@ left_of kept pool stands tells = record {
 }
 
 -- and what stood in sectors that the body which was opened left not free
-all_stood : (start : DiskState) (old new : Kept) (answers : List Answer) → old.disk.seen ≡ start.seen → old.failed ≡ false → SparesAll old new answers → Stood start new.disk old.state.body answers
-all_stood start old new answers same works spares honest none ptr bytes has =
-    let is = (spares none honest works).1 ptr bytes (subst (λ (seen : List ℕ). Has seen (free_by old.state.body) ptr bytes) (sym same) has) in
+all_stood : (side : Side) (start : DiskState) (old new : Kept) (events : List Event) (answers : List Answer) → old.disk.seen ≡ start.seen → old.failed ≡ false → SparesAll side old new events answers
+    → Stood start new.disk old.state.body side events answers
+all_stood side start old new events answers same works spares honest none finds ptr bytes has =
+    let is = (spares none (λ there. HasItsExtents-kept start old.disk old.state.body still (finds there)) honest works).1 ptr bytes (still ptr bytes has) in
     record { block = is.block; behind = has.behind; taken = has.taken }
+  where
+    still : KeepsBlocks start.seen (free_by old.state.body) old.disk.seen (free_by old.state.body)
+    still ptr bytes = subst (λ (seen : List ℕ). Has seen (free_by old.state.body) ptr bytes) (sym same)
 
 -- its moments, and its images in the end: it was only read as it was opened
 stood_first : (now : ℕ) (side : Side) (world : World) (events : List Event) (answers : List Answer) (start mid : DiskState) → OnlyReads start mid → (c : List ℕ)
@@ -249,8 +254,8 @@ module _ {D E : Type 0} {g : Ghosts D} {h : Ghosts E} where
           kept = old.here.kept;
           other = old.there.kept;
           opens = λ honest honest_there. (first.has.answer (later.honest honest), second.has.answer (later_there.honest honest_there));
-          here_stood = all_stood here (kept_pool old.here) (kept_pool new.here) all.answers first.has.reads.seen first.works all.runs.here_spares;
-          there_stood = all_stood there (kept_pool old.there) (kept_pool new.there) all.answers second.has.reads.seen second.works all.runs.there_spares;
+          here_stood = all_stood Here here (kept_pool old.here) (kept_pool new.here) all.events all.answers first.has.reads.seen first.works all.runs.here_spares;
+          there_stood = all_stood There there (kept_pool old.there) (kept_pool new.there) all.events all.answers second.has.reads.seen second.works all.runs.there_spares;
           script = all.script;
           writes = all.writes;
           lost = all_lost now here there old new first second all.events all.answers all.runs time only_here only_there counts_here counts_there;

@@ -1,7 +1,7 @@
 -- Runs of events of the engine, one after another.
-use Rattle.std.specs.Prelude.{Result, Ok, Err}
+use Rattle.std.specs.Prelude.{Contains, Result, Ok, Err}
 use Rattle.std.proofs.Common.{sym, ◌≡◌, ◌≤◌, inl, inr, ℕ, true, false, All, List, [], ◌∷◌, ◌++◌, refl, ap, ◌∙◌, subst, arith, ◌+◌, length, length-append}
-use Rattle.std.proofs.lemmas.List.Elements.{All-append, All-cons, All-head, All-nil, All-tail, All-weaker}
+use Rattle.std.proofs.lemmas.List.Elements.{All-append, All-cons, All-head, All-nil, All-tail, All-weaker, Contains-append_left, Contains-append_right, Contains-push}
 use Rattle.zst_outside.specs.Causes.{Rose, Rose-earlier}
 use Rattle.zst_outside.specs.Images.{DiskState, Leaves, Leaves-none, Leaves-then, Leaves-weaker}
 use Rattle.zst_outside.specs.declared.disk.Disk.{Ghosts}
@@ -137,20 +137,24 @@ module _ {X : Type 0} (P : X → Type 0) where
   all_rest [] ys all = all
   all_rest (x ∷ xs) ys all = all_rest xs ys (All-tail P x (xs ++ ys) all)
 
-none_spare : (kept : Kept) → SparesAll kept kept []
-none_spare kept none honest works = (works, λ ptr bytes has. has)
+none_spare : (side : Side) (kept : Kept) → SparesAll side kept kept [] []
+none_spare side kept none finds honest works = (works, (λ ptr bytes has. has), λ has. has)
 
-one_spares : {again : Type 0} (old new : Kept) (answer : Answer) → (¬ (answer ≡ Err refusals.DiskFault) → old.failed ≡ false → new.failed ≡ false) → SparesBlocks again old new → SparesAll old new (answer ∷ [])
-one_spares old new answer still spares none honest works =
+one_spares : (side : Side) (event : Event) (old new : Kept) (answer : Answer) → (¬ (answer ≡ Err refusals.DiskFault) → old.failed ≡ false → new.failed ≡ false) → SparesBlocks (event ≡ events.Reopen side) old new → SparesAll side old new (event ∷ []) (answer ∷ [])
+one_spares side event old new answer still spares none finds honest works =
     let alive = still (All-head (λ answer. ¬ (answer ≡ Err refusals.DiskFault)) answer [] none) works in
-    (alive, spares.blocks (λ is. (works, honest)) alive)
+    (alive, spares.blocks (λ is. (works, honest, finds (contained is))) alive, spares.extents (λ is. (works, honest)) alive)
+  where
+    contained : event ≡ events.Reopen side → Contains (event ∷ []) (events.Reopen side)
+    contained is = subst (λ (e : Event). Contains (event ∷ []) e) is (Contains-push [] event)
 
-spares_then : (old mid new : Kept) (answers told : List Answer) → (new.disk.honest → mid.disk.honest) → SparesAll old mid answers → SparesAll mid new told → SparesAll old new (answers ++ told)
-spares_then old mid new answers told truth first second none honest works =
+spares_then : (side : Side) (old mid new : Kept) (first_events more : List Event) (answers told : List Answer) → (new.disk.honest → mid.disk.honest) → SparesAll side old mid first_events answers → SparesAll side mid new more told
+    → SparesAll side old new (first_events ++ more) (answers ++ told)
+spares_then side old mid new first_events more answers told truth first second none finds honest works =
     let Fails : Answer → Type 0 = λ answer. ¬ (answer ≡ Err refusals.DiskFault) in
-    let before = first (all_front Fails answers told none) (truth honest) works in
-    let behind = second (all_rest Fails answers told none) honest before.0 in
-    (behind.0, λ ptr bytes has. behind.1 ptr bytes (before.1 ptr bytes has))
+    let before = first (all_front Fails answers told none) (λ there. finds (Contains-append_left first_events more (events.Reopen side) there)) (truth honest) works in
+    let behind = second (all_rest Fails answers told none) (λ there. before.2 (finds (Contains-append_right first_events more (events.Reopen side) there))) honest before.0 in
+    (behind.0, (λ ptr bytes has. behind.1 ptr bytes (before.1 ptr bytes has)), λ has. behind.2 (before.2 has))
 
 -- what rose before a later count rose by then
 rose_later : (before mid now : ℕ) → mid ≤ now → Rose before mid → Rose before now
@@ -175,8 +179,8 @@ module _ {D E : Type 0} {g : Ghosts D} {h : Ghosts E} where
     time = refl;
     one_each = refl;
     lost = All-nil (λ answer. answer ≡ Err refusals.DiskFault → Lost engine engine);
-    here_spares = none_spare (kept_pool engine.here);
-    there_spares = none_spare (kept_pool engine.there);
+    here_spares = none_spare Here (kept_pool engine.here);
+    there_spares = none_spare There (kept_pool engine.there);
   }
 
   -- one event
@@ -201,8 +205,8 @@ module _ {D E : Type 0} {g : Ghosts D} {h : Ghosts E} where
     time = did.time;
     one_each = refl;
     lost = let P : Answer → Type 0 = λ answer. answer ≡ Err refusals.DiskFault → Lost old new in All-cons P (answer_of reply) [] (λ is. did.cause (lost_of reply is)) (All-nil P);
-    here_spares = one_spares (kept_pool old.here) (kept_pool new.here) (answer_of reply) (λ alive. (did.works (λ is. alive (ap answer_of is))).0) did.here_spares;
-    there_spares = one_spares (kept_pool old.there) (kept_pool new.there) (answer_of reply) (λ alive. (did.works (λ is. alive (ap answer_of is))).1) did.there_spares;
+    here_spares = one_spares Here event (kept_pool old.here) (kept_pool new.here) (answer_of reply) (λ alive. (did.works (λ is. alive (ap answer_of is))).0) did.here_spares;
+    there_spares = one_spares There event (kept_pool old.there) (kept_pool new.there) (answer_of reply) (λ alive. (did.works (λ is. alive (ap answer_of is))).1) did.there_spares;
   }
 
   lost_earlier : (old mid new : Engine D E g h) → IsLaterPool old.here mid.here → IsLaterPool old.there mid.there → Lost mid new → Lost old new
@@ -239,6 +243,6 @@ module _ {D E : Type 0} {g : Ghosts D} {h : Ghosts E} where
         let P : Answer → Type 0 = λ answer. answer ≡ Err refusals.DiskFault → Lost old new in
         All-append P answers told (All-weaker (λ answer. answer ≡ Err refusals.DiskFault → Lost old mid) P (λ answer was is. lost_later old mid new second.here_later second.there_later (was is)) answers first.lost)
         (All-weaker (λ answer. answer ≡ Err refusals.DiskFault → Lost mid new) P (λ answer was is. lost_earlier old mid new first.here_later first.there_later (was is)) told second.lost);
-    here_spares = spares_then (kept_pool old.here) (kept_pool mid.here) (kept_pool new.here) answers told second.here_later.honest first.here_spares second.here_spares;
-    there_spares = spares_then (kept_pool old.there) (kept_pool mid.there) (kept_pool new.there) answers told second.there_later.honest first.there_spares second.there_spares;
+    here_spares = spares_then Here (kept_pool old.here) (kept_pool mid.here) (kept_pool new.here) events more answers told second.here_later.honest first.here_spares second.here_spares;
+    there_spares = spares_then There (kept_pool old.there) (kept_pool mid.there) (kept_pool new.there) events more answers told second.there_later.honest first.there_spares second.there_spares;
   }

@@ -5,7 +5,8 @@ use Rattle.std.specs.List.{concat}
 use Rattle.zst_outside.specs.Images.{DiskState, Leaves, Leaves-none, Leaves-weaker}
 use Rattle.zst_outside.specs.States.{SourceState}
 use Rattle.zst_block.specs.Blocks.{Has}
-use Rattle.zst_image.specs.Reads.{Reads, Rests, bound_of, free_by}
+use Rattle.zst_image.specs.Bodies.{free_by, Body}
+use Rattle.zst_image.specs.Reads.{Reads, Rests, bound_of}
 use Rattle.zst_image.specs.declared.pool_state.PoolState.{PoolState}
 use Rattle.zst_model.specs.declared.refusals.faults.Quantity.{Quantity}
 use Rattle.zst_model.specs.declared.refusals.faults.Quantity.TheVariants as quantities
@@ -41,7 +42,6 @@ use Rattle.zst_recv.specs.declared.fault.RecvFault.TheVariants as faults
 use Rattle.zst_recv.specs.declared.recv.FeedReport as coded
 use Rattle.zst_recv.specs.declared.recv.Recv.{Recv}
 use Rattle.zst_replication.specs.RecordCounts.{Counts, RecordsAreCounted}
-use Rattle.zst_uber.specs.declared.uber.Uber.{Uber}
 use Rattle.zst_run.specs.Receives.{IsOpen, IsTightOrNew, LastFindsNoRoom, ReceiveEnds, Refused, Stopped, piece_size}
 use Rattle.zst_run.specs.ReceiveTurns.{ReadsAlong, IsReceived, MayPlan, Turned, WaitsForMore, Wanted, with_piece}
 use Rattle.zst_run.specs.declared.receive.End.{End}
@@ -285,7 +285,7 @@ module _ (law : RecordsAreCounted) (tight : Bool) (old now : DiskState) (kept ke
     image = old.seen;
     runs_by = u.rests.runs_by;
     rows = rests.rows;
-    stands = subst (λ (body : Uber). Rests tight now body rests.rows (kept_of (left_by u.stage u.after))) short.stays rests.rests;
+    stands = subst (λ (body : Body). Rests tight now body rests.rows (kept_of (left_by u.stage u.after))) short.stays rests.rests;
     left = short.left;
     short = short.short;
   }

@@ -2,7 +2,7 @@
 use Rattle.std.specs.Prelude.{◌≡◌, Bool, List, ℕ, Err}
 use Rattle.zst_outside.specs.Images.{DiskState}
 use Rattle.zst_outside.specs.States.{SourceState, Gave}
-use Rattle.zst_uber.specs.declared.uber.Uber.{Uber}
+use Rattle.zst_image.specs.Bodies.{Body}
 use Rattle.zst_model.specs.declared.refusals.refusal.Refusal.{Refusal}
 use Rattle.zst_model.specs.declared.refusals.refusal.Refusal.TheVariants as refusals
 use Rattle.zst_model.specs.declared.refusals.stream_fault.StreamFault.TheVariants.{Truncated}
@@ -23,10 +23,10 @@ IsCut refusal = ⊥
 
 -- a run of `receive` read these bytes of its input, which gave no more, into an image that is read as this pool, by tight sets or without the target
 pub record WasCut (tight : Bool) (ask : RecvAsk) (into : Pool) (text : List ℕ) (there there' : DiskState) : Type 0 where
-  pub uber : Uber
+  pub body : Body
   pub rows : Rows
   pub honest : there'.honest
-  pub reads : ReadsAs tight uber rows into there.seen
+  pub reads : ReadsAs tight body rows into there.seen
   pub may : IsTightOrNew tight ask into
   pub input : SourceState
   pub input_after : SourceState

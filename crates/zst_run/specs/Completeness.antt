@@ -1,11 +1,12 @@
 -- Runs that nothing stands in the way of: they are done, unless no memory was left.
-use Rattle.std.specs.Prelude.{ℕ, ◌≡◌, ◌≢◌, ◌⊎◌, ◌≤◌, ◌+◌, ◌-◌, ◌*◌, ◌++◌, false, Bool, IsTrue, List, [], length, Some, None, Result, Ok, Err}
+use Rattle.std.specs.Prelude.{ℕ, ◌≡◌, ◌≢◌, ◌⊎◌, ◌≤◌, ◌+◌, ◌*◌, ◌++◌, false, Bool, IsTrue, List, [], length, Some, None, Result, Ok, Err}
 use Rattle.std.specs.List.{concat}
 use Rattle.zst_outside.specs.Causes.{Rose}
 use Rattle.zst_outside.specs.Images.{DiskState}
 use Rattle.zst_outside.specs.States.{SourceState, SinkState, Gave}
 use Rattle.zst_uber.specs.Slots.{latest}
-use Rattle.zst_uber.specs.declared.uber.Uber.{Uber}
+use Rattle.zst_space.specs.FreeSectors.{largest_of}
+use Rattle.zst_image.specs.Bodies.{Body, free_by}
 use Rattle.zst_model.specs.declared.pools.command.Command.{Command}
 use Rattle.zst_model.specs.declared.refusals.refusal.Refusal.{Refusal}
 use Rattle.zst_model.specs.declared.refusals.refusal.Refusal.TheVariants as refusals
@@ -82,17 +83,17 @@ pub record Takes (ask : RecvAsk) (pool : Pool) (text : List ℕ) : Type 0 where
   pub whole : (reading text).outcome ≡ complete
   pub accepts : (pieces : List (List ℕ)) → AreOfFront text pieces → (after : Pool) (refusal : Refusal) → receives ask pool pieces ≢ Stops after refusal
 
--- there is room for this text: by the body and the directory that are opened as many sectors are free as its pieces cost
+-- there is room for this text: by the body and the directory that are opened some free extent has as many sectors as its pieces cost
 abbrev pub HasRoom : DiskState → List ℕ → Type 0
-HasRoom here text = (uber : Uber) (rows : Rows) (pieces : List (List ℕ)) → Opens here uber rows → AreOfFront text pieces
-    → ¬ (CostMore (record { body = uber; dir = kept_rows rows }) pieces)
+HasRoom here text = (body : Body) (rows : Rows) (pieces : List (List ℕ)) → Opens here body rows → AreOfFront text pieces
+    → ¬ (CostMore (record { body = body; dir = kept_rows rows }) pieces)
 
 -- A run of `receive` into an image that reads as a pool: where the definition takes the text that the input has, which is no longer than a stream may be, there is
 -- room for it, and none of the disk, the input and the output counted a fault, it is done, or no memory was left.
 abbrev pub ReceivesComplete : (here here' : DiskState) → Type 0
 ReceivesComplete here here' =
-    (tight : Bool) (ask : RecvAsk) (uber : Uber) (rows : Rows) (pool : Pool) (text : List ℕ) (input input' : SourceState) (out out' : SinkState) (result : Result (Unit {0}) Refusal)
-    → here'.honest → ReadsAs tight uber rows pool here.seen → IsTightOrNew tight ask pool
+    (tight : Bool) (ask : RecvAsk) (body : Body) (rows : Rows) (pool : Pool) (text : List ℕ) (input input' : SourceState) (out out' : SinkState) (result : Result (Unit {0}) Refusal)
+    → here'.honest → ReadsAs tight body rows pool here.seen → IsTightOrNew tight ask pool
     → HasText text input input' → length text ≤ stream_limit → Takes ask pool text → HasRoom here text
     → NoneCounted here.faults here'.faults → NoneCounted input.faults input'.faults → NoneCounted out.faults out'.faults
     → Replies (Receiving ask here here' input input') out out' result → DoneOrNoMemory result
@@ -157,16 +158,16 @@ RestTransfersComplete here here' there there' =
 
 -- ---- the other lines
 
--- there is room for a command: as many sectors are free by this body as it takes at most, or as it takes with each directory of rows that name the pool that it makes
-abbrev pub HasRoomFor : Command → Uber → Rows → Pool → Result Stepped Refusal → Type 0
-HasRoomFor command uber rows pool after = (most_of command rows pool ≤ uber.sectors - uber.end) ⊎ ¬ (CostsMore (cost_of command).cells ((cost_of command).block pool) ((cost_of command).list pool) uber after)
+-- there is room for a command: some extent that is free by this body has as many sectors as it takes at most, or as it takes with each directory of rows that name the pool that it makes
+abbrev pub HasRoomFor : Command → Body → Rows → Pool → Result Stepped Refusal → Type 0
+HasRoomFor command body rows pool after = (most_of command body rows pool ≤ largest_of (free_by body)) ⊎ ¬ (CostsMore (cost_of command).cells ((cost_of command).block pool) ((cost_of command).list pool) body after)
 
 -- A run of a command on an image that reads as a pool: where the definition accepts it, there is room for it by the latest body, and neither
 -- the disk nor the output counted a fault, it is done, or no memory was left.
 abbrev pub StepsComplete : (here here' : DiskState) → Type 0
 StepsComplete here here' =
-    (tight : Bool) (now : ℕ) (command : Command) (uber : Uber) (rows : Rows) (pool : Pool) (done : Stepped) (out out' : SinkState) (result : Result (Unit {0}) Refusal)
-    → here'.honest → ReadsAs tight uber rows pool here.seen → stepped [] now command pool ≡ Ok done → HasRoomFor command uber rows pool (stepped [] now command pool)
+    (tight : Bool) (now : ℕ) (command : Command) (body : Body) (rows : Rows) (pool : Pool) (done : Stepped) (out out' : SinkState) (result : Result (Unit {0}) Refusal)
+    → here'.honest → ReadsAs tight body rows pool here.seen → stepped [] now command pool ≡ Ok done → HasRoomFor command body rows pool (stepped [] now command pool)
     → NoneCounted here.faults here'.faults → NoneCounted out.faults out'.faults
     → Replies (Stepping now command here here') out out' result → DoneOrNoMemory result
 

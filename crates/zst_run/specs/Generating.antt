@@ -4,7 +4,7 @@ use Rattle.std.specs.List.{concat, slice_get}
 use Rattle.zst_outside.specs.Images.{DiskState, Leaves, OnlyReads}
 use Rattle.zst_space.specs.FreeSectors.{FreeSectors}
 use Rattle.zst_block.specs.Blocks.{KeepsBlocks}
-use Rattle.zst_uber.specs.declared.uber.Uber.{Uber}
+use Rattle.zst_image.specs.Bodies.{Body, free_by}
 use Rattle.zst_model.specs.declared.pools.command.Command.{Command}
 use Rattle.zst_model.specs.declared.refusals.refusal.Refusal.{Refusal}
 use Rattle.zst_model.specs.declared.refusals.refusal.Refusal.TheVariants as refusals
@@ -14,7 +14,7 @@ use Rattle.zst_model.specs.pools.Step.{stepped}
 use Rattle.zst_model.specs.states.AppliedItems.{◌>>=◌}
 use Rattle.zst_gen.specs.Generated.{generated}
 use Rattle.zst_dir.specs.Rows.{Rows}
-use Rattle.zst_image.specs.Reads.{Reads, free_by}
+use Rattle.zst_image.specs.Reads.{Reads}
 use Rattle.zst_image.specs.declared.pool_state.PoolState.{PoolState}
 use Rattle.zst_pool.specs.Calls.{IsAtRest}
 use Rattle.zst_pool.specs.Cost.{HasNoRoom, cost_of}
@@ -82,9 +82,9 @@ GenEnds tight now steps pool here' (Err refusal) = (stop : StoppedAt tight now s
 
 -- The commands on a pool that was opened by this body and these rows, whether or not the image reads as a pool: whatever the answer, but for E28, each
 -- block still stands that stood in sectors which the body left not free, and E24 comes only where the longest extent is shorter than what is needed.
-pub record GenRan (here here' : DiskState) (answer : Result (List (List ℕ)) Refusal) (uber : Uber) (rows : Rows) : Type 0 where
-  pub opens : Opens here uber rows
-  pub stood : ¬ (answer ≡ Err refusals.DiskFault) → KeepsBlocks here.seen (free_by uber) here'.seen (free_by uber)
+pub record GenRan (here here' : DiskState) (answer : Result (List (List ℕ)) Refusal) (body : Body) (rows : Rows) : Type 0 where
+  pub opens : Opens here body rows
+  pub stood : ¬ (answer ≡ Err refusals.DiskFault) → KeepsBlocks here.seen (free_by body) here'.seen (free_by body)
   pub full : (need largest : ℕ) → answer ≡ Err (refusals.Full need largest) → largest < need
 
 -- The commands that make content of so many objects, on the pool of an image: at every moment, and in the end, each image stood before them, or reads as

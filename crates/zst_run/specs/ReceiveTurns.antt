@@ -1,5 +1,5 @@
 -- A receive that is under way, piece by piece.
-use Rattle.std.specs.Prelude.{ℕ, ◌+◌, ◌*◌, ◌-◌, ◌≡◌, ◌⊎◌, ◌<◌, ◌≤◌, Bool, true, false, IsTrue, IsSome, IfErr, All, List, [], ◌∷◌, ◌++◌, length, take, Option, None, Some, Result, Ok, Err}
+use Rattle.std.specs.Prelude.{ℕ, ◌+◌, ◌-◌, ◌≡◌, ◌⊎◌, ◌<◌, ◌≤◌, Bool, true, false, IsTrue, IsSome, IfErr, All, List, [], ◌∷◌, ◌++◌, length, take, Option, None, Some, Result, Ok, Err}
 use Rattle.std.specs.List.{concat}
 use Rattle.zst_outside.specs.Causes.{Rose}
 use Rattle.zst_outside.specs.Images.{DiskState, Leaves}
@@ -17,9 +17,9 @@ use Rattle.zst_model.specs.declared.refusals.stream_fault.StreamFault.TheVariant
 use Rattle.zst_model.specs.pools.KeptPool.{kept_of}
 use Rattle.zst_model.specs.pools.Pool.{Pool, Partial}
 use Rattle.zst_model.specs.states.State.{AreBytes}
-use Rattle.zst_dir.specs.Spelling.{dir_bytes}
 use Rattle.zst_image.specs.Commits.{Ready}
-use Rattle.zst_image.specs.Reads.{Reads, bound_of, free_by}
+use Rattle.zst_image.specs.Bodies.{free_by}
+use Rattle.zst_image.specs.Reads.{Reads, bound_of}
 use Rattle.zst_image.specs.declared.pool_state.PoolState.{PoolState}
 use Rattle.zst_plan.specs.declared.receive.RecvAsk.{RecvAsk}
 use Rattle.zst_pool.specs.Calls.{IsAtRest}

@@ -4,9 +4,10 @@ use Rattle.std.specs.List.{concat}
 use Rattle.zst_outside.specs.Causes.{Rose}
 use Rattle.zst_outside.specs.Images.{DiskState, Leaves, OnlyReads}
 use Rattle.zst_outside.specs.States.{SourceState, Gave}
-use Rattle.zst_space.specs.FreeSectors.{FreeSectors}
+use Rattle.zst_space.specs.FreeSectors.{FreeSectors, largest_of}
 use Rattle.zst_block.specs.Blocks.{Has, KeepsBlocks, SparesTaken}
-use Rattle.zst_uber.specs.declared.uber.Uber.{Uber}
+use Rattle.zst_block.specs.IoCalls.{TakesAtMost}
+use Rattle.zst_image.specs.Bodies.{Body, free_by}
 use Rattle.zst_model.specs.declared.refusals.faults.Quantity.TheVariants.{Stream}
 use Rattle.zst_model.specs.declared.refusals.plan_fault.PlanFault.{PlanFault}
 use Rattle.zst_model.specs.declared.refusals.refusal.Refusal.{Refusal}
@@ -19,8 +20,9 @@ use Rattle.zst_model.specs.refusals.Refusal.{refusal_of}
 use Rattle.zst_model.specs.refusals.Texts.{guid_text}
 use Rattle.zst_dir.specs.Rows.{Rows}
 use Rattle.zst_dir.specs.Spelling.{dir_bytes}
+use Rattle.zst_image.specs.Commits.{commit_sectors}
 use Rattle.zst_image.specs.Faults.{open_refusal}
-use Rattle.zst_image.specs.Reads.{Reads, ReadsAs, Rests, RunsBy, bound_of, free_by, kept_rows, dir_sectors}
+use Rattle.zst_image.specs.Reads.{Reads, ReadsAs, Rests, RunsBy, bound_of, kept_rows}
 use Rattle.zst_image.specs.declared.pool_state.PoolState.{PoolState}
 use Rattle.zst_image.specs.declared.open_fault.OpenFault.{OpenFault}
 use Rattle.zst_plan.specs.RecvPlan.{snapshot_name}
@@ -62,7 +64,7 @@ IsOpen (Ends partial) = ⊥
 
 -- the image rests, and reads as what is kept of this pool
 abbrev pub Keeps : (tight : Bool) → DiskState → Pool → Type 0
-Keeps tight here' pool = (uber : Uber) × (rows : Rows) × Rests tight here' uber rows (kept_of pool)
+Keeps tight here' pool = (body : Body) × (rows : Rows) × Rests tight here' body rows (kept_of pool)
 
 -- an image that stood before the receive, or one that reads as what is kept of the pool that stands after some of the pieces
 abbrev pub IsOnTheWay : (tight : Bool) → DiskState → RecvAsk → Pool → List (List ℕ) → List ℕ → Type 0
@@ -99,21 +101,20 @@ pub record Refused (tight : Bool) (ask : RecvAsk) (pool : Pool) (pieces : List (
   pub is : receives ask pool pieces ≡ Stops after refusal
   pub keeps : Keeps tight here' after
 
--- so many sectors these pieces cost behind a text, in a pool whose directory has so many bytes before them: each the records that it covers, and a
--- directory that has 2,048 bytes more than before it
-unfoldable pub pieces_cost : (count : ℕ) → List ℕ → List (List ℕ) → ℕ
-pieces_cost count text [] = 0
-pieces_cost count text (piece ∷ rest) = records_cost (new_records text piece) + dir_sectors (count + 2048) + pieces_cost (count + 2048) (text ++ piece) rest
+-- so many sectors these pieces cost behind a text, in a pool whose directory has so many bytes before them, and whose body so many free extents: each the records
+-- that it covers, and what it commits, with a directory that has 2,048 bytes more than before it
+unfoldable pub pieces_cost : (count extents : ℕ) → List ℕ → List (List ℕ) → ℕ
+pieces_cost count extents text [] = 0
+pieces_cost count extents text (piece ∷ rest) = records_cost (new_records text piece) + commit_sectors (count + 2048) extents + pieces_cost (count + 2048) extents (text ++ piece) rest
 
--- fewer sectors were free by what was opened than the pieces cost together
+-- no extent that was free by what was opened had as many sectors as the pieces cost together
 abbrev pub CostMore : PoolState → List (List ℕ) → Type 0
-CostMore kept pieces = kept.body.sectors - kept.body.end < pieces_cost (length (dir_bytes kept.dir)) [] pieces
+CostMore kept pieces = largest_of (free_by kept.body) < pieces_cost (length (dir_bytes kept.dir)) (length kept.body.free) [] pieces
 
 -- what the pool keeps has grown by no more than these pieces cost
 pub record GrewBy (first kept : PoolState) (pieces : List (List ℕ)) : Type 0 where
   pub directory : length (dir_bytes kept.dir) ≤ length (dir_bytes first.dir) + 2048 * length pieces
-  pub sectors : kept.body.sectors ≡ first.body.sectors
-  pub end : kept.body.end ≤ first.body.end + pieces_cost (length (dir_bytes first.dir)) [] pieces
+  pub takes : TakesAtMost (pieces_cost (length (dir_bytes first.dir)) (length first.body.free) [] pieces) (λ count. Unit {0}) (free_by first.body) (free_by kept.body)
 
 -- The last of the pieces found no room, whatever the image is: the pieces cost more than was free, and the last found none by what was kept of the pool once those before it were taken.
 pub record PiecesFindNoRoom (first : PoolState) (pieces : List (List ℕ)) (need largest : ℕ) : Type 0 where
@@ -127,7 +128,7 @@ pub record PiecesFindNoRoom (first : PoolState) (pieces : List (List ℕ)) (need
   pub short : PieceIsShort (new_records (concat before) last) kept left need largest
 
 -- The last of the pieces found no room: those before it left the receive waiting, and a pool whose rows in memory stood for it then, by a body by
--- which the image rests still; and by them fewer sectors were free than the last piece costs, by the records that it covers.
+-- which the image rests still; and by them no free extent had as many sectors as the last piece costs, by the records that it covers.
 pub record LastFindsNoRoom (tight : Bool) (ask : RecvAsk) (pool : Pool) (pieces : List (List ℕ)) (here' : DiskState) (need largest : ℕ) : Type 0 where
   pub before : List (List ℕ)
   pub last : List ℕ
@@ -144,8 +145,8 @@ pub record LastFindsNoRoom (tight : Bool) (ask : RecvAsk) (pool : Pool) (pieces 
   pub short : PieceIsShort (new_records (concat before) last) kept left need largest
 
 -- How a receive into a pool ends, and what then stands: the snapshot, with its line; E20 where the input ended while its stream waits for more, and E29 where it failed, with all
--- that was read taken; E23 of a stream of more bytes than one has, E24 and E32 with nothing of the last piece taken, and E24 where fewer sectors were free before
--- that one than it costs; else as the definition refuses what was read. Nothing is damaged.
+-- that was read taken; E23 of a stream of more bytes than one has, E24 and E32 with nothing of the last piece taken, and E24 where no free extent had as many sectors before
+-- that one as it costs; else as the definition refuses what was read. Nothing is damaged.
 abbrev pub ReceiveEnds : (tight : Bool) → RecvAsk → Pool → List (List ℕ) → DiskState → SourceState → SourceState → Result (List (List ℕ)) Refusal → Type 0
 ReceiveEnds tight ask pool pieces here' input input' (Ok lines) = Received tight ask pool pieces here' lines
 ReceiveEnds tight ask pool pieces here' input input' (Err (refusals.Stream (Truncated at))) =
@@ -176,9 +177,9 @@ pub record IsReceiveRefusal (here here' : DiskState) (input input' : SourceState
   pub cause : refusal ≡ refusals.SourceFault → Rose input.faults input'.faults
 
 -- What the rows of the directory tell alone of a receive of this text, whatever the object sets hold: where its plan refuses a pool that the rows name, that is the
--- answer, and nothing else comes before it; and each refusal of a plan but those of a limit comes where the plan refuses each pool that they name.
+-- answer, and nothing else comes before it, unless no memory was left; and each refusal of a plan but those of a limit comes where the plan refuses each pool that they name.
 pub record SaysOfPlan (rows : Rows) (ask : RecvAsk) (text : List ℕ) (answer : Result (List (List ℕ)) Refusal) : Type 0 where
-  pub planned : (fault : PlanFault) → length text ≤ stream_limit → RefusesOne rows ask text fault → answer ≡ Err (refusal_of fault)
+  pub planned : ¬ (answer ≡ Err refusals.OutOfMemory) → (fault : PlanFault) → length text ≤ stream_limit → RefusesOne rows ask text fault → answer ≡ Err (refusal_of fault)
   pub because : (fault : PlanFault) → answer ≡ Err (refusals.Plan fault) → RefusesEach rows ask text fault
 
 -- A set that so many pieces made, from an image of so many bytes, over the sectors that are free there, on which these rows stand: it is the one with which the
@@ -190,24 +191,24 @@ MadeBy (suc pieces) image size free rows ask text seen left set =
 
 -- E25 of a receive of a text: of a set that some pieces made from the rows that were opened, as the disk read when the refused piece began; each block that stood
 -- as the run began still stood then.
-pub record IsDamagedReceive (image : List ℕ) (size : ℕ) (uber : Uber) (rows : Rows) (ask : RecvAsk) (text : List ℕ) (sector : ℕ) (stated found : List ℕ) : Type 0 where
+pub record IsDamagedReceive (image : List ℕ) (size : ℕ) (body : Body) (rows : Rows) (ask : RecvAsk) (text : List ℕ) (sector : ℕ) (stated found : List ℕ) : Type 0 where
   pub pieces : ℕ
   pub seen : List ℕ
   pub left : FreeSectors
   pub set : ObjSet
-  pub blocks : KeepsBlocks image (free_by uber) seen left
-  pub made : MadeBy pieces image size (free_by uber) rows ask text seen left set
+  pub blocks : KeepsBlocks image (free_by body) seen left
+  pub made : MadeBy pieces image size (free_by body) rows ask text seen left set
   pub damaged : apply_damage (SparesTaken left seen) size set sector stated found
 
 -- a receive of what is asked, by these pieces, into a pool that was opened by this body and these rows, whether or not the image reads as a pool: E24 comes only
 -- where the longest extent is shorter than what is needed; and whatever it answers, but for E28, each block still stands that stood in sectors which the body
 -- left not free
-pub record ReceiveRan (ask : RecvAsk) (pieces : List (List ℕ)) (here here' : DiskState) (answer : Result (List (List ℕ)) Refusal) (uber : Uber) (rows : Rows) : Type 0 where
-  pub opens : Opens here uber rows
-  pub stood : ¬ (answer ≡ Err refusals.DiskFault) → KeepsBlocks here.seen (free_by uber) here'.seen (free_by uber)
+pub record ReceiveRan (ask : RecvAsk) (pieces : List (List ℕ)) (here here' : DiskState) (answer : Result (List (List ℕ)) Refusal) (body : Body) (rows : Rows) : Type 0 where
+  pub opens : Opens here body rows
+  pub stood : ¬ (answer ≡ Err refusals.DiskFault) → KeepsBlocks here.seen (free_by body) here'.seen (free_by body)
   pub full : (need largest : ℕ) → answer ≡ Err (refusals.Full need largest) → largest < need
   pub planned : SaysOfPlan (kept_rows rows) ask (concat pieces) answer
-  pub damaged : (sector : ℕ) (stated found : List ℕ) → answer ≡ Err (refusals.Damaged sector stated found) → IsDamagedReceive here.seen here.size uber (kept_rows rows) ask (concat pieces) sector stated found
+  pub damaged : (sector : ℕ) (stated found : List ℕ) → answer ≡ Err (refusals.Damaged sector stated found) → IsDamagedReceive here.seen here.size body (kept_rows rows) ask (concat pieces) sector stated found
 
 -- What an answer says of the pieces that were read, whatever the image: a fault that is found in a stream is that of their reading, E20 comes where their
 -- reading waits for more, and tells the count of their bytes at the end of an input that didn't fail, and there is a line only where their reading is complete.
@@ -227,19 +228,19 @@ pub record Receiving (ask : RecvAsk) (here here' : DiskState) (input input' : So
   pub pieces : List (List ℕ)
   pub are_pieces : ArePieces pieces
   pub consumed : Gave input input' (concat pieces)
-  pub wanted : (tight : Bool) (uber : Uber) (rows : Rows) (pool : Pool) → here'.honest → ReadsAs tight uber rows pool here.seen → IsTightOrNew tight ask pool
+  pub wanted : (tight : Bool) (body : Body) (rows : Rows) (pool : Pool) → here'.honest → ReadsAs tight body rows pool here.seen → IsTightOrNew tight ask pool
       → (n : ℕ) → n < length pieces → (after : Pool) × (stage : Stage) × (receives ask pool (take n pieces) ≡ Goes after stage) × IsOpen stage
-  pub moments : (tight : Bool) (uber : Uber) (rows : Rows) (pool : Pool) → here'.honest → ReadsAs tight uber rows pool here.seen → IsTightOrNew tight ask pool
+  pub moments : (tight : Bool) (body : Body) (rows : Rows) (pool : Pool) → here'.honest → ReadsAs tight body rows pool here.seen → IsTightOrNew tight ask pool
       → Leaves here here' (IsOnTheWay tight here ask pool pieces)
-  pub images : (tight : Bool) (uber : Uber) (rows : Rows) (pool : Pool) → here'.honest → ReadsAs tight uber rows pool here.seen → IsTightOrNew tight ask pool
+  pub images : (tight : Bool) (body : Body) (rows : Rows) (pool : Pool) → here'.honest → ReadsAs tight body rows pool here.seen → IsTightOrNew tight ask pool
       → (c : List ℕ) → here'.images c → IsOnTheWay tight here ask pool pieces c
-  pub ends : (tight : Bool) (uber : Uber) (rows : Rows) (pool : Pool) → here'.honest → ReadsAs tight uber rows pool here.seen → IsTightOrNew tight ask pool
+  pub ends : (tight : Bool) (body : Body) (rows : Rows) (pool : Pool) → here'.honest → ReadsAs tight body rows pool here.seen → IsTightOrNew tight ask pool
       → ReceiveEnds tight ask pool pieces here' input input' answer
   pub opened : here'.honest → SaysOfOpening (OnlyReads here here' × (input' ≡ input)) here (ReceiveRan ask pieces here here' answer) answer
   pub text : SaysOfText pieces input input' answer
-  -- whatever the image: E24 comes only where fewer sectors were free, by the body and the directory that were opened, than all pieces cost that were read, and the last of them found no room
+  -- whatever the image: E24 comes only where no extent that was free by the body that was opened had as many sectors as all pieces cost that were read, and the last of them found no room
   pub cost : here'.honest → (need largest : ℕ) → answer ≡ Err (refusals.Full need largest)
-      → (uber : Uber) × (rows : Rows) × Opens here uber rows × PiecesFindNoRoom (record { body = uber; dir = kept_rows rows }) pieces need largest
+      → (body : Body) × (rows : Rows) × Opens here body rows × PiecesFindNoRoom (record { body = body; dir = kept_rows rows }) pieces need largest
   pub refused : IfErr answer (IsReceiveRefusal here here' input input')
   pub later : here.faults ≤ here'.faults
   pub input_later : input.faults ≤ input'.faults

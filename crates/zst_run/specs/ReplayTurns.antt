@@ -8,7 +8,8 @@ use Rattle.zst_outside.specs.States.{SourceState, SinkState, Gave, HandedOn}
 use Rattle.zst_outside.specs.declared.disk.Disk.{Ghosts}
 use Rattle.zst_block.specs.Blocks.{KeepsBlocks}
 use Rattle.zst_block.specs.IoStates.{disk_of}
-use Rattle.zst_image.specs.Reads.{free_by}
+use Rattle.zst_image.specs.Bodies.{free_by}
+use Rattle.zst_image.specs.Commits.{HasItsExtents}
 use Rattle.zst_model.specs.declared.refusals.faults.Quantity.TheVariants as quantities
 use Rattle.zst_model.specs.declared.refusals.refusal.Refusal.{Refusal}
 use Rattle.zst_model.specs.declared.refusals.refusal.Refusal.TheVariants as refusals
@@ -16,6 +17,7 @@ use Rattle.zst_script.specs.Lines.{IsEvent}
 use Rattle.zst_script.specs.ScriptLines.{AreAll, AreCut, EndIn, HasLines}
 use Rattle.zst_script.specs.Scripts.{AllRead, IsPassedOver, Says, SaysNone, script_limit}
 use Rattle.zst_script.specs.declared.event.Event.{Event}
+use Rattle.zst_script.specs.declared.event.Side.{Side}
 use Rattle.zst_script.specs.declared.event.Side.TheVariants.{Here, There}
 use Rattle.zst_script.specs.declared.script_lines.ScriptLines.{ScriptLines}
 use Rattle.zst_sessions.specs.Engines.{Kept, Stands}
@@ -28,7 +30,7 @@ use Rattle.zst_sessions.specs.declared.engine.Engine.{Engine}
 use Rattle.zst_sessions.specs.declared.event_reply.EventReply.{EventReply}
 use Rattle.zst_sessions.specs.declared.open_sessions.OpenReceive as kept_receives
 use Rattle.zst_sessions.specs.declared.open_sessions.OpenSend as kept_sends
-use Rattle.zst_run.specs.Replays.{GoOn, NoneFails, StoodOrReads, RunsScript, WritesReplies, finds_no_memory, replies_text, reply_of}
+use Rattle.zst_run.specs.Replays.{GoOn, NoneFails, FindsItsExtents, StoodOrReads, RunsScript, WritesReplies, finds_no_memory, replies_text, reply_of}
 use Rattle.zst_run.specs.Replies.{reply_text}
 use Rattle.zst_run.specs.declared.replay.Behind.{Behind}
 use Rattle.zst_run.specs.declared.replay.Behind.TheVariants as behind
@@ -46,9 +48,11 @@ pub record RunsFrom (now : ℕ) (world : World) (events : List Event) (answers :
   pub here_images : (c : List ℕ) → here'.disk.images c → StoodOrReads here.disk now Here world events answers c
   pub there_images : (c : List ℕ) → there'.disk.images c → StoodOrReads there.disk now There world events answers c
 
--- Where no answer is E28 and no read gave other bytes, they left the disk of a pool working and all blocks that were there.
-abbrev pub SparesAll : (old new : Kept) → List Answer → Type 0
-SparesAll old new answers = NoneFails answers → new.disk.honest → old.failed ≡ false → (new.failed ≡ false) × KeepsBlocks old.disk.seen (free_by old.state.body) new.disk.seen (free_by new.state.body)
+-- Where no answer is E28 and no read gave other bytes, they left the disk of the pool of a side working and all blocks that were there, and the latest body's free extents in
+-- sectors that it leaves not free, where those of the one before were; if an event opened it again, where these were.
+abbrev pub SparesAll : Side → (old new : Kept) → List Event → List Answer → Type 0
+SparesAll side old new events answers = NoneFails answers → FindsItsExtents side events old.disk old.state.body → new.disk.honest → old.failed ≡ false
+    → (new.failed ≡ false) × KeepsBlocks old.disk.seen (free_by old.state.body) new.disk.seen (free_by new.state.body) × (HasItsExtents old.disk old.state.body → HasItsExtents new.disk new.state.body)
 
 module _ {D E : Type 0} {g : Ghosts D} {h : Ghosts E} where
   -- so it is from each world that the engine stood for, where its disks tell their images and read as they should
@@ -70,8 +74,8 @@ module _ {D E : Type 0} {g : Ghosts D} {h : Ghosts E} where
     pub time : new.now ≡ old.now
     pub one_each : length answers ≡ length events
     pub lost : All (λ answer. answer ≡ Err refusals.DiskFault → Lost old new) answers
-    pub here_spares : SparesAll (kept_pool old.here) (kept_pool new.here) answers
-    pub there_spares : SparesAll (kept_pool old.there) (kept_pool new.there) answers
+    pub here_spares : SparesAll Here (kept_pool old.here) (kept_pool new.here) events answers
+    pub there_spares : SparesAll There (kept_pool old.there) (kept_pool new.there) events answers
 
 -- ---- one event
 

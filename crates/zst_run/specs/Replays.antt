@@ -1,14 +1,15 @@
 -- What a replay runs of a script, what it writes, and what it leaves of its two images.
-use Rattle.std.specs.Prelude.{ℕ, ◌≡◌, ◌⊎◌, ◌≤◌, Bool, true, false, IsTrue, All, List, [], ◌∷◌, ◌++◌, length, take, flat_map, nat_le, if◌then◌else◌, Result, Ok, Err}
+use Rattle.std.specs.Prelude.{ℕ, ◌≡◌, ◌⊎◌, ◌≤◌, Bool, true, false, IsTrue, All, Contains, List, [], ◌∷◌, ◌++◌, length, take, flat_map, nat_le, if◌then◌else◌, Result, Ok, Err}
 use Rattle.zst_outside.specs.Causes.{Rose}
 use Rattle.zst_outside.specs.Images.{DiskState, Leaves, OnlyReads}
 use Rattle.zst_outside.specs.Printing.{Printed, Wrote}
 use Rattle.zst_outside.specs.States.{SourceState, SinkState, Gave, HandedOn}
 use Rattle.zst_block.specs.Blocks.{KeepsBlocks}
-use Rattle.zst_uber.specs.declared.uber.Uber.{Uber}
+use Rattle.zst_image.specs.Bodies.{Body, free_by}
+use Rattle.zst_image.specs.Commits.{HasItsExtents}
 use Rattle.zst_image.specs.Faults.{open_refusal}
 use Rattle.zst_image.specs.OpenAnswers.{OpenAnswers, ReadFault}
-use Rattle.zst_image.specs.Reads.{Reads, free_by}
+use Rattle.zst_image.specs.Reads.{Reads}
 use Rattle.zst_image.specs.declared.open_fault.OpenFault.{OpenFault}
 use Rattle.zst_image.specs.declared.open_fault.OpenFault.TheVariants as opens
 use Rattle.zst_image.specs.declared.pool_state.PoolState.{PoolState}
@@ -20,6 +21,7 @@ use Rattle.zst_model.specs.pools.Pool.{Pool}
 use Rattle.zst_script.specs.ScriptLines.{EndIn}
 use Rattle.zst_script.specs.Scripts.{AllRead, IsScript, Misread, Says, TooLong, ended_lines, lines_of, script_limit}
 use Rattle.zst_script.specs.declared.event.Event.{Event}
+use Rattle.zst_script.specs.declared.event.Event.TheVariants.{Reopen}
 use Rattle.zst_script.specs.declared.event.Side.{Side}
 use Rattle.zst_script.specs.declared.event.Side.TheVariants.{Here, There}
 use Rattle.zst_sessions.specs.Moves.{Answer}
@@ -127,10 +129,14 @@ pub record RunsOver (now : ℕ) (here here' there there' : DiskState) (world : W
 abbrev pub NoneFails : List Answer → Type 0
 NoneFails answers = All (λ answer. ¬ (answer ≡ Err refusals.DiskFault)) answers
 
--- An image whose pool was opened by this body, whether or not it reads as one: where no answer is E28, each block still stands in the end that stood in sectors which the body
--- left not free.
-abbrev pub Stood : (here here' : DiskState) → Uber → List Answer → Type 0
-Stood here here' body answers = here'.honest → NoneFails answers → KeepsBlocks here.seen (free_by body) here'.seen (free_by body)
+-- where an event opens the pool of this side again, the free extents of the body stood in sectors that it left not free, as they do on each image that commands made
+abbrev pub FindsItsExtents : Side → List Event → DiskState → Body → Type 0
+FindsItsExtents side events disk body = Contains events (Reopen side) → HasItsExtents disk body
+
+-- An image of this side whose pool was opened by this body, whether or not it reads as one: where no answer is E28, and, if an event opens it again, the body's free extents
+-- stood in sectors that it left not free, each block still stands in the end that stood in such sectors.
+abbrev pub Stood : (here here' : DiskState) → Body → Side → List Event → List Answer → Type 0
+Stood here here' body side events answers = here'.honest → NoneFails answers → FindsItsExtents side events here body → KeepsBlocks here.seen (free_by body) here'.seen (free_by body)
 
 -- ---- a replay
 
@@ -147,8 +153,8 @@ pub record IsUnopened (here here' there there' : DiskState) (input input' : Sour
   pub streams : (input' ≡ input) × (out' ≡ out)
 
 -- Both are opened, and the events of the script are run, one after another, each with its answer. An event answers E28 only where a disk failed meanwhile; where none does, what
--- stood in sectors that the first body of an image left not free still stands. Of disks that tell their images, and that read as pools by tight object sets, the events and
--- their answers are a run of worlds from these pools on.
+-- stood in sectors that the first body of an image left not free still stands, if an event opened it again where that body's extents stood in such sectors. Of disks that tell
+-- their images, and that read as pools by tight object sets, the events and their answers are a run of worlds from these pools on.
 pub record IsReplayed (now : ℕ) (here here' : DiskState) (tells : Bool) (there there' : DiskState) (others : Bool) (input input' : SourceState) (out out' : SinkState) (result : Result (Unit {0}) Refusal) : Type 0 where
   pub text : List ℕ
   pub events : List Event
@@ -158,8 +164,8 @@ pub record IsReplayed (now : ℕ) (here here' : DiskState) (tells : Bool) (there
   pub kept : PoolState
   pub other : PoolState
   pub opens : here'.honest → there'.honest → OpenAnswers here (Ok kept) × OpenAnswers there (Ok other)
-  pub here_stood : Stood here here' kept.body answers
-  pub there_stood : Stood there there' other.body answers
+  pub here_stood : Stood here here' kept.body Here events answers
+  pub there_stood : Stood there there' other.body There events answers
   pub script : RunsScript text events answers input input' result
   pub writes : WritesReplies answers out out' result
   pub lost : All (λ answer. answer ≡ Err refusals.DiskFault → Rose here.faults here'.faults ⊎ Rose there.faults there'.faults) answers

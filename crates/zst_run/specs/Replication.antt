@@ -2,7 +2,7 @@
 use Rattle.std.specs.Prelude.{ℕ, ◌≡◌, ◌≢◌, ◌⊎◌, ◌++◌, Bool, false, List, Some, None, Result, Ok, Err}
 use Rattle.zst_outside.specs.Images.{DiskState, Leaves}
 use Rattle.zst_outside.specs.States.{SourceState, SinkState, Gave}
-use Rattle.zst_uber.specs.declared.uber.Uber.{Uber}
+use Rattle.zst_image.specs.Bodies.{Body}
 use Rattle.zst_names.specs.Names.{IsDataset}
 use Rattle.zst_model.specs.declared.refusals.refusal.Refusal.{Refusal}
 use Rattle.zst_model.specs.declared.refusals.refusal.Refusal.TheVariants as refusals
@@ -43,10 +43,10 @@ pub record IsSender (request : SendRequest) (from : Pool) (sent : Sent) (here : 
 -- an image is read as this pool, whose sets are tight, or which lacks the target; the target has no partial state, and the base that the plan of the receive
 -- begins with is fit for what is sent, as a full stream's is, one that the source remembers, and one that is redacted of that for some snapshots
 pub record IsReceiver (tight : Bool) (ask : RecvAsk) (into : Pool) (sent : Sent) (there there' : DiskState) : Type 0 where
-  pub uber : Uber
+  pub body : Body
   pub rows : Rows
   pub honest : there'.honest
-  pub reads : ReadsAs tight uber rows into there.seen
+  pub reads : ReadsAs tight body rows into there.seen
   pub may : IsTightOrNew tight ask into
   pub alone : partial_of ask.target into ≡ None
   pub matches : MatchesBase sent ask into
@@ -61,10 +61,10 @@ pub record IsRestSender (token : Token) (from : Pool) (sent also : Sent) (here :
 
 -- an image is read as this pool, whose sets are tight, or which lacks the target, and which tells this token of it
 pub record IsRestReceiver (tight : Bool) (token : Token) (ask : RecvAsk) (into : Pool) (there there' : DiskState) : Type 0 where
-  pub uber : Uber
+  pub body : Body
   pub rows : Rows
   pub honest : there'.honest
-  pub reads : ReadsAs tight uber rows into there.seen
+  pub reads : ReadsAs tight body rows into there.seen
   pub may : IsTightOrNew tight ask into
   pub told : token_told ask.target into ≡ Ok token
 
@@ -101,8 +101,8 @@ SentSnapshotStands here here' there there' =
 -- Whatever is read: a run of `receive` without -s that is refused, but for a fault of the disk or of the output, leaves nothing of the receive.
 abbrev pub RefusedLeavesNothing : (there there' : DiskState) → Type 0
 RefusedLeavesNothing there there' =
-    (tight : Bool) (ask : RecvAsk) (uber : Uber) (rows : Rows) (into : Pool) (refusal : Refusal) (out out' : SinkState) (input input' : SourceState)
-    → there'.honest → ReadsAs tight uber rows into there.seen → IsTightOrNew tight ask into → partial_of ask.target into ≡ None → ask.keep ≡ false
+    (tight : Bool) (ask : RecvAsk) (body : Body) (rows : Rows) (into : Pool) (refusal : Refusal) (out out' : SinkState) (input input' : SourceState)
+    → there'.honest → ReadsAs tight body rows into there.seen → IsTightOrNew tight ask into → partial_of ask.target into ≡ None → ask.keep ≡ false
     → Replies (Receiving ask there there' input input') out out' (Err refusal) → refusal ≢ refusals.DiskFault → refusal ≢ refusals.SinkFault
     → (after : Pool) × Keeps tight there' after × HasNothing ask into (kept_of after)
 
@@ -194,8 +194,8 @@ IsSoundAfter tight there image = there.images image ⊎ ((after : Pool) × Reads
 
 abbrev pub SoundStaysSound : (there there' : DiskState) → Type 0
 SoundStaysSound there there' =
-    (tight : Bool) (ask : RecvAsk) (uber : Uber) (rows : Rows) (into : Pool) (result : Result (Unit {0}) Refusal) (out out' : SinkState) (input input' : SourceState)
-    → there'.honest → ReadsAs tight uber rows into there.seen → IsTightOrNew tight ask into → IsDataset ask.target → Sound into
+    (tight : Bool) (ask : RecvAsk) (body : Body) (rows : Rows) (into : Pool) (result : Result (Unit {0}) Refusal) (out out' : SinkState) (input input' : SourceState)
+    → there'.honest → ReadsAs tight body rows into there.seen → IsTightOrNew tight ask into → IsDataset ask.target → Sound into
     → Replies (Receiving ask there there' input input') out out' result
     → Leaves there there' (IsSoundAfter tight there) × ((c : List ℕ) → there'.images c → IsSoundAfter tight there c)
 
@@ -206,8 +206,8 @@ StillRemembersAfter tight source state there image = there.images image ⊎ ((af
 
 abbrev pub SourcesStillRemember : (there there' : DiskState) → Type 0
 SourcesStillRemember there there' =
-    (tight : Bool) (ask : RecvAsk) (uber : Uber) (rows : Rows) (into : Pool) (source : Source) (state : State)
+    (tight : Bool) (ask : RecvAsk) (body : Body) (rows : Rows) (into : Pool) (source : Source) (state : State)
     (result : Result (Unit {0}) Refusal) (out out' : SinkState) (input input' : SourceState)
-    → there'.honest → ReadsAs tight uber rows into there.seen → IsTightOrNew tight ask into → IsDataset ask.target → Sound into
+    → there'.honest → ReadsAs tight body rows into there.seen → IsTightOrNew tight ask into → IsDataset ask.target → Sound into
     → StillRemembers into source state → Replies (Receiving ask there there' input input') out out' result
     → Leaves there there' (StillRemembersAfter tight source state there) × ((c : List ℕ) → there'.images c → StillRemembersAfter tight source state there c)

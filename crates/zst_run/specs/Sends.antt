@@ -5,9 +5,11 @@ use Rattle.zst_outside.specs.Images.{DiskState, OnlyReads}
 use Rattle.zst_outside.specs.Printing.{Printed, Wrote}
 use Rattle.zst_outside.specs.States.{SinkState, HandedOn}
 use Rattle.zst_block.specs.Blocks.{Has}
+use Rattle.zst_marks.specs.Marks.{Apart}
+use Rattle.zst_extents.specs.StoredExtents.{HasExtents}
 use Rattle.zst_uber.specs.Body.{InRange, UberFits}
 use Rattle.zst_uber.specs.Slots.{Stands}
-use Rattle.zst_uber.specs.declared.uber.Uber.{Uber}
+use Rattle.zst_image.specs.Bodies.{Body, free_by}
 use Rattle.zst_model.specs.declared.refusals.faults.Quantity.TheVariants.{Runs, Stream}
 use Rattle.zst_model.specs.declared.refusals.subjects.Name.TheVariants as names
 use Rattle.zst_model.specs.declared.refusals.plan_fault.PlanFault.{PlanFault}
@@ -26,7 +28,7 @@ use Rattle.zst_tree.specs.declared.tree.ObjSet.{ObjSet}
 use Rattle.zst_objset.specs.Damage.{DamageFact}
 use Rattle.zst_dir.specs.Rows.{Rows}
 use Rattle.zst_image.specs.Faults.{open_refusal}
-use Rattle.zst_image.specs.Reads.{HasDir, IsNamedBy, Reads, free_by, kept_rows}
+use Rattle.zst_image.specs.Reads.{HasDir, IsNamedBy, Reads, kept_rows}
 use Rattle.zst_image.specs.declared.open_fault.OpenFault.{OpenFault}
 use Rattle.zst_pool.specs.Lookups.{set_named}
 use Rattle.zst_pool.specs.Faults.{pool_refusal}
@@ -72,21 +74,22 @@ IsDamagedRequest request end rows disk sector stated found =
 
 -- ---- what a send needs of its image
 
--- The image reads as this pool for what is asked: its latest body and its directory name a lawful pool, and where the plan passes, what that send needs stands:
+-- The image reads as this pool for what is asked: its latest body, its free extents and its directory name a lawful pool, and where the plan passes, what that send needs stands:
 -- the set of its snapshot, but for the bytes of the pairs to redact, the lists of its bookmarks, and the set of its source where that is a redacted snapshot. Whatever
 -- else is damaged, the redacted blocks too, doesn't matter.
-pub record ReadsForAs (request : SendRequest) (uber : Uber) (rows : Rows) (pool : Pool) (image : List ℕ) : Type 0 where
-  pub stands : Stands uber image
-  pub fits : UberFits uber
-  pub in_range : InRange (length image) uber
-  pub extents : uber.free_count ≡ 0
-  pub directory : HasDir (Has image (free_by uber)) uber rows
-  pub named : IsNamedBy uber (kept_rows rows) pool
+pub record ReadsForAs (request : SendRequest) (body : Body) (rows : Rows) (pool : Pool) (image : List ℕ) : Type 0 where
+  pub stands : Stands body.uber image
+  pub fits : UberFits body.uber
+  pub in_range : InRange (length image) body.uber
+  pub extents : HasExtents (Has image (free_by body)) body.uber.free_levels body.uber.free_root body.uber.free_count body.free
+  pub apart : Apart 8 body.free body.uber.end
+  pub directory : HasDir (Has image (free_by body)) body.uber rows
+  pub named : IsNamedBy body (kept_rows rows) pool
   pub lawful : IsPool pool
-  pub sent : StandsPlanned (Has image (free_by uber)) (kept_rows rows) pool (to_send request pool)
+  pub sent : StandsPlanned (Has image (free_by body)) (kept_rows rows) pool (to_send request pool)
 
 abbrev pub ReadsFor : SendRequest → Pool → List ℕ → Type 0
-ReadsFor request pool image = (uber : Uber) × (rows : Rows) × ReadsForAs request uber rows pool image
+ReadsFor request pool image = (body : Body) × (rows : Rows) × ReadsForAs request body rows pool image
 
 -- An image that reads as a pool does so for each send.
 abbrev pub ReadsForSends : Type 0
@@ -158,14 +161,14 @@ TellsLong planned out out' result =
 -- whatever its object sets and lists hold, and then nothing is written. E23 of runs comes behind that, and of a redacted source alone.
 -- E25 comes only of a block of the asked snapshot's own object set, or, where a token asks, of that of the first snapshot with its to
 -- guid; of the list of one of the two bookmarks of its plan; or of what tells which blocks its redacted source has redacted.
-pub record SendRan (request : SendRequest) (here : DiskState) (out out' : SinkState) (result : Result (Unit {0}) Refusal) (uber : Uber) (rows : Rows) : Type 0 where
-  pub opens : Opens here uber rows
-  pub planned : (pool : Pool) (fault : PlanFault) → IsNamedBy uber (kept_rows rows) pool → to_send request pool ≡ Err fault
+pub record SendRan (request : SendRequest) (here : DiskState) (out out' : SinkState) (result : Result (Unit {0}) Refusal) (body : Body) (rows : Rows) : Type 0 where
+  pub opens : Opens here body rows
+  pub planned : (pool : Pool) (fault : PlanFault) → IsNamedBy body (kept_rows rows) pool → to_send request pool ≡ Err fault
       → (result ≡ Err (refusal_of fault)) × (out' ≡ out)
-  pub because : (pool : Pool) (fault : PlanFault) → IsNamedBy uber (kept_rows rows) pool → result ≡ Err (refusals.Plan fault)
+  pub because : (pool : Pool) (fault : PlanFault) → IsNamedBy body (kept_rows rows) pool → result ≡ Err (refusals.Plan fault)
       → to_send request pool ≡ Err fault
-  pub long : (pool : Pool) → IsNamedBy uber (kept_rows rows) pool → TellsLong (to_send request pool) out out' result
-  pub damaged : TellsOf (IsDamagedRequest request uber.end (kept_rows rows) here) result
+  pub long : (pool : Pool) → IsNamedBy body (kept_rows rows) pool → TellsLong (to_send request pool) out out' result
+  pub damaged : TellsOf (IsDamagedRequest request body.uber.end (kept_rows rows) here) result
 
 -- a refusal of a pool that was opened, E30, or E23 of a stream; and one of opening the pool
 abbrev pub OfGiving : Refusal → Type 0

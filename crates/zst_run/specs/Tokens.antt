@@ -4,7 +4,7 @@ use Rattle.std.specs.Result.{result_map_both}
 use Rattle.zst_outside.specs.Images.{DiskState, OnlyReads}
 use Rattle.zst_outside.specs.States.{SinkState}
 use Rattle.zst_uber.specs.Slots.{latest}
-use Rattle.zst_uber.specs.declared.uber.Uber.{Uber}
+use Rattle.zst_image.specs.Bodies.{Body}
 use Rattle.zst_model.specs.declared.refusals.plan_fault.PlanFault.{PlanFault}
 use Rattle.zst_model.specs.declared.refusals.plan_fault.PlanFault.TheVariants.{NoPartial}
 use Rattle.zst_model.specs.declared.refusals.refusal.Refusal.{Refusal}
@@ -30,19 +30,19 @@ AnswersBy told answer = answer ≡ result_map_both (λ token. token) refusal_of 
 
 -- An answer of a pool that was opened by this body and these rows, whether or not the image reads as a pool: each pool that they
 -- name tells this, whatever its object sets hold.
-pub record TokenRan (dataset : List ℕ) (here : DiskState) (answer : Result Token Refusal) (uber : Uber) (rows : Rows) : Type 0 where
-  pub opens : Opens here uber rows
-  pub told : (pool : Pool) → IsNamedBy uber (kept_rows rows) pool → answer ≡ result_map_both (λ token. token) refusal_of (token_told dataset pool)
+pub record TokenRan (dataset : List ℕ) (here : DiskState) (answer : Result Token Refusal) (body : Body) (rows : Rows) : Type 0 where
+  pub opens : Opens here body rows
+  pub told : (pool : Pool) → IsNamedBy body (kept_rows rows) pool → answer ≡ result_map_both (λ token. token) refusal_of (token_told dataset pool)
 
--- What an answer says of any image. E26 comes where there is no latest body, E27 where it has another version, E25 where it
--- or its directory isn't of the layout. A token or E14 comes where both are.
+-- What an answer says of any image. E26 comes where there is no latest body, E27 where it has another version, E25 where it,
+-- its free extents or its directory isn't of the layout. A token or E14 comes where all are.
 abbrev pub TokenOpened : List ℕ → DiskState → Result Token Refusal → Type 0
 TokenOpened dataset here (Err refusals.NoPool) = latest here.seen ≡ None
 TokenOpened dataset here (Err (refusals.BadVersion number)) = HasVersion here number
 TokenOpened dataset here (Err (refusals.Damaged sector stated found)) = TellsBody here sector stated found ⊎ TellsDir here sector stated found
 TokenOpened dataset here (Err refusals.DiskFault) = Unit {0}
 TokenOpened dataset here (Err refusals.OutOfMemory) = Unit {0}
-TokenOpened dataset here answer = (uber : Uber) × (rows : Rows) × TokenRan dataset here answer uber rows
+TokenOpened dataset here answer = (body : Body) × (rows : Rows) × TokenRan dataset here answer body rows
 
 -- a refusal of opening the pool, or E14
 abbrev pub OfToken : List ℕ → Refusal → Type 0

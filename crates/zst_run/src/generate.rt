@@ -61,7 +61,7 @@ fn make_all<D: Disk>(
     'commands: for number in 0..command_count(steps) {
         make_next(alloc, pool, now, steps, number)?;
     }
-    Ok(pool.kept.body.number)
+    Ok(pool.kept.body.uber().number)
 }
 
 // Runs the commands on the pool of an image, and answers its number.

@@ -18,6 +18,7 @@ ghost use Rattle.zst_run.specs.SendPieces.{Advances, GivesPieces, IfUnplanned, O
 use crate::reply::hand_on;
 use std::alloc::Global;
 use zst_dir::bytes_are_one_directory;
+use zst_extents::root_has_one_set_of_extents;
 use zst_image::PoolState;
 use zst_leaves::root_has_one_text;
 use zst_model::{Quantity, Refusal};
@@ -209,6 +210,7 @@ pub(crate) fn send<D: Disk, K: Sink>(
     ensures { Sends request.now (D.state here.old) (D.state here.new) (K.state out.old) (K.state out.new) result }
 {
     root_has_one_text();
+    root_has_one_set_of_extents();
     bytes_are_one_directory();
     let kept = PoolState::open(alloc, here)?;
     let mut pool = Pool::new(alloc, here, kept);

@@ -1,5 +1,7 @@
-use Rattle.std.proofs.Common.{arith}
+use Rattle.std.proofs.Common.{Ok, arith, subst, sym}
 use Rattle.std.proofs.lemmas.Result.{err_from_is_err_and}
+use Rattle.zst_uber.specs.declared.uber.Uber.{Uber}
+use Rattle.zst_run.specs.GeneratorTurns.{RunsAll}
 use Rattle.zst_run.proofs.GeneratorRuns.{ran_all, ran_more, ran_none, ran_refused}
 use Rattle.zst_run.proofs.generate.make_all.Goals as goal
 
@@ -15,4 +17,6 @@ returns-in_err-make_next g c =
     rw (p.1, p.2) (ran_refused c.args.now c.args.steps c.commands.number c.args.pool.now c.commands.pool c.commands.invariant c.make_next.new.pool c.in_err-make_next.field-0.0 c.in_err-make_next.ensures)
 
 pub returns : goal.returns
-returns g c = ran_all c.args.now c.args.steps c.commands.number c.args.pool.now c.commands.pool c.commands.invariant (omega arith)
+returns g c =
+    subst (λ (u : Uber). RunsAll c.args.now c.args.steps c.args.pool.now c.commands.pool (Ok u.number)) (sym c.uber.ensures)
+    (ran_all c.args.now c.args.steps c.commands.number c.args.pool.now c.commands.pool c.commands.invariant (omega arith))

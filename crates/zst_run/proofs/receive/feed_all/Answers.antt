@@ -8,7 +8,7 @@ use Rattle.zst_run.proofs.LaterDisks.{later_io, later_none, later_then}
 use Rattle.zst_run.proofs.ReceiveLemmas.{cut_fed, cut_refused, fed_none, more_fed, received_fed, refused_earlier, refused_fed, rose_behind}
 use Rattle.zst_run.specs.Receives.{IsDamagedReceive, SaysOfPlan}
 use Rattle.zst_run.specs.ReceiveTurns.{PlansOn, Traced, line_of, told, Fed, WaitsForMore}
-use Rattle.zst_image.specs.Reads.{free_by}
+use Rattle.zst_image.specs.Bodies.{free_by}
 use Rattle.zst_model.specs.declared.refusals.refusal.Refusal.{Refusal}
 use Rattle.zst_block.specs.Blocks.{KeepsBlocks}
 use Rattle.zst_model.specs.declared.refusals.refusal.Refusal.TheVariants as refusals

@@ -3,7 +3,7 @@ use Rattle.zst_outside.specs.States.{Gave}
 use Rattle.zst_dir.specs.Rows.{Rows}
 use Rattle.zst_block.specs.Blocks.{KeepsBlocks}
 use Rattle.zst_block.specs.IoStates.{io_of}
-use Rattle.zst_image.specs.Reads.{free_by}
+use Rattle.zst_image.specs.Bodies.{free_by}
 use Rattle.zst_reader.specs.InputReads.{stream_limit}
 use Rattle.zst_recv.specs.Stages.{ask_of, fed_of, stage_of}
 use Rattle.zst_run.specs.LaterDisks.{IsLater}

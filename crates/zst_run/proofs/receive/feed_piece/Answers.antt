@@ -1,7 +1,7 @@
 use Rattle.std.proofs.Common.{ℕ, ◌<◌, Err, ap, take, ◌∙◌, arith, ◌≡◌, ◌||◌, Bool, false, List, [], ◌++◌, Ok, refl, sym, subst}
 use Rattle.std.specs.Prelude.{not}
 use Rattle.std.proofs.lemmas.List.Elements.{All-take}
-use Rattle.zst_image.specs.Reads.{free_by}
+use Rattle.zst_image.specs.Bodies.{free_by}
 use Rattle.zst_model.specs.declared.refusals.refusal.Refusal.{Refusal}
 use Rattle.zst_pool.specs.declared.fault.PoolFault.TheVariants as pools
 use Rattle.zst_recv.specs.declared.fault.RecvFault.{RecvFault}
@@ -34,7 +34,7 @@ returns-then-fed-clause-turns g c =
     let bytes = All-take (λ (byte : ℕ). byte < 256) p.result.count p.new.room p.ensures.bytes in
     turns_received _ _ p.new.room p.result.count p.result.end p.ensures.within (p.ensures.room ∙ c.requires.room) p.ensures.gave p.ensures.fills c.records_are_counted.ensures (λ is. c.if-piece-eq0.false is) bytes
     _ _ _ _ _ _ _ e.leaves.receive.ask c.in-Ok.fed _ (let adds = c.saturating_add.ensures in omega (arith, adds)) (λ tight running text stage honest rests tells fed. e.feeds tight running text stage honest c.requires.can_feed.works rests tells fed) c.if-fed.true
-    (λ text handed stands. (e.texts c.requires.can_feed.works text handed stands).whole c.requires.can_feed.live (e.leaves.receive.live ∙ ap not c.if-fed.true))
+    (λ text handed stands. (e.texts c.requires.can_feed.works (λ is. absurd (cc is)) text handed stands).whole c.requires.can_feed.live (e.leaves.receive.live ∙ ap not c.if-fed.true))
 
 pub returns-else-fed-clause-turns : goal.returns-else-fed-clause-turns
 returns-else-fed-clause-turns g c =
@@ -45,9 +45,9 @@ returns-else-fed-clause-turns g c =
     rw c.turn_behind-in-Ok.ensures
     (turns_on _ _ p.new.room p.result.count p.result.end p.ensures.within (p.ensures.room ∙ c.requires.room) p.ensures.gave p.ensures.fills c.records_are_counted.ensures (λ is. c.if-piece-eq0.false is) bytes
     _ _ _ _ _ _ _ e.leaves.receive.ask c.in-Ok.fed _ (let adds = c.saturating_add.ensures in omega (arith, adds)) (λ tight running text stage honest rests tells fed. e.feeds tight running text stage honest c.requires.can_feed.works rests tells fed) c.if-fed.false
-    (λ text handed stands. (e.texts c.requires.can_feed.works text handed stands).stands live)
+    (λ text handed stands. (e.texts c.requires.can_feed.works (λ is. absurd (cc is)) text handed stands).stands live)
     (λ text has.
-    ((e.texts c.requires.can_feed.works text has.0 has.1.stands).hands_out live has.1.whole, grows_behind c.args.recv.now text (take p.result.count p.new.room) _ _ has (e.costs text has.0 has.1.stands).grows)))
+    ((e.texts c.requires.can_feed.works (λ is. absurd (cc is)) text has.0 has.1.stands).hands_out live has.1.whole, grows_behind c.args.recv.now text (take p.result.count p.new.room) _ _ has (e.costs text has.0 has.1.stands).grows)))
 
 pub returns-in-Err-clause-turns : goal.returns-in-Err-clause-turns
 returns-in-Err-clause-turns g c =
@@ -57,7 +57,7 @@ returns-in-Err-clause-turns g c =
     rw c.from.ensures
     (turns_refused _ _ p.new.room p.result.count p.result.end p.ensures.within (p.ensures.room ∙ c.requires.room) p.ensures.gave p.ensures.fills c.records_are_counted.ensures (λ is. c.if-piece-eq0.false is) bytes
     _ _ _ _ _ _ _ e.leaves.receive.ask _ c.in-Err.fault (e.leaves.pool.known c.requires.can_feed.works) (λ tight running text stage honest rests tells fed. e.feeds tight running text stage honest c.requires.can_feed.works rests tells fed)
-    (λ text handed told stands is. (e.texts c.requires.can_feed.works text handed stands).stream told (ap (λ (f : RecvFault). Err f) is))
+    (λ text handed told stands is. (e.texts c.requires.can_feed.works (λ out. absurd (cc (is, out))) text handed stands).stream told (ap (λ (f : RecvFault). Err f) is))
     (λ text handed need largest hands is.
     let full = ap (λ (f : RecvFault). Err f) is in
     short_behind c.args.recv.now.reader text (take p.result.count p.new.room) handed _ _ _ need largest hands (e.leaves.pool.stays (faults.Pool (pools.Full need largest)) full refl) ((e.costs text handed hands.stands).short need largest full)))
@@ -85,7 +85,7 @@ returns-then-fed-clause-plans g c = λ rows text piece gave on.
     let one : piece ≡ given = gave_one old new piece given gave p.ensures.gave in
     let e = c.in-Ok.ensures in
     subst (λ (q : List ℕ). TurnPlans rows recv.ask c.feed.new.pool.kept c.feed.new.self (text ++ q) turns.Received) (sym one)
-    (ends_plans c.fronts_agree.ensures rows kept c.feed.new.pool.kept recv c.feed.new.self text given (Ok c.in-Ok.fed) on e.leaves.receive.ask (e.texts c.requires.can_feed.works text on.fed.0 on.fed.1).planned c.in-Ok.fed refl)
+    (ends_plans c.fronts_agree.ensures rows kept c.feed.new.pool.kept recv c.feed.new.self text given (Ok c.in-Ok.fed) on e.leaves.receive.ask (λ memory. (e.texts c.requires.can_feed.works memory text on.fed.0 on.fed.1).planned) c.in-Ok.fed refl)
 
 pub returns-else-fed-clause-plans : goal.returns-else-fed-clause-plans
 returns-else-fed-clause-plans g c = λ rows text piece gave on.
@@ -97,11 +97,11 @@ returns-else-fed-clause-plans g c = λ rows text piece gave on.
     let kept = c.args.pool.now.kept in
     let one : piece ≡ given = gave_one old new piece given gave p.ensures.gave in
     let e = c.in-Ok.ensures in
-    let t = e.texts c.requires.can_feed.works text on.fed.0 on.fed.1 in
+    let t = e.texts c.requires.can_feed.works (λ is. absurd (cc is)) text on.fed.0 on.fed.1 in
     rw c.turn_behind-in-Ok.ensures
     (subst (λ (q : List ℕ). TurnPlans rows recv.ask c.feed.new.pool.kept c.feed.new.self (text ++ q) (turn_behind p.result.end)) (sym one)
     (turn_plans rows recv.ask c.feed.new.pool.kept c.feed.new.self (text ++ given) p.result.end
-    (goes_plans c.fronts_agree.ensures rows kept c.feed.new.pool.kept recv c.feed.new.self text given (Ok c.in-Ok.fed) on e.leaves.receive.ask t.planned c.in-Ok.fed refl
+    (goes_plans c.fronts_agree.ensures rows kept c.feed.new.pool.kept recv c.feed.new.self text given (Ok c.in-Ok.fed) on e.leaves.receive.ask (λ memory. t.planned) c.in-Ok.fed refl
     (t.stands (e.leaves.receive.live ∙ ap not c.if-fed.false)) e.leaves.kept.waits e.leaves.receive.waited t.uncovered t.still)))
 
 pub returns-in-Err-clause-plans : goal.returns-in-Err-clause-plans
@@ -114,10 +114,10 @@ returns-in-Err-clause-plans g c = λ rows text piece gave on.
     let kept = c.args.pool.now.kept in
     let one : piece ≡ given = gave_one old new piece given gave p.ensures.gave in
     let e = c.in-Err.ensures in
-    let t = e.texts c.requires.can_feed.works text on.fed.0 on.fed.1 in
     rw c.from.ensures
     (subst (λ (q : List ℕ). TurnPlans rows recv.ask c.feed.new.pool.kept c.feed.new.self (text ++ q) (turns.Refused (recv_refusal c.in-Err.fault))) (sym one)
-    (refused_plans c.fronts_agree.ensures rows kept c.feed.new.pool.kept recv c.feed.new.self text given (Err c.in-Err.fault) on e.leaves.receive.ask t.planned c.in-Err.fault refl t.because))
+    (refused_plans c.fronts_agree.ensures rows kept c.feed.new.pool.kept recv c.feed.new.self text given (Err c.in-Err.fault) on e.leaves.receive.ask (λ memory. (e.texts c.requires.can_feed.works memory text on.fed.0 on.fed.1).planned) c.in-Err.fault refl
+    (λ told planned is. (e.texts c.requires.can_feed.works (λ out. absurd (cc (is, out))) text on.fed.0 on.fed.1).because told planned is)))
 
 pub returns-then-piece-eq0-clause-leaves : goal.returns-then-piece-eq0-clause-leaves
 returns-then-piece-eq0-clause-leaves g c =

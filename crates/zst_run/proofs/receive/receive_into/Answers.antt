@@ -12,7 +12,7 @@ use Rattle.zst_run.proofs.ReceiveDamage.{memory_undamaged}
 use Rattle.zst_run.proofs.ReceivePlans.{gave_none, none_covered, starts, unread_plans}
 use Rattle.zst_run.proofs.ReceiveLemmas.{begins, fed_weaker, unread, without_memory}
 use Rattle.std.specs.Prelude.{None}
-use Rattle.zst_image.specs.Reads.{free_by}
+use Rattle.zst_image.specs.Bodies.{free_by}
 use Rattle.zst_run.proofs.receive.receive_into.Goals as goal
 
 pub returns-in_default-clause-fed : goal.returns-in_default-clause-fed
