@@ -32,6 +32,15 @@ impl Marks {
         Ok(Marks { words })
     }
 
+    /// The same marks, once more.
+    pub fn copy(&self, alloc: Global) -> Result<Marks, AllocError>
+        ensures { IfOk result (λ marks. marks ≡ self.now) }
+    {
+        let mut words = Vec::new(alloc);
+        words.extend_from_slice(&self.words)?;
+        Ok(Marks { words })
+    }
+
     /// Marks sectors in a row.
     pub fn mark(&mut self, first: u64, count: u64)
         requires room { HasRoomFor self.old (first + count) }
