@@ -1,19 +1,21 @@
 -- What stands in leaves, put together and carried over.
-use Rattle.std.proofs.Common.{◌≡◌, inl, inr, ℕ, zero, suc, ◌+◌, ◌-◌, ◌<◌, List, [], ◌∷◌, ◌++◌, length, replicate, drop, refl, sym, ◌∙◌, ap, subst, arith}
+use Rattle.std.proofs.Common.{◌≡◌, inl, inr, ℕ, zero, suc, ◌+◌, ◌-◌, ◌*◌, ◌/◌, ◌<◌, List, [], ◌∷◌, ◌++◌, length, replicate, drop, refl, sym, ◌∙◌, ap, subst, arith}
 use Rattle.std.specs.Prelude.{Result, Ok, Err, IfOk}
 use Rattle.std.proofs.lemmas.Bool.{cases_lt}
 use Rattle.std.proofs.lemmas.List.{drop-replicate}
 use Rattle.zst_bytes.specs.Bytes.{written}
 use Rattle.zst_bytes.specs.Fields.{zeros}
-use Rattle.zst_fletcher.specs.WeightSum.{weight_sum}
-use Rattle.zst_space.specs.FreeSectors.{FreeSectors}
+use Rattle.zst_space.specs.FreeSectors.{FreeSectors, IsFree}
+use Rattle.zst_space.specs.TakenExtents.{Takes}
 use Rattle.zst_block.specs.Blocks.{Has, KeepsBlocks}
+use Rattle.zst_block.specs.BlockWrites.{WritesBlock}
+use Rattle.zst_block.specs.IoStates.{IoState}
 use Rattle.zst_block.specs.Ptr.{hole_of}
 use Rattle.zst_block.specs.declared.fault.BlockFault.{BlockFault}
 use Rattle.zst_block.specs.declared.ptr.Ptr.{Ptr}
 use Rattle.zst_tree.specs.Indices.{Blocks, child}
 use Rattle.zst_tree.specs.Changes.{PutsChild}
-use Rattle.zst_leaves.specs.Leaves.{HasLeaves, IsLeaf, IsOver, LeavesBelow, Numbered, bytes_below, part}
+use Rattle.zst_leaves.specs.Leaves.{AllFree, HasLeaves, IsLeaf, IsOver, Laid, LeavesBelow, bytes_below, part}
 
 -- a text without bytes is none
 pub none_of : (text : List ℕ) → length text ≡ 0 → text ≡ []
@@ -109,24 +111,53 @@ module _ (has more : Blocks) (up : (ptr : Ptr) (bytes : List ℕ) → has ptr by
         (subst (λ (ptr : Ptr). LeavesBelow more level ptr (part size text k)) (sym puts.here.child_is) here))
   ]
 
--- blocks with their number are kept as blocks are
-pub numbered_kept : (number : ℕ) (old : List ℕ) (space : FreeSectors) (new : List ℕ) (less : FreeSectors) → KeepsBlocks old space new less
-    → (ptr : Ptr) (bytes : List ℕ) → Numbered number (Has old space) ptr bytes → Numbered number (Has new less) ptr bytes
-numbered_kept number old space new less kept ptr bytes is = (kept ptr bytes is.0, is.1)
+-- what was laid stays so as long as blocks are kept
+pub laid_kept : (number : ℕ) (space : FreeSectors) (old : List ℕ) (mid : FreeSectors) (new : List ℕ) (less : FreeSectors) → KeepsBlocks old mid new less
+    → (ptr : Ptr) (bytes : List ℕ) → Laid number space (Has old mid) ptr bytes → Laid number space (Has new less) ptr bytes
+laid_kept number space old mid new less kept ptr bytes is = (kept ptr bytes is.0, is.1, is.2)
+
+-- and stood in sectors that were free before too
+pub laid_before : (number : ℕ) (space mid : FreeSectors) (has : Blocks) → ((sector : ℕ) → IsFree mid sector → IsFree space sector) → (ptr : Ptr) (bytes : List ℕ) → Laid number mid has ptr bytes → Laid number space has ptr bytes
+laid_before number space mid has fewer ptr bytes is = (is.0, is.1, λ byte starts ends. fewer (byte / 512) (is.2 byte starts ends))
+
+-- a text that was laid in leaves stands there
+pub HasLeaves-laid : (number : ℕ) (space : FreeSectors) (has : Blocks) (levels : ℕ) (root : Ptr) (text : List ℕ) → HasLeaves (Laid number space has) levels root text → HasLeaves has levels root text
+HasLeaves-laid number space has levels root text is = HasLeaves-grows (Laid number space has) has (λ ptr bytes laid. laid.0) levels root text is
+
+-- a block is there by its pointer, whatever kind this has
+of_kind : (image : List ℕ) (space : FreeSectors) (ptr : Ptr) (bytes : List ℕ) (kind : ℕ) → Has image space ptr bytes → Has image space (record ptr { kind = kind }) bytes
+of_kind image space ptr bytes kind has = record {
+  block = record { placed = record { whole = has.block.placed.whole; inside = has.block.placed.inside }; bytes_are = has.block.bytes_are; sum_is = has.block.sum_is };
+  behind = has.behind;
+  taken = has.taken;
+}
+
+-- the sectors that are taken were all free
+taken_free : (old new : FreeSectors) (sector count long : ℕ) → long ≡ 512 * count → Takes old new sector count → AllFree old (512 * sector) long
+taken_free old new sector count long whole takes = λ byte starts ends. takes.was_free (byte / 512) (omega arith, omega (arith, whole, ends))
 
 -- a text at the front of zeros is a leaf's
 filled : (text : List ℕ) → written 0 (length text) text (replicate 8192 0) ≡ text ++ zeros (8192 - length text)
 unfolding written zeros
 filled text = let same : 0 + length text ≡ length text = omega arith in ap (λ (rest : List ℕ). text ++ rest) (ap (λ (n : ℕ). drop n (replicate 8192 0)) same ∙ drop-replicate (length text) 8192 0)
 
--- what was written of it is a leaf
-pub leaf_written : (number : ℕ) (image : List ℕ) (space : FreeSectors) (sector : ℕ) (text leaf : List ℕ) (result : Result Ptr BlockFault) → leaf ≡ written 0 (length text) text (replicate 8192 0)
-    → IfOk result (λ ptr. Has image space ptr leaf)
-    → IfOk result (λ ptr. ptr ≡ record { kind = 1; level = 0; length = length leaf; sector = sector; number = number; sum = weight_sum leaf })
-    → IfOk result (λ ptr. IsLeaf (Numbered number (Has image space)) ptr text)
-leaf_written number image space sector text leaf (Ok ptr) is there pointer = record {
-  there = (subst (λ (bytes : List ℕ). Has image space ptr bytes) (is ∙ filled text) there, ap (λ (p : Ptr). p.number) pointer);
-  kind_is = ap (λ (p : Ptr). p.kind) pointer;
-  level_is = ap (λ (p : Ptr). p.level) pointer;
+-- a block of a tree that was written is laid
+module _ (level number : ℕ) (old new : IoState) (bytes : List ℕ) (ptr : Ptr) (long : length bytes ≡ 8192) (block : WritesBlock bytes level number old new (Ok ptr)) where
+  block_laid : Laid number old.space (Has new.disk.seen new.space) ptr bytes
+  block_laid =
+      let long_is : ptr.length ≡ length bytes = ap (λ (p : Ptr). p.length) block.pointer in
+      (block.wrote, ap (λ (p : Ptr). p.number) block.pointer, taken_free old.space new.space ptr.sector (length bytes / 512) ptr.length (omega (arith, long, long_is)) block.takes)
+
+  -- by a pointer of kind 3 it is a node over what its pointers name
+  pub over_written : IsOver (Laid number old.space (Has new.disk.seen new.space)) level (record ptr { kind = 3 }) bytes
+  over_written = record { there = (of_kind new.disk.seen new.space ptr bytes 3 block_laid.0, block_laid.1, block_laid.2); long = long; kind_is = refl; level_is = ap (λ (p : Ptr). p.level) block.pointer }
+
+-- of a text it is a leaf
+pub leaf_written : (number : ℕ) (old new : IoState) (text leaf : List ℕ) (result : Result Ptr BlockFault) → length leaf ≡ 8192 → leaf ≡ written 0 (length text) text (replicate 8192 0) → WritesBlock leaf 0 number old new result
+    → IfOk result (λ ptr. IsLeaf (Laid number old.space (Has new.disk.seen new.space)) ptr text)
+leaf_written number old new text leaf (Ok ptr) long is block = record {
+  there = subst (λ (bytes : List ℕ). Laid number old.space (Has new.disk.seen new.space) ptr bytes) (is ∙ filled text) (block_laid 0 number old new leaf ptr long block);
+  kind_is = ap (λ (p : Ptr). p.kind) block.pointer;
+  level_is = ap (λ (p : Ptr). p.level) block.pointer;
 }
-leaf_written number image space sector text leaf (Err fault) is there pointer = tt
+leaf_written number old new text leaf (Err fault) long is block = tt

@@ -1,5 +1,5 @@
 -- Blocks that are taken in turn.
-use Rattle.std.proofs.Common.{◌≡◌, ℕ, zero, suc, ◌+◌, refl, sym, ◌∙◌, ap, subst, arith}
+use Rattle.std.proofs.Common.{◌≡◌, ℕ, zero, suc, ◌+◌, refl, sym, ◌∙◌, ap, arith}
 use Rattle.zst_space.specs.FreeSectors.{FreeSectors}
 use Rattle.zst_space.specs.TakenExtents.{without, without_blocks}
 

@@ -2,6 +2,7 @@
 use Rattle.std.specs.Prelude.{◌≡◌, ◌⊎◌, ℕ, zero, suc, ◌+◌, ◌-◌, ◌*◌, ◌/◌, ◌<◌, ◌≤◌, min, List, [], ◌++◌, length, Result}
 use Rattle.zst_bytes.specs.Bytes.{bytes_at}
 use Rattle.zst_bytes.specs.Fields.{zeros}
+use Rattle.zst_space.specs.FreeSectors.{FreeSectors, IsFree}
 use Rattle.zst_block.specs.Blocks.{IsBlock}
 use Rattle.zst_block.specs.Ptr.{hole_of}
 use Rattle.zst_block.specs.declared.fault.BlockFault.{BlockFault}
@@ -54,9 +55,13 @@ pub record HasLeaves (has : Blocks) (levels : ℕ) (root : Ptr) (text : List ℕ
   pub least : IsLeast levels (length text)
   pub below : LeavesBelow has levels root text
 
--- the block is there, and its pointer has this number
-abbrev pub Numbered : ℕ → Blocks → Blocks
-Numbered number has = λ ptr bytes. has ptr bytes × (ptr.number ≡ number)
+-- every byte of the range is in a free sector
+abbrev pub AllFree : FreeSectors → ℕ → ℕ → Type 0
+AllFree space place count = (byte : ℕ) → place ≤ byte → byte < place + count → IsFree space (byte / 512)
+
+-- the block is there, its pointer has this number, and it stands in sectors that were free before
+abbrev pub Laid : ℕ → FreeSectors → Blocks → Blocks
+Laid number space has = λ ptr bytes. has ptr bytes × (ptr.number ≡ number) × AllFree space (512 * ptr.sector) ptr.length
 
 -- what a pointer names stands behind sectors 0 to 7, and before this sector
 pub record StandsBefore (end : ℕ) (ptr : Ptr) : Type 0 where

@@ -8,7 +8,7 @@ use Rattle.zst_block.specs.declared.fault.BlockFault.{BlockFault}
 use Rattle.zst_block.specs.declared.fault.BlockFault.TheVariants.{Damaged}
 use Rattle.zst_tree.specs.Indices.{Blocks}
 use Rattle.zst_tree.specs.declared.tree.Tree.{Tree}
-use Rattle.zst_leaves.specs.Leaves.{HasLeaves, Numbered, blocks_for}
+use Rattle.zst_leaves.specs.Leaves.{HasLeaves, Laid, blocks_for}
 
 -- so many blocks of a tree are written at most, and where the call ends well their sectors are taken in turn
 pub record WritesBlocks {T : Type 0} (count : ℕ) (old new : IoState) (result : Result T BlockFault) : Type 0 where
@@ -20,8 +20,7 @@ pub record WritesBlocks {T : Type 0} (count : ℕ) (old new : IoState) (result :
 
 -- a text stands in the leaves of a tree, for which so many blocks are taken in turn
 pub record WritesLeaves (number : ℕ) (has : Blocks) (text : List ℕ) (old new : FreeSectors) (tree : Tree) : Type 0 where
-  pub there : HasLeaves has tree.levels tree.root text
-  -- each pointer to a leaf or a node has the number
-  pub numbered : HasLeaves (Numbered number has) tree.levels tree.root text
+  -- each pointer to a leaf or a node has the number, and what it names was written into sectors that were free
+  pub laid : HasLeaves (Laid number old has) tree.levels tree.root text
   pub past : tree.past ≡ 0
   pub after : new ≡ without_blocks (blocks_for tree.levels (length text)) old

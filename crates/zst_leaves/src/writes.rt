@@ -3,7 +3,7 @@ ghost use Rattle.std.specs.Prelude.{◌≡◌, ◌+◌, ◌*◌, ◌/◌, ◌^�
 ghost use Rattle.zst_space.specs.FreeSectors.{room};
 ghost use Rattle.zst_block.specs.IoCalls.{Works, stop_of};
 ghost use Rattle.zst_block.specs.IoStates.{blocks_of, disk_of, io_of};
-ghost use Rattle.zst_leaves.specs.Leaves.{IsLeaf, IsLeast, IsOver, LeavesBelow, Numbered, blocks_for, bytes_below, leaves_for};
+ghost use Rattle.zst_leaves.specs.Leaves.{IsLeaf, IsLeast, IsOver, Laid, LeavesBelow, blocks_for, bytes_below, leaves_for};
 ghost use Rattle.zst_leaves.specs.WrittenLeaves.{WritesBlocks, WritesLeaves};
 ghost use Rattle.zst_leaves.specs.declared.sizes.TheConstants.{MOST_BYTES};
 
@@ -16,7 +16,7 @@ use zst_tree::{Tree, put_child};
 // Writes the last bytes of a text, or as many as a leaf has, as a leaf.
 fn write_leaf<D: Disk>(io: &mut Io<'_, D>, bytes: &[u8], number: u64) -> Result<Ptr, BlockFault>
     requires room { length bytes.now ≤ 8192 }
-    ensures leaf { IfOk result (λ ptr. IsLeaf (Numbered number (blocks_of io.new)) ptr bytes.now) }
+    ensures leaf { IfOk result (λ ptr. IsLeaf (Laid number io.old.space (blocks_of io.new)) ptr bytes.now) }
     ensures written { WritesBlocks 1 (io_of io.old) (io_of io.new) result }
     ensures takes { OnOk result (room io.new.space + 16 ≡ room io.old.space) }
 {
@@ -27,7 +27,7 @@ fn write_leaf<D: Disk>(io: &mut Io<'_, D>, bytes: &[u8], number: u64) -> Result<
 
 // Writes the node, of pointers to what has this number, into free sectors.
 fn save_over<D: Disk>(io: &mut Io<'_, D>, level: u8, number: u64) -> Result<Ptr, BlockFault>
-    ensures over { IfOk result (λ ptr. IsOver (Numbered number (blocks_of io.new)) level ptr io.old.node) }
+    ensures over { IfOk result (λ ptr. IsOver (Laid number io.old.space (blocks_of io.new)) level ptr io.old.node) }
     ensures written { WritesBlocks 1 (io_of io.old) (io_of io.new) result }
 {
     let ptr = save(io, level, number)?;
@@ -43,7 +43,7 @@ fn write_below<D: Disk>(
 ) -> Result<Ptr, BlockFault>
     requires level { level ≤ 3 }
     requires room { length bytes.now ≤ bytes_below level }
-    ensures below { IfOk result (λ ptr. LeavesBelow (Numbered number (blocks_of io.new)) level ptr bytes.now) }
+    ensures below { IfOk result (λ ptr. LeavesBelow (Laid number io.old.space (blocks_of io.new)) level ptr bytes.now) }
     ensures written { WritesBlocks (blocks_for level (length bytes.now)) (io_of io.old) (io_of io.new) result }
     ensures one_leaf { level ≡ 0 → 0 < length bytes.now → OnOk result (room io.new.space + 16 ≡ room io.old.space) }
 {
@@ -72,7 +72,7 @@ pub fn write_leaves<D: Disk>(
     requires some { 0 < length bytes.now }
     requires small { length bytes.now ≤ MOST_BYTES }
 
-    // The text stands there, by pointers with the number, and what is taken are so many blocks in turn.
+    // The text stands there, by pointers with the number, in sectors that were free. Taken are so many blocks in turn.
     ensures written { IfOk result (WritesLeaves number (blocks_of io.new) bytes.now io.old.space io.new.space) }
 
     // Free sectors alone are written: 16 for each leaf and for each node above.

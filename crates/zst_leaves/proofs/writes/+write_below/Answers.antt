@@ -4,7 +4,7 @@ use Rattle.zst_leaves.specs.Leaves.{blocks_for, bytes_below}
 use Rattle.zst_tree.proofs.SubtreeCases.{kept_works}
 use Rattle.zst_leaves.proofs.BlockCounts.{before_none, blocks_before, blocks_bottom, blocks_none, blocks_over, first_blocks, next_blocks}
 use Rattle.zst_leaves.proofs.LevelCounts.{leaf_room}
-use Rattle.zst_leaves.proofs.LeavesLaws.{LeavesBelow-grows, child_more, hole_below, leaf_below, numbered_kept, over_below}
+use Rattle.zst_leaves.proofs.LeavesLaws.{LeavesBelow-grows, IsOver-grows, child_more, hole_below, laid_before, laid_kept, leaf_below, over_below}
 use Rattle.zst_leaves.proofs.WrittenBlocks.{WritesBlocks-gives, WritesBlocks-none, WritesBlocks-refused, WritesBlocks-same, WritesBlocks-then}
 use Rattle.zst_leaves.proofs.writes.+write_below.Goals as goal
 
@@ -20,8 +20,8 @@ returns-then-level-eq0-clause-below g t c = IfOk-weaker c.write_leaf.result _ _ 
 pub returns-clause-below : goal.returns-clause-below
 returns-clause-below g t c =
     IfOk-weaker c.save_over.result _ _
-    (λ ptr over. over_below _ c.args.level ptr c.args.bytes.now c.loop-k.node (omega arith) (search rules) over
-    (λ k less. LeavesBelow-grows _ _ (numbered_kept c.args.number _ _ _ _ (kept_works c.save_over.ensures.written.works)) _ _ _ (c.loop-k.invariant.children k (omega arith)))) c.save_over.ensures.over
+    (λ ptr over. over_below _ c.args.level ptr c.args.bytes.now c.loop-k.node (omega arith) (search rules) (IsOver-grows _ _ (laid_before c.args.number c.args.io.now.space c.loop-k.io.space _ c.loop-k.invariant.written.works.fills.fewer) c.args.level ptr c.loop-k.node over)
+    (λ k less. LeavesBelow-grows _ _ (laid_kept c.args.number c.args.io.now.space _ _ _ _ (kept_works c.save_over.ensures.written.works)) _ _ _ (c.loop-k.invariant.children k (omega arith)))) c.save_over.ensures.over
 
 pub returns-then-is_empty-clause-written : goal.returns-then-is_empty-clause-written
 returns-then-is_empty-clause-written g t c =
@@ -41,8 +41,9 @@ pub loop-k-preserved : goal.loop-k-preserved
 loop-k-preserved g t c =
     let more = next_blocks (c.args.level - 1) c.loop-k.k c.args.bytes.now c.part_of.result.now c.part_of.ensures.part in
     record {
-      children = child_more _ _ (numbered_kept c.args.number _ _ _ _ (kept_works c.in_ok-child.ensures.written.works)) (c.args.level - 1) (bytes_below (c.args.level - 1)) c.args.bytes.now c.loop-k.node c.put_child.new.node c.loop-k.k c.in_ok-child.child
-          (omega arith) c.put_child.ensures.puts c.loop-k.invariant.children (rw c.part_of.ensures.part at c.in_ok-child.ensures.below);
+      children = child_more _ _ (laid_kept c.args.number c.args.io.now.space _ _ _ _ (kept_works c.in_ok-child.ensures.written.works)) (c.args.level - 1) (bytes_below (c.args.level - 1)) c.args.bytes.now c.loop-k.node c.put_child.new.node c.loop-k.k c.in_ok-child.child
+          (omega arith) c.put_child.ensures.puts c.loop-k.invariant.children
+          (LeavesBelow-grows _ _ (laid_before c.args.number c.args.io.now.space c.loop-k.io.space _ c.loop-k.invariant.written.works.fills.fewer) _ _ _ (rw c.part_of.ensures.part at c.in_ok-child.ensures.below));
       written = WritesBlocks-gives _ (tt {0}) (WritesBlocks-then (tt {0}) _ more c.loop-k.invariant.written c.in_ok-child.ensures.written);
     }
 

@@ -5,7 +5,7 @@ use Rattle.zst_leaves.proofs.WrittenBlocks.{WritesBlocks-one}
 use Rattle.zst_leaves.proofs.writes.write_leaf.Goals as goal
 
 pub returns-clause-leaf : goal.returns-clause-leaf
-returns-clause-leaf g c = leaf_written c.args.number _ _ _ c.args.bytes.now c.put_bytes.new.bytes c.write.result c.put_bytes.ensures c.write.ensures.block.wrote c.write.ensures.block.pointer
+returns-clause-leaf g c = leaf_written c.args.number _ _ c.args.bytes.now c.put_bytes.new.bytes c.write.result (omega arith) c.put_bytes.ensures c.write.ensures.block
 
 pub returns-clause-takes : goal.returns-clause-takes
 returns-clause-takes g c = IfOk-weaker c.write.result _ _ (λ ptr takes. omega (arith, takes.room_is)) c.write.ensures.block.takes

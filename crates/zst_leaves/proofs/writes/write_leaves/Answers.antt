@@ -1,12 +1,8 @@
-use Rattle.std.proofs.Common.{◌*◌, ℕ, length, refl, subst, arith}
+use Rattle.std.proofs.Common.{length, refl, arith}
 use Rattle.std.proofs.lemmas.Result.{err_from_is_err_and}
 use Rattle.zst_block.proofs.IoCallLemmas.{Works-more}
-use Rattle.zst_block.specs.IoCalls.{Works, stop_of}
-use Rattle.zst_block.specs.IoStates.{blocks_of, io_of}
-use Rattle.zst_leaves.specs.Leaves.{HasLeaves, Numbered, blocks_for}
 use Rattle.zst_leaves.proofs.BlockCounts.{most_blocks, most_two_levels}
 use Rattle.zst_leaves.proofs.LevelCounts.{IsLeast-only, one_level, two_levels}
-use Rattle.zst_leaves.proofs.LeavesLaws.{HasLeaves-grows}
 use Rattle.zst_leaves.proofs.writes.write_leaves.Goals as goal
 
 pub returns-in_err-root-clause-works : goal.returns-in_err-root-clause-works
@@ -64,11 +60,8 @@ returns-clause-one_leaf g c = λ small. c.in_ok-root.ensures.one_leaf (one_level
 
 pub returns-clause-written : goal.returns-clause-written
 returns-clause-written g c =
-    let numbered : HasLeaves (Numbered c.args.number (blocks_of c.write_below.new.io)) c.levels_for-levels.result c.in_ok-root.root c.args.bytes.now =
-    record { some = c.requires.some; least = c.levels_for-levels.ensures; below = c.in_ok-root.ensures.below } in
     record {
-      there = HasLeaves-grows _ _ (λ ptr bytes is. is.0) c.levels_for-levels.result c.in_ok-root.root c.args.bytes.now numbered;
-      numbered = numbered;
+      laid = record { some = c.requires.some; least = c.levels_for-levels.ensures; below = c.in_ok-root.ensures.below };
       past = refl;
       after = c.in_ok-root.ensures.written.after;
     }

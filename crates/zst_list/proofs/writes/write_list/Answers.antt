@@ -1,6 +1,7 @@
 use Rattle.std.proofs.Common.{rules, ◌≡◌, length, refl, ap, ◌∙◌, arith}
 use Rattle.std.proofs.lemmas.Result.{err_from_is_err_and}
 use Rattle.zst_block.proofs.IoCallLemmas.{Looks-none, Works-looks, Works-more}
+use Rattle.zst_leaves.proofs.LeavesLaws.{HasLeaves-laid}
 use Rattle.zst_list.specs.Spelling.{list_bytes}
 use Rattle.zst_list.proofs.Sizes.{length-list}
 use Rattle.zst_list.proofs.WrittenLists.{list_there}
@@ -42,16 +43,17 @@ pub returns-clause-there : goal.returns-clause-there
 returns-clause-there g c =
     let runs = c.args.list.now in
     let spelled : c.deref.result.now ≡ list_bytes runs = c.deref.ensures.value ∙ c.in_ok-bytes.ensures ∙ ap list_bytes c.runs.ensures.same in
-    list_there _ c.in_ok-tree.tree.levels c.in_ok-tree.tree.root runs c.deref.result.now c.runs.ensures.lawful spelled c.in_ok-tree.ensures.written.there
+    list_there _ c.in_ok-tree.tree.levels c.in_ok-tree.tree.root runs c.deref.result.now c.runs.ensures.lawful spelled
+    (HasLeaves-laid c.args.number c.args.io.now.space _ c.in_ok-tree.tree.levels c.in_ok-tree.tree.root c.deref.result.now c.in_ok-tree.ensures.written.laid)
 
 pub returns-clause-nowhere : goal.returns-clause-nowhere
 returns-clause-nowhere g c = λ none.
     let runs = c.args.list.now in
     let spelled : c.deref.result.now ≡ list_bytes runs = c.deref.ensures.value ∙ c.in_ok-bytes.ensures ∙ ap list_bytes c.runs.ensures.same in
-    absurd (omega (arith, ap length spelled, length-list runs, ap length none, c.in_ok-tree.ensures.written.there.some))
+    absurd (omega (arith, ap length spelled, length-list runs, ap length none, c.in_ok-tree.ensures.written.laid.some))
 
 pub returns-clause-low : goal.returns-clause-low
-returns-clause-low g c = c.in_ok-tree.ensures.written.there.least.few
+returns-clause-low g c = c.in_ok-tree.ensures.written.laid.least.few
 
 pub returns-clause-works : goal.returns-clause-works
 returns-clause-works g c =
