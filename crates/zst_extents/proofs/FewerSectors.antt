@@ -19,13 +19,18 @@ extents_fewer (e ∷ es) count sector some = go (λ later. extents_fewer es coun
     go rest true fits some = shortened_fewer (count == e.count) e es count sector (leb-true count e.count fits) some
     go rest false fits some = ⊎_elim (λ here. inl here) (λ later. inr (rest later)) some
 
-end_later : (extents : List Extent) (end count : ℕ) → end ≤ end_without extents end count
+pub end_later : (extents : List Extent) (end count : ℕ) → end ≤ end_without extents end count
 end_later [] end count = omega arith
 end_later (e ∷ es) end count = go (end_later es end count) (nat_le count e.count)
   where
     go : end ≤ end_without es end count → (b : Bool) → end ≤ cond b end (end_without es end count)
     go rest true = omega arith
     go rest false = rest
+
+pub blocks_later : (blocks : ℕ) (space : FreeSectors) → space.end ≤ (without_blocks blocks space).end
+unfolding without_blocks
+blocks_later zero space = omega arith
+blocks_later (suc blocks) space = let left = without_blocks blocks space in omega (arith, blocks_later blocks space, end_later left.free left.end 16)
 
 pub without_fewer : (space : FreeSectors) (count sector : ℕ) → IsFree (without space count) sector → IsFree space sector
 without_fewer space count sector free = ⊎_elim (λ some. inl (extents_fewer space.free count sector some)) (λ past. inr (omega (arith, past, end_later space.free space.end count))) free

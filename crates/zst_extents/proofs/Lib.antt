@@ -1,6 +1,7 @@
 pub mod ApartExtents
 pub mod ExtentGrowth
 pub mod FewerSectors
+pub mod MarkedBlocks
 pub mod OneSet
 pub mod ReadRefusals
 pub mod Spelled

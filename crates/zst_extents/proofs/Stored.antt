@@ -1,5 +1,5 @@
 -- What was written stands over fewer free sectors too.
-use Rattle.std.proofs.Common.{◌≡◌, ℕ, ◌*◌, ◌/◌, List, [], ◌∷◌, length, ◌∙◌, ap, arith}
+use Rattle.std.proofs.Common.{◌≡◌, ℕ, ◌*◌, List, [], ◌∷◌, length, ◌∙◌, ap, arith}
 use Rattle.std.proofs.lemmas.List.{length-append}
 use Rattle.zst_outside.specs.Images.{DiskState}
 use Rattle.zst_space.specs.FreeSectors.{FreeSectors, IsFree}
@@ -8,9 +8,10 @@ use Rattle.zst_bytes.specs.Words.{word}
 use Rattle.zst_bytes.proofs.BytesLaws.{length-number_bytes}
 use Rattle.zst_block.specs.Blocks.{FillsFree, Has}
 use Rattle.zst_block.specs.declared.ptr.Ptr.{Ptr}
-use Rattle.zst_leaves.specs.Leaves.{HasLeaves, Numbered}
-use Rattle.zst_leaves.proofs.LeavesLaws.{HasLeaves-grows}
-use Rattle.zst_extents.specs.StoredExtents.{extent_bytes}
+use Rattle.zst_block.proofs.BlocksLaws.{Has-fewer}
+use Rattle.zst_leaves.specs.Leaves.{Laid}
+use Rattle.zst_extents.specs.StoredExtents.{HasExtents, extent_bytes}
+use Rattle.zst_extents.proofs.ExtentGrowth.{HasExtents-grows}
 use Rattle.zst_extents.proofs.Spelled.{bytes_cons, bytes_none}
 
 word_length : (n : ℕ) → length (word n) ≡ 8
@@ -34,10 +35,7 @@ FillsFree-less old new space mid less fewer fills = record {
   kept = fills.kept;
 }
 
-Has-less : (image : List ℕ) (mid less : FreeSectors) → ((sector : ℕ) → IsFree less sector → IsFree mid sector) → (ptr : Ptr) (bytes : List ℕ) → Has image mid ptr bytes → Has image less ptr bytes
-Has-less image mid less fewer ptr bytes has = record { block = has.block; behind = has.behind; taken = λ byte starts ends free. has.taken byte starts ends (fewer (byte / 512) free) }
-
-pub HasLeaves-less : (number : ℕ) (image : List ℕ) (mid less : FreeSectors) → ((sector : ℕ) → IsFree less sector → IsFree mid sector) → (levels : ℕ) (root : Ptr) (text : List ℕ)
-    → HasLeaves (Numbered number (Has image mid)) levels root text → HasLeaves (Numbered number (Has image less)) levels root text
-HasLeaves-less number image mid less fewer levels root text is =
-    HasLeaves-grows (Numbered number (Has image mid)) (Numbered number (Has image less)) (λ ptr bytes has. (Has-less image mid less fewer ptr bytes has.0, has.1)) levels root text is
+pub HasExtents-less : (number : ℕ) (space : FreeSectors) (image : List ℕ) (mid less : FreeSectors) → ((sector : ℕ) → IsFree less sector → IsFree mid sector) → (levels : ℕ) (root : Ptr) (count : ℕ) (extents : List Extent)
+    → HasExtents (Laid number space (Has image mid)) levels root count extents → HasExtents (Laid number space (Has image less)) levels root count extents
+HasExtents-less number space image mid less fewer levels root count extents is =
+    HasExtents-grows (Laid number space (Has image mid)) (Laid number space (Has image less)) (λ ptr bytes laid. (Has-fewer image mid less ptr bytes fewer laid.0, laid.1, laid.2)) levels root count extents is

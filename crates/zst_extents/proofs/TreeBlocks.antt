@@ -1,5 +1,5 @@
 -- How many blocks a tree has above so many leaves, and that no text in leaves takes more.
-use Rattle.std.proofs.Common.{◌≡◌, ◌⊎◌, inl, inr, ℕ, zero, suc, ◌+◌, ◌-◌, ◌*◌, ◌/◌, ◌<◌, ◌≤◌, ◌==◌, nat_le, refl, sym, ◌∙◌, ap, subst, add-one, arith}
+use Rattle.std.proofs.Common.{◌≡◌, ◌⊎◌, inl, inr, ℕ, zero, suc, ◌+◌, ◌-◌, ◌*◌, ◌/◌, ◌<◌, ◌≤◌, refl, ◌∙◌, ap, subst, add-one, arith}
 use Rattle.std.proofs.lemmas.Bool.{cases_lt, le-leb, lt-leb}
 use Rattle.zst_tree.specs.Indices.{span}
 use Rattle.zst_tree.proofs.Span.{span_zero}
@@ -196,7 +196,7 @@ tree_more fewer leaves le = elim (has_levels fewer) [
 
 -- ---- no text takes more
 
-by_level : (levels long : ℕ) → IsLeast levels long → 0 < long → blocks_for levels long ≤ tree_blocks (leaves_for long)
+pub by_level : (levels long : ℕ) → IsLeast levels long → 0 < long → blocks_for levels long ≤ tree_blocks (leaves_for long)
 by_level zero long least some =
     omega (arith, bottom long some least.enough, of_leaf (leaves_for long) (omega (arith, least.enough, span_zero)))
 by_level (suc zero) long least some =
@@ -210,12 +210,24 @@ by_level (suc (suc (suc zero))) long least some =
     omega (arith, three_over long some least.enough, of_three (leaves_for long) (omega (arith, more, span_two)))
 by_level (suc (suc (suc (suc levels)))) long least some = absurd (omega (arith, least.few))
 
--- fewer extents take no more blocks than that
+-- up to two levels of nodes are few beside the leaves
+pub few_above : (leaves : ℕ) → leaves ≤ 16384 → tree_blocks leaves ≤ leaves + leaves / 128 + 3
+few_above leaves small = elim (has_levels leaves) [
+  | inl one ↦ omega (arith, one.1)
+  | inr (inl two) ↦ omega (arith, two.2)
+  | inr (inr (inl three)) ↦ omega (arith, three.2)
+  | inr (inr (inr four)) ↦ absurd (omega (arith, four.0, small))
+]
+
+-- fewer extents take no more blocks
 pub few_leaves : (long count fewer : ℕ) → long ≡ 16 * fewer → fewer ≤ count → tree_blocks (leaves_for long) ≤ extent_blocks count
 few_leaves long count fewer is le = tree_more (leaves_for long) (leaves_for (16 * count)) (omega (arith, is, le))
 
 pub few_blocks : (levels long count fewer : ℕ) → IsLeast levels long → 0 < long → long ≡ 16 * fewer → fewer ≤ count → blocks_for levels long ≤ extent_blocks count
 few_blocks levels long count fewer least some is le = omega (arith, by_level levels long least some, few_leaves long count fewer is le)
+
+pub fewer_extents : (fewer count : ℕ) → fewer ≤ count → extent_blocks fewer ≤ extent_blocks count
+fewer_extents fewer count le = tree_more (leaves_for (16 * fewer)) (leaves_for (16 * count)) (omega (arith, le))
 
 -- some levels are the fewest that have room for so many bytes
 pub least_levels : (long : ℕ) → long ≤ 17179869184 → (levels : ℕ) × IsLeast levels long

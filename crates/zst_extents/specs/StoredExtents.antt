@@ -1,11 +1,13 @@
 -- The free extents of a pool, as they stand in the leaves of a tree: 512 in each.
-use Rattle.std.specs.Prelude.{◌≡◌, ℕ, ◌+◌, ◌*◌, ◌/◌, ◌<◌, nat_le, if◌then◌else◌, List, [], ◌∷◌, ◌++◌, length}
+use Rattle.std.specs.Prelude.{◌≡◌, ℕ, ◌+◌, ◌*◌, ◌/◌, ◌<◌, ◌≤◌, nat_le, if◌then◌else◌, List, [], ◌∷◌, ◌++◌, length}
 use Rattle.zst_bytes.specs.Words.{word}
+use Rattle.zst_space.specs.FreeSectors.{FreeSectors}
+use Rattle.zst_space.specs.TakenExtents.{without_blocks}
 use Rattle.zst_space.specs.declared.space.Extent.{Extent}
 use Rattle.zst_block.specs.Ptr.{hole_of}
 use Rattle.zst_block.specs.declared.ptr.Ptr.{Ptr}
 use Rattle.zst_tree.specs.Indices.{Blocks}
-use Rattle.zst_leaves.specs.Leaves.{HasLeaves, leaves_for}
+use Rattle.zst_leaves.specs.Leaves.{HasLeaves, blocks_for, leaves_for}
 
 -- each extent as two words: its first sector, and how many sectors it has
 unfoldable pub extent_bytes : List Extent → List ℕ
@@ -29,3 +31,8 @@ tree_blocks leaves =
 -- so many blocks so many extents take
 abbrev pub extent_blocks : ℕ → ℕ
 extent_blocks count = tree_blocks (leaves_for (16 * count))
+
+-- the blocks of the tree over so many levels in which these extents stand were taken in turn, no more than as many extents take
+pub record TakesTree (levels : ℕ) (extents : List Extent) (old new : FreeSectors) : Type 0 where
+  pub after : new ≡ without_blocks (blocks_for levels (length (extent_bytes extents))) old
+  pub few : blocks_for levels (length (extent_bytes extents)) ≤ extent_blocks (length extents)
