@@ -1,4 +1,4 @@
--- What a set holds it holds over all free sectors that it doesn't reach.
+-- What a set holds it holds where sectors become free that it doesn't reach.
 use Rattle.std.specs.Prelude.{Option, Some, None}
 use Rattle.std.proofs.Common.{◌≡◌, inl, inr, ℕ, zero, suc, ◌+◌, ◌-◌, ◌*◌, ◌/◌, ◌^◌, ◌<◌, ◌≤◌, Bool, true, false, List, refl, sym, ◌∙◌, ap, subst, arith, if◌then◌else◌}
 use Rattle.std.proofs.lemmas.Bool.{cases_lt, false≢true}
@@ -46,40 +46,37 @@ child_of width base index pos from under =
       high = omega (arith, parts, rest, from);
     }
 
-module _ (image : List ℕ) (space more : FreeSectors) where
-  -- none of the sectors that are reached so is free
-  abbrev NoneFree : (ℕ → Type 0) → Type 0
-  NoneFree reached = (sector : ℕ) → reached sector → IsFree more sector → ⊥
+-- of the sectors that are reached so, each that is free in more is free in the other space too
+abbrev pub FreeBefore : (space more : FreeSectors) → (reached : ℕ → Type 0) → Type 0
+FreeBefore space more reached = (sector : ℕ) → reached sector → IsFree more sector → IsFree space sector
 
-  -- a block is there of whose sectors none is free
-  pub Has-kept : (ptr : Ptr) (bytes : List ℕ) → Has image space ptr bytes → ((sector : ℕ) → IsOf ptr sector → IsFree more sector → ⊥) → Has image more ptr bytes
-  Has-kept ptr bytes has none = record {
+module _ (image : List ℕ) (space more : FreeSectors) where
+  -- a block stands as well where none of its sectors became free
+  pub Has-kept : (ptr : Ptr) (bytes : List ℕ) → Has image space ptr bytes → FreeBefore space more (IsOf ptr) → Has image more ptr bytes
+  Has-kept ptr bytes has before = record {
     block = has.block;
     behind = has.behind;
-    taken = λ byte starts ends free. none (byte / 512) (omega (arith, starts), omega (arith, ends)) free;
+    taken = λ byte starts ends free. has.taken byte starts ends (before (byte / 512) (omega (arith, starts), omega (arith, ends)) free);
   }
 
-  abbrev BelowNone : ℕ → Ptr → Type 0
-  BelowNone level ptr = NoneFree (ReachesSector (IsBlock image) level ptr)
-
-  pub Subtree-kept : (level : ℕ) (ptr : Ptr) (base : ℕ) (map : Map) → Subtree (Has image space) level ptr base map → ((sector : ℕ) → ReachesSector (IsBlock image) level ptr sector → IsFree more sector → ⊥) → Subtree (Has image more) level ptr base map
+  pub Subtree-kept : (level : ℕ) (ptr : Ptr) (base : ℕ) (map : Map) → Subtree (Has image space) level ptr base map → FreeBefore space more (ReachesSector (IsBlock image) level ptr) → Subtree (Has image more) level ptr base map
   unfolding Subtree
-  Subtree-kept zero ptr base map is none = is
-  Subtree-kept (suc level) ptr base map (inl flat) none = inl flat
-  Subtree-kept (suc level) ptr base map (inr (bytes, node, below)) none =
+  Subtree-kept zero ptr base map is before = is
+  Subtree-kept (suc level) ptr base map (inl flat) before = inl flat
+  Subtree-kept (suc level) ptr base map (inr (bytes, node, below)) before =
       let inner = node_flat (Has image space) (suc level) ptr bytes node in
       let same : suc level - 1 ≡ level = omega arith in
       inr (
         bytes,
-        record { there = Has-kept ptr bytes node.there (λ sector is. none sector (reach_here (IsBlock image) (suc level) ptr sector inner is)); pointers = node.pointers; level_is = node.level_is; kind_is = node.kind_is; number_is = node.number_is },
+        record { there = Has-kept ptr bytes node.there (λ sector is. before sector (reach_here (IsBlock image) (suc level) ptr sector inner is)); pointers = node.pointers; level_is = node.level_is; kind_is = node.kind_is; number_is = node.number_is },
         λ k less. Subtree-kept level (child bytes k) (base + k * span level) map (below k less)
-            (λ sector reached. none sector (reach_child (IsBlock image) (suc level) ptr bytes k sector (omega arith) inner node.there.block less (rw same reached))),
+            (λ sector reached. before sector (reach_child (IsBlock image) (suc level) ptr bytes k sector (omega arith) inner node.there.block less (rw same reached))),
       )
 
-  pub TreeIs-kept : (tree : Tree) (map : Map) → TreeIs (Has image space) tree map → ((sector : ℕ) → ReachesSector (IsBlock image) tree.levels tree.root sector → IsFree more sector → ⊥) → TreeIs (Has image more) tree map
-  TreeIs-kept tree map is none = record {
+  pub TreeIs-kept : (tree : Tree) (map : Map) → TreeIs (Has image space) tree map → FreeBefore space more (ReachesSector (IsBlock image) tree.levels tree.root) → TreeIs (Has image more) tree map
+  TreeIs-kept tree map is before = record {
     whole = is.whole;
-    stands = record { below = Subtree-kept tree.levels tree.root 0 is.whole is.stands.below none; past = is.stands.past };
+    stands = record { below = Subtree-kept tree.levels tree.root 0 is.whole is.stands.below before; past = is.stands.past };
     agrees = is.agrees;
   }
 
@@ -116,50 +113,50 @@ module _ (image : List ℕ) (space more : FreeSectors) where
   pub kind_one : (ptr : Ptr) → ptr.kind ≡ 1 → is_flat ptr ≡ false
   kind_one ptr is = rw is refl
 
-  block_kept : (tree : Tree) (map : Map) (index : ℕ) (block : Block) → TreeIs (Has image space) tree map → index < 2 ^ 44 → ((sector : ℕ) → ReachesSector (IsBlock image) tree.levels tree.root sector → IsFree more sector → ⊥)
+  block_kept : (tree : Tree) (map : Map) (index : ℕ) (block : Block) → TreeIs (Has image space) tree map → index < 2 ^ 44 → FreeBefore space more (ReachesSector (IsBlock image) tree.levels tree.root)
       → BlockIs (Has image space) (map index) block → BlockIs (Has image more) (map index) block
-  block_kept tree map index Hole is small none block = block
-  block_kept tree map index Redacted is small none block = block
-  block_kept tree map index (Data bytes) is small none block =
+  block_kept tree map index Hole is small before block = block
+  block_kept tree map index Redacted is small before block = block
+  block_kept tree map index (Data bytes) is small before block =
       let leaf = tree_leaf tree map index is small (kind_one (map index) block.0) in
-      (block.0, Has-kept (map index) bytes block.1 (λ sector of. none sector (record { found = map index; reached = leaf.reached; is_of = of })))
+      (block.0, Has-kept (map index) bytes block.1 (λ sector of. before sector (record { found = map index; reached = leaf.reached; is_of = of })))
 
-  spill_kept : (ptr : Ptr) (spill : Option (List ℕ)) → ((sector : ℕ) → ReachesSector (IsBlock image) 0 ptr sector → IsFree more sector → ⊥) → SpillIs (Has image space) ptr spill → SpillIs (Has image more) ptr spill
-  spill_kept ptr None none is = is
-  spill_kept ptr (Some bytes) none is = (is.0, Has-kept ptr bytes is.1 (λ sector of. none sector (reach_here (IsBlock image) 0 ptr sector (kind_one ptr is.0) of)))
+  spill_kept : (ptr : Ptr) (spill : Option (List ℕ)) → FreeBefore space more (ReachesSector (IsBlock image) 0 ptr) → SpillIs (Has image space) ptr spill → SpillIs (Has image more) ptr spill
+  spill_kept ptr None before is = is
+  spill_kept ptr (Some bytes) before is = (is.0, Has-kept ptr bytes is.1 (λ sector of. before sector (reach_here (IsBlock image) 0 ptr sector (kind_one ptr is.0) of)))
 
-  object_kept : (dnode : Dnode) (object : Object) (date : ℕ) (dates : ℕ → ℕ) (map : Map) → ((sector : ℕ) → ReachesInDnode (IsBlock image) dnode sector → IsFree more sector → ⊥) → ObjectIs (Has image space) dnode object date dates map → ObjectIs (Has image more) dnode object date dates map
-  object_kept dnode object date dates map none is = record {
+  object_kept : (dnode : Dnode) (object : Object) (date : ℕ) (dates : ℕ → ℕ) (map : Map) → FreeBefore space more (ReachesInDnode (IsBlock image) dnode) → ObjectIs (Has image space) dnode object date dates map → ObjectIs (Has image more) dnode object date dates map
+  object_kept dnode object date dates map before is = record {
     type_is = is.type_is;
     bonus_type_is = is.bonus_type_is;
     size_is = is.size_is;
     bonus_is = is.bonus_is;
     date_is = is.date_is;
     end_is = is.end_is;
-    spill_is = spill_kept dnode.spill object.attr.spill (λ sector reached. none sector (inr reached)) is.spill_is;
-    tree = TreeIs-kept (tree_of dnode) map is.tree (λ sector reached. none sector (inl reached));
-    blocks = λ i less. block_kept (tree_of dnode) map i (object.blocks i) is.tree (under_bound i less) (λ sector reached. none sector (inl reached)) (is.blocks i less);
+    spill_is = spill_kept dnode.spill object.attr.spill (λ sector reached. before sector (inr reached)) is.spill_is;
+    tree = TreeIs-kept (tree_of dnode) map is.tree (λ sector reached. before sector (inl reached));
+    blocks = λ i less. block_kept (tree_of dnode) map i (object.blocks i) is.tree (under_bound i less) (λ sector reached. before sector (inl reached)) (is.blocks i less);
     index_dates = is.index_dates;
   }
 
-  slot_kept : (snap : DatedState) (k : ℕ) (slot : Slot) → ((sector : ℕ) → ReachesInSlot (IsBlock image) slot sector → IsFree more sector → ⊥) → SlotIs (Has image space) snap k slot → SlotIs (Has image more) snap k slot
-  slot_kept snap k (Absent date) none is = is
-  slot_kept snap k (There dnode) none is = record { object = is.object; there = is.there; map = is.map; is = object_kept dnode is.object (snap.number_date k) (snap.index_date k) is.map none is.is }
+  slot_kept : (snap : DatedState) (k : ℕ) (slot : Slot) → FreeBefore space more (ReachesInSlot (IsBlock image) slot) → SlotIs (Has image space) snap k slot → SlotIs (Has image more) snap k slot
+  slot_kept snap k (Absent date) before is = is
+  slot_kept snap k (There dnode) before is = record { object = is.object; there = is.there; map = is.map; is = object_kept dnode is.object (snap.number_date k) (snap.index_date k) is.map before is.is }
 
   leaf_flat : (ptr : Ptr) (there : Bool) → ptr.kind ≡ (if there then 3 else 4) → is_flat ptr ≡ false
   leaf_flat ptr true is = flat_kind ptr (inl is)
   leaf_flat ptr false is = flat_kind ptr (inr is)
 
-  leaf_kept : (set : ObjSet) (snap : DatedState) (j : ℕ) (map : Map) → j < 2 ^ 44 → TreeIs (Has image space) set.tree map → ((sector : ℕ) → ReachesInSet (IsBlock image) set sector → IsFree more sector → ⊥) → LeafIs (Has image space) snap j (map j) → LeafIs (Has image more) snap j (map j)
-  leaf_kept set snap j map small tree none (inl hole) = inl hole
-  leaf_kept set snap j map small tree none (inr leaf) =
+  leaf_kept : (set : ObjSet) (snap : DatedState) (j : ℕ) (map : Map) → j < 2 ^ 44 → TreeIs (Has image space) set.tree map → FreeBefore space more (ReachesInSet (IsBlock image) set) → LeafIs (Has image space) snap j (map j) → LeafIs (Has image more) snap j (map j)
+  leaf_kept set snap j map small tree before (inl hole) = inl hole
+  leaf_kept set snap j map small tree before (inr leaf) =
       let some = leaf_flat (map j) _ leaf.names.kind in
       let at = tree_leaf set.tree map j tree small some in
       inr (record {
         bytes = leaf.bytes;
         slots = leaf.slots;
         names = record {
-          there = Has-kept (map j) leaf.bytes leaf.names.there (λ sector of. none sector (inl (record { found = map j; reached = at.reached; is_of = of })));
+          there = Has-kept (map j) leaf.bytes leaf.names.there (λ sector of. before sector (inl (record { found = map j; reached = at.reached; is_of = of })));
           kind = leaf.names.kind;
           level = leaf.names.level;
           number = leaf.names.number;
@@ -167,7 +164,7 @@ module _ (image : List ℕ) (space more : FreeSectors) where
         };
         slots_are = record {
           numbers = λ s less number. slot_kept snap (16 * j + s) (leaf.slots s)
-              (λ sector reached. none sector (inr (record {
+              (λ sector reached. before sector (inr (record {
                 leaf = map j;
                 index = j;
                 small = small;
@@ -187,21 +184,21 @@ module _ (image : List ℕ) (space more : FreeSectors) where
         };
       })
 
-  pub SetHolds-kept : (set : ObjSet) (snap : DatedState) → ((sector : ℕ) → ReachesInSet (IsBlock image) set sector → IsFree more sector → ⊥) → SetHolds (Has image space) set snap → SetHolds (Has image more) set snap
-  SetHolds-kept set snap none holds = record {
+  pub SetHolds-kept : (set : ObjSet) (snap : DatedState) → FreeBefore space more (ReachesInSet (IsBlock image) set) → SetHolds (Has image space) set snap → SetHolds (Has image more) set snap
+  SetHolds-kept set snap before holds = record {
     lawful = holds.lawful;
     bounded = holds.bounded;
     levels = holds.levels;
     map = holds.map;
-    tree = TreeIs-kept set.tree holds.map holds.tree (λ sector reached. none sector (inl reached));
-    leaves = λ j less. leaf_kept set snap j holds.map less holds.tree none (holds.leaves j less);
+    tree = TreeIs-kept set.tree holds.map holds.tree (λ sector reached. before sector (inl reached));
+    leaves = λ j less. leaf_kept set snap j holds.map less holds.tree before (holds.leaves j less);
   }
 
   -- and so it is with a tight set
-  pub SetIsTight-kept : (set : ObjSet) (snap : DatedState) → ((sector : ℕ) → ReachesInSet (IsBlock image) set sector → IsFree more sector → ⊥) → SetIsTight (Has image space) set snap → SetIsTight (Has image more) set snap
-  SetIsTight-kept set snap none tight =
+  pub SetIsTight-kept : (set : ObjSet) (snap : DatedState) → FreeBefore space more (ReachesInSet (IsBlock image) set) → SetIsTight (Has image space) set snap → SetIsTight (Has image more) set snap
+  SetIsTight-kept set snap before tight =
       let holds = tight.holds in
-      SetIsTight-of image more set snap holds.map (SetHolds-kept set snap none holds) (TreeIs-kept set.tree holds.map holds.tree (λ sector reached. none sector (inl reached)))
+      SetIsTight-of image more set snap holds.map (SetHolds-kept set snap before holds) (TreeIs-kept set.tree holds.map holds.tree (λ sector reached. before sector (inl reached)))
       (λ j less bytes held there spells s small. tight.tight j less bytes held (there_before j less (holds.leaves j less) (TreeIs-lawful (Has image space) set.tree holds.map holds.tree j less) bytes there) spells s small) tight.tells
     where
       there_before : (j : ℕ) → j < 2 ^ 44 → LeafIs (Has image space) snap j (tight.holds.map j) → is_lawful (tight.holds.map j) ≡ true → (bytes : List ℕ) → Has image more (tight.holds.map j) bytes → Has image space (tight.holds.map j) bytes

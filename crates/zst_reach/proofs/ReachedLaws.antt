@@ -52,7 +52,7 @@ AreMarked-over image end marks (suc level) ptr node some own block below = λ se
     over_suc image end marks level ptr node own block (λ k less. rw same_level at (below k less)) is.found sector is.reached is.is_of under
 
 -- what is reached below a child is reached below the node
-reach_suc : (has : Blocks) (level : ℕ) (ptr : Ptr) (node : List ℕ) (k sector : ℕ) → is_flat ptr ≡ false → has ptr node → k < 128 → ReachesSector has level (child node k) sector → ReachesSector has (suc level) ptr sector
+pub reach_suc : (has : Blocks) (level : ℕ) (ptr : Ptr) (node : List ℕ) (k sector : ℕ) → is_flat ptr ≡ false → has ptr node → k < 128 → ReachesSector has level (child node k) sector → ReachesSector has (suc level) ptr sector
 unfolding ReachesBlock
 reach_suc has level ptr node k sector inner there less is = record { found = is.found; reached = (inner, inr (node, there, k, less, is.reached)); is_of = is.is_of }
 

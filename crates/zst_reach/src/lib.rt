@@ -10,7 +10,10 @@ mod sets;
 mod texts;
 mod trees;
 
-pub use laws::{unreached_sectors_may_be_free, unreached_sectors_of_texts_may_be_free};
+pub use laws::{
+    unreached_sectors_may_be_free, unreached_sectors_may_change,
+    unreached_sectors_of_texts_may_be_free,
+};
 pub use sets::mark_set;
 pub use texts::mark_text;
 pub use trees::mark_below;
