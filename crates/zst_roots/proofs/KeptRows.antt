@@ -1,4 +1,4 @@
--- What rows stand for they stand for over all free sectors that they don't reach.
+-- What rows stand for they stand for where sectors become free that they don't reach.
 use Rattle.std.proofs.Common.{inl, inr, ℕ, List, [], ◌∷◌, Option, Some, None}
 use Rattle.std.specs.List.{All, Contains}
 use Rattle.std.proofs.lemmas.List.Elements.{All-cons, All-nil, Contains-append_left, Contains-append_right, Contains-push}
@@ -11,9 +11,9 @@ use Rattle.zst_list.specs.Spelling.{list_bytes}
 use Rattle.zst_model.specs.pools.Pool.{Pool}
 use Rattle.zst_model.specs.states.DatedState.{DatedState}
 use Rattle.zst_reach.specs.ReachedSets.{ReachesInSet}
-use Rattle.zst_reach.proofs.KeptSets.{SetHolds-kept, SetIsTight-kept}
+use Rattle.zst_reach.proofs.KeptSets.{FreeBefore, SetHolds-kept, SetIsTight-kept}
 use Rattle.zst_reach.proofs.KeptTexts.{HasList-kept}
-use Rattle.zst_space.specs.FreeSectors.{FreeSectors, IsFree}
+use Rattle.zst_space.specs.FreeSectors.{FreeSectors}
 use Rattle.zst_tree.specs.Indices.{Blocks}
 use Rattle.zst_tree.specs.declared.tree.ObjSet.{ObjSet}
 use Rattle.zst_roots.specs.ReachedRows.{RowsReach}
@@ -35,28 +35,28 @@ Match-rows Is P gives (x ∷ xs) [] is = absurd is
 Match-rows Is P gives (x ∷ xs) (y ∷ ys) is = All-cons P x xs (gives x y is.0) (Match-rows Is P gives xs ys is.1)
 
 module _ (image : List ℕ) (space more : FreeSectors) where
-  SetIs-kept : (bound : Option ℕ) (set : ObjSet) (state : DatedState) → ((sector : ℕ) → ReachesInSet (IsBlock image) set sector → IsFree more sector → ⊥) → SetIs bound (Has image space) set state → SetIs bound (Has image more) set state
-  SetIs-kept None set state none is = SetHolds-kept image space more set state none is
-  SetIs-kept (Some number) set state none is = (SetIsTight-kept image space more set state none is.0, is.1)
+  SetIs-kept : (bound : Option ℕ) (set : ObjSet) (state : DatedState) → FreeBefore space more (ReachesInSet (IsBlock image) set) → SetIs bound (Has image space) set state → SetIs bound (Has image more) set state
+  SetIs-kept None set state before is = SetHolds-kept image space more set state before is
+  SetIs-kept (Some number) set state before is = (SetIsTight-kept image space more set state before is.0, is.1)
 
-  pub RunsBy-kept : (bound : Option ℕ) (rows : Rows) (running : Pool) → RunsBy bound (Has image space) rows running → ((sector : ℕ) → RowsReach (IsBlock image) rows sector → IsFree more sector → ⊥) → RunsBy bound (Has image more) rows running
-  RunsBy-kept bound rows running is none = record {
+  pub RunsBy-kept : (bound : Option ℕ) (rows : Rows) (running : Pool) → RunsBy bound (Has image space) rows running → FreeBefore space more (RowsReach (IsBlock image) rows) → RunsBy bound (Has image more) rows running
+  RunsBy-kept bound rows running is before = record {
     datasets = Match-listed (DatasetIs bound (Has image space)) (DatasetIs bound (Has image more)) rows.datasets running.datasets (λ row listed dataset stands. record {
       named = stands.named;
-      head = SetIs-kept bound row.head dataset.head (λ sector reached. none sector (inl (record { row = row; listed = listed; reached = reached }))) stands.head;
+      head = SetIs-kept bound row.head dataset.head (λ sector reached. before sector (inl (record { row = row; listed = listed; reached = reached }))) stands.head;
     }) is.datasets;
     snapshots = Match-listed (SnapshotIs bound (Has image space)) (SnapshotIs bound (Has image more)) rows.snapshots running.snapshots (λ row listed snapshot stands. record {
       named = stands.named;
-      objects = SetIs-kept bound row.objects snapshot.objects (λ sector reached. none sector (inr (inl (record { row = row; listed = listed; reached = reached })))) stands.objects;
+      objects = SetIs-kept bound row.objects snapshot.objects (λ sector reached. before sector (inr (inl (record { row = row; listed = listed; reached = reached })))) stands.objects;
     }) is.snapshots;
     bookmarks = Match-listed (BookmarkIs (Has image space)) (BookmarkIs (Has image more)) rows.bookmarks running.bookmarks (λ row listed bookmark stands. record {
       named = stands.named;
-      list = HasList-kept image space more row.levels row.root row.runs bookmark.runs (λ some sector reached. none sector (inr (inr (inr (record { row = row; listed = listed; reached = (some, reached) }))))) stands.list;
+      list = HasList-kept image space more row.levels row.root row.runs bookmark.runs (λ some sector reached. before sector (inr (inr (inr (record { row = row; listed = listed; reached = (some, reached) }))))) stands.list;
       no_list = stands.no_list;
     }) is.bookmarks;
     partials = Match-listed (PartialIs bound (Has image space)) (PartialIs bound (Has image more)) rows.partials running.partials (λ row listed partial stands. record {
       named = stands.named;
-      objects = SetIs-kept bound row.objects partial.objects (λ sector reached. none sector (inr (inr (inl (record { row = row; listed = listed; reached = reached }))))) stands.objects;
+      objects = SetIs-kept bound row.objects partial.objects (λ sector reached. before sector (inr (inr (inl (record { row = row; listed = listed; reached = reached }))))) stands.objects;
     }) is.partials;
   }
 

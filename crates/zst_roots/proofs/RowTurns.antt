@@ -4,15 +4,16 @@ use Rattle.std.specs.List.{All, Contains}
 use Rattle.std.proofs.lemmas.List.{take_all}
 use Rattle.std.proofs.lemmas.List.Elements.{All-contains, All-more, All-weaker}
 use Rattle.zst_block.specs.declared.fault.BlockFault.{BlockFault}
+use Rattle.zst_block.specs.Blocks.{IsBlock}
 use Rattle.zst_dir.specs.declared.rows.Snapshot.{Snapshot}
 use Rattle.zst_marks.specs.Marks.{MarksMore}
 use Rattle.zst_objset.specs.Damage.{DamageFact, IfDamage}
 use Rattle.zst_objset.proofs.DamageLaws.{IfDamage-weaker}
-use Rattle.zst_reach.specs.ReachedSets.{AllMarked, AreMarkedInSet}
+use Rattle.zst_reach.specs.ReachedSets.{AllMarked, AreMarkedInSet, ReachesInSet}
 use Rattle.zst_reach.proofs.SetWalks.{AllMarked-more}
 use Rattle.zst_tree.specs.declared.tree.ObjSet.{ObjSet}
 use Rattle.zst_roots.specs.ReachedRows.{AreMarkedForSnapshots, IsReachedBySome}
-use Rattle.zst_roots.specs.RowDamage.{IsToldOfSome}
+use Rattle.zst_roots.specs.RowDamage.{IsDamagedIn, IsToldOfSome}
 
 -- the row that is in turn stands at this place
 pub record IsInTurn {Row : Type 0} (rows : List Row) (i : ℕ) (row : Row) : Type 0 where
@@ -36,6 +37,16 @@ known_more image end marks more rows others same up are = subst (λ (list : List
 -- the same over an image that is the same
 pub set_on : (image now : List ℕ) (end : ℕ) (marks : List ℕ) (set : ObjSet) → now ≡ image → AreMarkedInSet image end marks set → AreMarkedInSet now end marks set
 set_on image now end marks set same are = subst (λ (i : List ℕ). AreMarkedInSet i end marks set) (sym same) are
+
+-- what is so of the set that was walked is so of the row's, which it is
+pub set_is : (image : List ℕ) (end : ℕ) (marks : List ℕ) (walked set : ObjSet) → walked ≡ set → AreMarkedInSet image end marks walked → AreMarkedInSet image end marks set
+set_is image end marks walked set is are = subst (λ (s : ObjSet). AreMarkedInSet image end marks s) is are
+
+pub reached_is : (image : List ℕ) (walked set : ObjSet) (sector : ℕ) (old : Type 0) → walked ≡ set → old ⊎ ReachesInSet (IsBlock image) walked sector → old ⊎ ReachesInSet (IsBlock image) set sector
+reached_is image walked set sector old is reached = subst (λ (s : ObjSet). old ⊎ ReachesInSet (IsBlock image) s sector) is reached
+
+pub told_is : (images : List ℕ → Type 0) (size : ℕ) (walked set : ObjSet) (fault : BlockFault) → walked ≡ set → IfDamage fault (IsDamagedIn images size walked) → IfDamage fault (IsDamagedIn images size set)
+told_is images size walked set fault is told = subst (λ (s : ObjSet). IfDamage fault (IsDamagedIn images size s)) is told
 
 module _ {Row : Type 0} (reaches : List ℕ → Row → ℕ → Type 0) (image : List ℕ) (rows : List Row) where
   -- what each of the first rows reaches is marked

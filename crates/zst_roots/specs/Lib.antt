@@ -2,3 +2,4 @@ pub mod ReachedRows
 pub mod StandingRows
 pub mod RowDamage
 pub mod WalkedRows
+pub mod Unreached

@@ -1,4 +1,4 @@
--- Which block a walk of the rows of a directory tells as damaged.
+-- Which block a walk of the rows of a directory and of the texts of a body tells as damaged.
 use Rattle.std.specs.Prelude.{◌⊎◌, ℕ, ◌<◌, List, Contains}
 use Rattle.zst_dir.specs.Rows.{Rows}
 use Rattle.zst_dir.specs.declared.rows.Dataset.{Dataset}
@@ -8,6 +8,7 @@ use Rattle.zst_dir.specs.declared.rows.Partial.{Partial}
 use Rattle.zst_objset.specs.Damage.{DamageFact, IsDamagedObject}
 use Rattle.zst_tree.specs.Damage.{IsDamagedNode, NamesNode}
 use Rattle.zst_tree.specs.declared.tree.ObjSet.{ObjSet}
+use Rattle.zst_uber.specs.declared.uber.Uber.{Uber}
 
 -- damage is told of some row that the list contains, as of rows of its kind
 pub record IsToldOfSome {Row : Type 0} (rows : List Row) (tells : Row → DamageFact) (sector : ℕ) (stated found : List ℕ) : Type 0 where
@@ -41,3 +42,13 @@ module _ (images : List ℕ → Type 0) (size : ℕ) where
       ⊎ (IsToldOfSome rows.snapshots IsDamagedSnapshot sector stated found
       ⊎ (IsToldOfSome rows.partials IsDamagedPartial sector stated found
       ⊎ IsToldOfSome rows.bookmarks IsDamagedList sector stated found))
+
+  -- of the texts of a body: a node above the leaves of its directory or, where it has free extents, of theirs
+  abbrev pub IsDamagedInTexts : Uber → DamageFact
+  IsDamagedInTexts uber sector stated found =
+      IsDamagedNode images size NamesNode uber.dir_levels uber.dir_root sector stated found
+      ⊎ ((0 < uber.free_count) × IsDamagedNode images size NamesNode uber.free_levels uber.free_root sector stated found)
+
+  -- of all that a pool reaches: one of its rows, or of the texts of its body
+  abbrev pub IsDamagedInPool : Uber → Rows → DamageFact
+  IsDamagedInPool uber rows sector stated found = IsDamagedInRows rows sector stated found ⊎ IsDamagedInTexts uber sector stated found

@@ -1,4 +1,4 @@
--- Rows that stand, so that they are walked.
+-- Rows and texts that stand, so that they are walked.
 use Rattle.std.specs.Prelude.{ℕ, ◌<◌, List}
 use Rattle.zst_dir.specs.declared.rows.Dataset.{Dataset}
 use Rattle.zst_dir.specs.declared.rows.Snapshot.{Snapshot}
@@ -9,6 +9,7 @@ use Rattle.zst_model.specs.states.DatedState.{DatedState}
 use Rattle.zst_objset.specs.Sets.{SetHolds}
 use Rattle.zst_tree.specs.Indices.{Blocks}
 use Rattle.zst_tree.specs.declared.tree.ObjSet.{ObjSet}
+use Rattle.zst_uber.specs.declared.uber.Uber.{Uber}
 
 module _ (has : Blocks) where
   -- the set holds some state
@@ -28,3 +29,7 @@ module _ (has : Blocks) where
   -- where a bookmark's list has runs, some text stands in its leaves
   abbrev pub ListStands : Bookmark → Type 0
   ListStands row = 0 < row.runs → (text : List ℕ) × HasLeaves has row.levels row.root text
+
+  -- some text stands in the leaves of a body's directory, and one in those of its free extents where it has any
+  abbrev pub TextsStand : Uber → Type 0
+  TextsStand uber = ((text : List ℕ) × HasLeaves has uber.dir_levels uber.dir_root text) × (0 < uber.free_count → (text : List ℕ) × HasLeaves has uber.free_levels uber.free_root text)

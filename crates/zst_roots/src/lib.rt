@@ -1,14 +1,17 @@
-//! What the rows of a pool's directory reach: the object sets of heads, snapshots and partial states, and the lists of bookmarks.
+//! What the rows of a pool's directory reach: the object sets of heads, snapshots and partial states, and the lists of bookmarks;
+//! and what nothing reaches.
 #![tactic(auto)]
 
-mod heads;
 mod laws;
 mod lists;
 mod nearest;
-mod partials;
 mod rows;
+mod set_rows;
 mod snapshots;
+mod texts;
 mod turns;
+mod unreached;
 
-pub use laws::rows_stand_over_what_is_unreached;
+pub use laws::{rows_reach_the_same_whatever_is_unreached, rows_stand_over_what_is_unreached};
 pub use rows::mark_rows;
+pub use unreached::{UnreachedSectors, find_unreached};

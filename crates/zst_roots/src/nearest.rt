@@ -8,11 +8,12 @@ use zst_dir::{Dataset, Dir, Partial, Snapshot};
 use zst_names::DatasetName;
 use zst_tree::ObjSet;
 
-// The place of the last snapshot of a dataset.
+// The place of the last snapshot of a dataset: those of one dataset stand together, in the order of names.
 fn last_of(dir: &Dir, dataset: &DatasetName) -> Option<usize> {
-    dir.snapshots()
-        .iter()
-        .rposition(|row| row.name.dataset() == *dataset)
+    let rows = dir.snapshots();
+    let past = rows.partition_point(|row| row.name.dataset() <= *dataset);
+    let place = past.checked_sub(1)?;
+    (rows.get(place)?.name.dataset() == *dataset).then_some(place)
 }
 
 // The place of the snapshot that a dataset is a clone of.

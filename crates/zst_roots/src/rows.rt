@@ -13,13 +13,12 @@ ghost use Rattle.zst_tree.specs.Indices.{IsNoDamage};
 ghost use Rattle.zst_roots.specs.ReachedRows.{AreMarkedForRows, RowsReach};
 ghost use Rattle.zst_roots.specs.RowDamage.{IsDamagedInRows};
 
-use crate::heads::mark_heads;
 use crate::lists::mark_lists;
-use crate::partials::mark_partials;
+use crate::set_rows::mark_sets;
 use crate::snapshots::mark_snapshots;
 use std::alloc::Global;
 use zst_block::{BlockFault, Io};
-use zst_dir::Dir;
+use zst_dir::{Dataset, Dir, Partial};
 use zst_marks::Marks;
 use zst_outside::Disk;
 use zst_tree::OrMemory;
@@ -46,8 +45,8 @@ pub fn mark_rows<D: Disk>(
     ensures looks { Looks (io_of io.old) (io_of io.new) (fault_of result) }
 {
     mark_snapshots(io, alloc, marks, end, dir)?;
-    mark_heads(io, marks, end, dir)?;
-    mark_partials(io, marks, end, dir)?;
+    mark_sets::<D, Dataset>(io, marks, end, dir)?;
+    mark_sets::<D, Partial>(io, marks, end, dir)?;
     mark_lists(io, marks, end, dir)?;
     Ok(())
 }

@@ -43,88 +43,88 @@ returns-in_err-mark_snapshots-clause-looks g c =
     let p = err_from_is_err_and c.from_residual.result c.from_residual.ensures.1 in
     rw (p.1, p.2) (s0.looks)
 
-pub returns-in_err-mark_heads-clause-only : goal.returns-in_err-mark_heads-clause-only
-returns-in_err-mark_heads-clause-only g c = λ honest sector marked.
+pub returns-in_err-mark_sets-clause-only : goal.returns-in_err-mark_sets-clause-only
+returns-in_err-mark_sets-clause-only g c = λ honest sector marked.
     let s0 = c.in_ok-mark_snapshots.ensures in
-    let s1 = c.in_err-mark_heads.ensures in
+    let s1 = c.in_err-mark_sets.ensures in
     let image = (disk_of c.args.io.now).seen in
     let rows = c.args.dir.now in
     only_heads image rows sector _ _ _ _ (s0.looks.reads.seen) (only_snapshots image rows sector _ _ (s0.only (s1.looks.reads.honest honest) sector)) (s1.only honest sector) marked
 
-pub returns-in_err-mark_heads-clause-more : goal.returns-in_err-mark_heads-clause-more
-returns-in_err-mark_heads-clause-more g c =
+pub returns-in_err-mark_sets-clause-more : goal.returns-in_err-mark_sets-clause-more
+returns-in_err-mark_sets-clause-more g c =
     let s0 = c.in_ok-mark_snapshots.ensures in
-    let s1 = c.in_err-mark_heads.ensures in
+    let s1 = c.in_err-mark_sets.ensures in
     MarksMore-then _ _ _ s0.more s1.more
 
-pub returns-in_err-mark_heads-clause-there : goal.returns-in_err-mark_heads-clause-there
-returns-in_err-mark_heads-clause-there g c = λ bound running honest runs.
+pub returns-in_err-mark_sets-clause-there : goal.returns-in_err-mark_sets-clause-there
+returns-in_err-mark_sets-clause-there g c = λ bound running honest runs.
     let s0 = c.in_ok-mark_snapshots.ensures in
-    let s1 = c.in_err-mark_heads.ensures in
+    let s1 = c.in_err-mark_sets.ensures in
     let there = there_after s0.looks (λ (seen : List ℕ) (space : FreeSectors). All (HeadStands (Has seen space)) c.args.dir.now.datasets) (heads_stand bound _ c.args.dir.now running runs) in
-    let p = err_from_is_err_and c.from_residual-in_err-mark_heads.result c.from_residual-in_err-mark_heads.ensures.1 in
+    let p = err_from_is_err_and c.from_residual-in_err-mark_sets.result c.from_residual-in_err-mark_sets.ensures.1 in
     rw (p.1, p.2) (s1.stands honest there)
 
-pub returns-in_err-mark_heads-clause-damaged : goal.returns-in_err-mark_heads-clause-damaged
-returns-in_err-mark_heads-clause-damaged g c = λ honest.
+pub returns-in_err-mark_sets-clause-damaged : goal.returns-in_err-mark_sets-clause-damaged
+returns-in_err-mark_sets-clause-damaged g c = λ honest.
     let s0 = c.in_ok-mark_snapshots.ensures in
-    let s1 = c.in_err-mark_heads.ensures in
-    let p = err_from_is_err_and c.from_residual-in_err-mark_heads.result c.from_residual-in_err-mark_heads.ensures.1 in
-    rw (p.1, p.2) (head_told (disk_of c.args.io.now).seen (disk_of c.args.io.now).size c.args.dir.now _ _ c.in_err-mark_heads.field-0.0 (s0.looks.reads.seen) (s0.looks.reads.size) (s1.damaged honest))
+    let s1 = c.in_err-mark_sets.ensures in
+    let p = err_from_is_err_and c.from_residual-in_err-mark_sets.result c.from_residual-in_err-mark_sets.ensures.1 in
+    rw (p.1, p.2) (head_told (disk_of c.args.io.now).seen (disk_of c.args.io.now).size c.args.dir.now _ _ c.in_err-mark_sets.field-0.0 (s0.looks.reads.seen) (s0.looks.reads.size) (s1.damaged honest))
 
-pub returns-in_err-mark_heads-clause-looks : goal.returns-in_err-mark_heads-clause-looks
-returns-in_err-mark_heads-clause-looks g c =
+pub returns-in_err-mark_sets-clause-looks : goal.returns-in_err-mark_sets-clause-looks
+returns-in_err-mark_sets-clause-looks g c =
     let s0 = c.in_ok-mark_snapshots.ensures in
-    let s1 = c.in_err-mark_heads.ensures in
-    let p = err_from_is_err_and c.from_residual-in_err-mark_heads.result c.from_residual-in_err-mark_heads.ensures.1 in
+    let s1 = c.in_err-mark_sets.ensures in
+    let p = err_from_is_err_and c.from_residual-in_err-mark_sets.result c.from_residual-in_err-mark_sets.ensures.1 in
     rw (p.1, p.2) (Looks-then s0.looks s1.looks)
 
-pub returns-in_err-mark_partials-clause-only : goal.returns-in_err-mark_partials-clause-only
-returns-in_err-mark_partials-clause-only g c = λ honest sector marked.
+pub returns-in_err-mark_sets-2-clause-only : goal.returns-in_err-mark_sets-2-clause-only
+returns-in_err-mark_sets-2-clause-only g c = λ honest sector marked.
     let s0 = c.in_ok-mark_snapshots.ensures in
-    let s1 = c.in_ok-mark_heads.ensures in
-    let s2 = c.in_err-mark_partials.ensures in
+    let s1 = c.in_ok-mark_sets.ensures in
+    let s2 = c.in_err-mark_sets-2.ensures in
     let image = (disk_of c.args.io.now).seen in
     let rows = c.args.dir.now in
     only_partials image rows sector _ _ _ _ (s1.looks.reads.seen ∙ s0.looks.reads.seen) (only_heads image rows sector _ _ _ _ (s0.looks.reads.seen) (only_snapshots image rows sector _ _ (s0.only (s1.looks.reads.honest (s2.looks.reads.honest honest)) sector)) (s1.only (s2.looks.reads.honest honest) sector)) (s2.only honest sector) marked
 
-pub returns-in_err-mark_partials-clause-more : goal.returns-in_err-mark_partials-clause-more
-returns-in_err-mark_partials-clause-more g c =
+pub returns-in_err-mark_sets-2-clause-more : goal.returns-in_err-mark_sets-2-clause-more
+returns-in_err-mark_sets-2-clause-more g c =
     let s0 = c.in_ok-mark_snapshots.ensures in
-    let s1 = c.in_ok-mark_heads.ensures in
-    let s2 = c.in_err-mark_partials.ensures in
+    let s1 = c.in_ok-mark_sets.ensures in
+    let s2 = c.in_err-mark_sets-2.ensures in
     MarksMore-then _ _ _ (MarksMore-then _ _ _ s0.more s1.more) s2.more
 
-pub returns-in_err-mark_partials-clause-there : goal.returns-in_err-mark_partials-clause-there
-returns-in_err-mark_partials-clause-there g c = λ bound running honest runs.
+pub returns-in_err-mark_sets-2-clause-there : goal.returns-in_err-mark_sets-2-clause-there
+returns-in_err-mark_sets-2-clause-there g c = λ bound running honest runs.
     let s0 = c.in_ok-mark_snapshots.ensures in
-    let s1 = c.in_ok-mark_heads.ensures in
-    let s2 = c.in_err-mark_partials.ensures in
+    let s1 = c.in_ok-mark_sets.ensures in
+    let s2 = c.in_err-mark_sets-2.ensures in
     let there = there_after (Looks-then s0.looks s1.looks) (λ (seen : List ℕ) (space : FreeSectors). All (PartialStands (Has seen space)) c.args.dir.now.partials) (partials_stand bound _ c.args.dir.now running runs) in
-    let p = err_from_is_err_and c.from_residual-in_err-mark_partials.result c.from_residual-in_err-mark_partials.ensures.1 in
+    let p = err_from_is_err_and c.from_residual-in_err-mark_sets-2.result c.from_residual-in_err-mark_sets-2.ensures.1 in
     rw (p.1, p.2) (s2.stands honest there)
 
-pub returns-in_err-mark_partials-clause-damaged : goal.returns-in_err-mark_partials-clause-damaged
-returns-in_err-mark_partials-clause-damaged g c = λ honest.
+pub returns-in_err-mark_sets-2-clause-damaged : goal.returns-in_err-mark_sets-2-clause-damaged
+returns-in_err-mark_sets-2-clause-damaged g c = λ honest.
     let s0 = c.in_ok-mark_snapshots.ensures in
-    let s1 = c.in_ok-mark_heads.ensures in
-    let s2 = c.in_err-mark_partials.ensures in
-    let p = err_from_is_err_and c.from_residual-in_err-mark_partials.result c.from_residual-in_err-mark_partials.ensures.1 in
-    rw (p.1, p.2) (partial_told (disk_of c.args.io.now).seen (disk_of c.args.io.now).size c.args.dir.now _ _ c.in_err-mark_partials.field-0.0 (s1.looks.reads.seen ∙ s0.looks.reads.seen) (s1.looks.reads.size ∙ s0.looks.reads.size) (s2.damaged honest))
+    let s1 = c.in_ok-mark_sets.ensures in
+    let s2 = c.in_err-mark_sets-2.ensures in
+    let p = err_from_is_err_and c.from_residual-in_err-mark_sets-2.result c.from_residual-in_err-mark_sets-2.ensures.1 in
+    rw (p.1, p.2) (partial_told (disk_of c.args.io.now).seen (disk_of c.args.io.now).size c.args.dir.now _ _ c.in_err-mark_sets-2.field-0.0 (s1.looks.reads.seen ∙ s0.looks.reads.seen) (s1.looks.reads.size ∙ s0.looks.reads.size) (s2.damaged honest))
 
-pub returns-in_err-mark_partials-clause-looks : goal.returns-in_err-mark_partials-clause-looks
-returns-in_err-mark_partials-clause-looks g c =
+pub returns-in_err-mark_sets-2-clause-looks : goal.returns-in_err-mark_sets-2-clause-looks
+returns-in_err-mark_sets-2-clause-looks g c =
     let s0 = c.in_ok-mark_snapshots.ensures in
-    let s1 = c.in_ok-mark_heads.ensures in
-    let s2 = c.in_err-mark_partials.ensures in
-    let p = err_from_is_err_and c.from_residual-in_err-mark_partials.result c.from_residual-in_err-mark_partials.ensures.1 in
+    let s1 = c.in_ok-mark_sets.ensures in
+    let s2 = c.in_err-mark_sets-2.ensures in
+    let p = err_from_is_err_and c.from_residual-in_err-mark_sets-2.result c.from_residual-in_err-mark_sets-2.ensures.1 in
     rw (p.1, p.2) (Looks-then s0.looks (Looks-then s1.looks s2.looks))
 
 pub returns-in_err-mark_lists-clause-only : goal.returns-in_err-mark_lists-clause-only
 returns-in_err-mark_lists-clause-only g c = λ honest sector marked.
     let s0 = c.in_ok-mark_snapshots.ensures in
-    let s1 = c.in_ok-mark_heads.ensures in
-    let s2 = c.in_ok-mark_partials.ensures in
+    let s1 = c.in_ok-mark_sets.ensures in
+    let s2 = c.in_ok-mark_sets-2.ensures in
     let s3 = c.in_err-mark_lists.ensures in
     let image = (disk_of c.args.io.now).seen in
     let rows = c.args.dir.now in
@@ -133,16 +133,16 @@ returns-in_err-mark_lists-clause-only g c = λ honest sector marked.
 pub returns-in_err-mark_lists-clause-more : goal.returns-in_err-mark_lists-clause-more
 returns-in_err-mark_lists-clause-more g c =
     let s0 = c.in_ok-mark_snapshots.ensures in
-    let s1 = c.in_ok-mark_heads.ensures in
-    let s2 = c.in_ok-mark_partials.ensures in
+    let s1 = c.in_ok-mark_sets.ensures in
+    let s2 = c.in_ok-mark_sets-2.ensures in
     let s3 = c.in_err-mark_lists.ensures in
     MarksMore-then _ _ _ (MarksMore-then _ _ _ (MarksMore-then _ _ _ s0.more s1.more) s2.more) s3.more
 
 pub returns-in_err-mark_lists-clause-there : goal.returns-in_err-mark_lists-clause-there
 returns-in_err-mark_lists-clause-there g c = λ bound running honest runs.
     let s0 = c.in_ok-mark_snapshots.ensures in
-    let s1 = c.in_ok-mark_heads.ensures in
-    let s2 = c.in_ok-mark_partials.ensures in
+    let s1 = c.in_ok-mark_sets.ensures in
+    let s2 = c.in_ok-mark_sets-2.ensures in
     let s3 = c.in_err-mark_lists.ensures in
     let there = there_after (Looks-then s0.looks (Looks-then s1.looks s2.looks)) (λ (seen : List ℕ) (space : FreeSectors). All (ListStands (Has seen space)) c.args.dir.now.bookmarks) (lists_stand bound _ c.args.dir.now running runs) in
     let p = err_from_is_err_and c.from_residual-in_err-mark_lists.result c.from_residual-in_err-mark_lists.ensures.1 in
@@ -151,8 +151,8 @@ returns-in_err-mark_lists-clause-there g c = λ bound running honest runs.
 pub returns-in_err-mark_lists-clause-damaged : goal.returns-in_err-mark_lists-clause-damaged
 returns-in_err-mark_lists-clause-damaged g c = λ honest.
     let s0 = c.in_ok-mark_snapshots.ensures in
-    let s1 = c.in_ok-mark_heads.ensures in
-    let s2 = c.in_ok-mark_partials.ensures in
+    let s1 = c.in_ok-mark_sets.ensures in
+    let s2 = c.in_ok-mark_sets-2.ensures in
     let s3 = c.in_err-mark_lists.ensures in
     let p = err_from_is_err_and c.from_residual-in_err-mark_lists.result c.from_residual-in_err-mark_lists.ensures.1 in
     rw (p.1, p.2) (list_told (disk_of c.args.io.now).seen (disk_of c.args.io.now).size c.args.dir.now _ _ c.in_err-mark_lists.field-0.0 (s2.looks.reads.seen ∙ s1.looks.reads.seen ∙ s0.looks.reads.seen) (s2.looks.reads.size ∙ s1.looks.reads.size ∙ s0.looks.reads.size) (s3.damaged honest))
@@ -160,8 +160,8 @@ returns-in_err-mark_lists-clause-damaged g c = λ honest.
 pub returns-in_err-mark_lists-clause-looks : goal.returns-in_err-mark_lists-clause-looks
 returns-in_err-mark_lists-clause-looks g c =
     let s0 = c.in_ok-mark_snapshots.ensures in
-    let s1 = c.in_ok-mark_heads.ensures in
-    let s2 = c.in_ok-mark_partials.ensures in
+    let s1 = c.in_ok-mark_sets.ensures in
+    let s2 = c.in_ok-mark_sets-2.ensures in
     let s3 = c.in_err-mark_lists.ensures in
     let p = err_from_is_err_and c.from_residual-in_err-mark_lists.result c.from_residual-in_err-mark_lists.ensures.1 in
     rw (p.1, p.2) (Looks-then s0.looks (Looks-then s1.looks (Looks-then s2.looks s3.looks)))
@@ -169,8 +169,8 @@ returns-in_err-mark_lists-clause-looks g c =
 pub returns-clause-all : goal.returns-clause-all
 returns-clause-all g c = λ honest.
     let s0 = c.in_ok-mark_snapshots.ensures in
-    let s1 = c.in_ok-mark_heads.ensures in
-    let s2 = c.in_ok-mark_partials.ensures in
+    let s1 = c.in_ok-mark_sets.ensures in
+    let s2 = c.in_ok-mark_sets-2.ensures in
     let s3 = c.in_ok-mark_lists.ensures in
     let image = (disk_of c.args.io.now).seen in
     let rows = c.args.dir.now in
@@ -187,8 +187,8 @@ returns-clause-all g c = λ honest.
 pub returns-clause-only : goal.returns-clause-only
 returns-clause-only g c = λ honest sector marked.
     let s0 = c.in_ok-mark_snapshots.ensures in
-    let s1 = c.in_ok-mark_heads.ensures in
-    let s2 = c.in_ok-mark_partials.ensures in
+    let s1 = c.in_ok-mark_sets.ensures in
+    let s2 = c.in_ok-mark_sets-2.ensures in
     let s3 = c.in_ok-mark_lists.ensures in
     let image = (disk_of c.args.io.now).seen in
     let rows = c.args.dir.now in
@@ -197,15 +197,15 @@ returns-clause-only g c = λ honest sector marked.
 pub returns-clause-more : goal.returns-clause-more
 returns-clause-more g c =
     let s0 = c.in_ok-mark_snapshots.ensures in
-    let s1 = c.in_ok-mark_heads.ensures in
-    let s2 = c.in_ok-mark_partials.ensures in
+    let s1 = c.in_ok-mark_sets.ensures in
+    let s2 = c.in_ok-mark_sets-2.ensures in
     let s3 = c.in_ok-mark_lists.ensures in
     MarksMore-then _ _ _ (MarksMore-then _ _ _ (MarksMore-then _ _ _ s0.more s1.more) s2.more) s3.more
 
 pub returns-clause-looks : goal.returns-clause-looks
 returns-clause-looks g c =
     let s0 = c.in_ok-mark_snapshots.ensures in
-    let s1 = c.in_ok-mark_heads.ensures in
-    let s2 = c.in_ok-mark_partials.ensures in
+    let s1 = c.in_ok-mark_sets.ensures in
+    let s2 = c.in_ok-mark_sets-2.ensures in
     let s3 = c.in_ok-mark_lists.ensures in
     Looks-then s0.looks (Looks-then s1.looks (Looks-then s2.looks s3.looks))
