@@ -1,18 +1,19 @@
 -- How a commit follows on what was written before it, and what an image then reads as.
 use Rattle.std.specs.Prelude.{Result, Ok, Err, Option, Some}
-use Rattle.std.proofs.Common.{◌≡◌, ◌⊎◌, inl, inr, ⊎_elim, ℕ, ◌+◌, List, length, sym, ◌∙◌, ap, subst, arith, Bool}
+use Rattle.std.proofs.Common.{◌≡◌, ◌⊎◌, inl, inr, ⊎_elim, ℕ, ◌+◌, List, length, sym, ◌∙◌, ap, subst, arith, ◌||◌, Bool, true, false}
 use Rattle.zst_outside.specs.Images.{DiskState, Leaves, WritesIn, IsSynced, Leaves-weaker, Leaves-then}
 use Rattle.zst_outside.specs.Ranges.{Torn}
 use Rattle.zst_space.specs.FreeSectors.{FreeSectors, IsFree}
 use Rattle.zst_space.proofs.FreeSectorsLaws.{Rise-end}
-use Rattle.zst_block.specs.Blocks.{Has, IsTaken, FitsDisk, FillsFree, SparesTaken, Spared}
-use Rattle.zst_block.proofs.BlocksLaws.{Has-spared, Has-label, SparesTaken-fewer, FillsFree-then, KeepsBlocks-fills}
+use Rattle.zst_block.specs.Blocks.{Has, IsTaken, FitsDisk, FillsFree, KeepsBlocks, SparesTaken, Spared}
+use Rattle.zst_block.proofs.BlocksLaws.{Has-spared, Has-label, SparesTaken-fewer, FillsFree-then}
 use Rattle.zst_uber.proofs.BodyLaws.{uber_at-body_bytes}
 use Rattle.zst_uber.specs.Body.{UberFits, InRange, body_bytes, uber_at}
 use Rattle.zst_uber.specs.OpenAnswers.{IsLatest}
 use Rattle.zst_uber.specs.declared.uber.Uber.{Uber}
 use Rattle.zst_uber.specs.Slots.{Stands, latest, IsNext}
-use Rattle.zst_uber.specs.Commit.{HasOldOrNew}
+use Rattle.zst_uber.specs.Commit.{CommitsBody, HasOldOrNew}
+use Rattle.zst_marks.specs.Marks.{Apart}
 use Rattle.zst_model.specs.pools.Pool.{Pool}
 use Rattle.zst_tree.specs.Indices.{Blocks}
 use Rattle.zst_dir.specs.Rows.{Rows}
@@ -136,14 +137,13 @@ next_in_range has size body next left guids rows is sectors in_range fits =
       free_root = free.0;
     }
 
--- what is written before the body of the next commit is what it describes
+-- what is written before the body of the next commit is what it describes: the rows stood over the blocks of the image from before, and these are kept
 pub prepared : {tight : Bool} (old mid : DiskState) (space less : FreeSectors) (body next : Body) (guids : ℕ) (rows : Rows) (pool : Pool) → IsNextBody (Has mid.seen less) less body guids rows next → less.sectors ≡ body.uber.sectors
-    → InRange old.size body.uber → FillsFree old space mid less → FitsDisk mid.size less → length mid.seen ≡ mid.size → UberFits next.uber
+    → InRange mid.size body.uber → KeepsBlocks old.seen space mid.seen less → FitsDisk mid.size less → length mid.seen ≡ mid.size → UberFits next.uber
     → NextIs tight (Has old.seen space) body guids rows pool → IsPrepared tight next rows pool mid.seen
-prepared {tight = tight} old mid space less body next guids rows pool next_is sectors in_range fills fits long next_fits is = record {
+prepared {tight = tight} old mid space less body next guids rows pool next_is sectors in_range keeps fits long next_fits is = record {
   fits = next_fits;
-  in_range = subst (λ (size : ℕ). InRange size next.uber) (sym long)
-      (next_in_range (Has mid.seen less) mid.size body next less guids rows next_is sectors (subst (λ (size : ℕ). InRange size body.uber) (sym fills.size) in_range) fits);
+  in_range = subst (λ (size : ℕ). InRange size next.uber) (sym long) (next_in_range (Has mid.seen less) mid.size body next less guids rows next_is sectors in_range fits);
   described = subst (λ (s : FreeSectors). Describes tight next rows pool (Has mid.seen s)) (sym (free_by-next (Has mid.seen less) less body next guids rows next_is sectors)) (record {
     id = is.id ∙ sym next_is.id;
     number = is.number ∙ sym next_is.number;
@@ -151,7 +151,7 @@ prepared {tight = tight} old mid space less body next guids rows pool next_is se
     extents = next_is.extents;
     apart = next_is.apart;
     directory = next_is.directory;
-    rows_are = RunsBy-grows old.seen space mid.seen less (KeepsBlocks-fills old mid space less fills) (kept_rows rows) pool is.rows_are;
+    rows_are = RunsBy-grows old.seen space mid.seen less keeps (kept_rows rows) pool is.rows_are;
     lawful = is.lawful;
   });
 }
@@ -209,10 +209,25 @@ Ready-fills old new space less body label fills ready = record {
 }
 
 -- where the body of a commit stands, no other is read as the latest
-pub only_latest : (size : ℕ) (next found : Uber) (image : List ℕ) → UberFits next → Stands next image → IsLatest size found image → found ≡ next
+only_latest : (size : ℕ) (next found : Uber) (image : List ℕ) → UberFits next → Stands next image → IsLatest size found image → found ≡ next
 only_latest size next found image fits stands is =
     let same : body_bytes found ≡ body_bytes next = some_same (sym is.stands ∙ stands) in
     sym (uber_at-body_bytes found is.fits) ∙ ap uber_at same ∙ uber_at-body_bytes next fits
   where
     some_same : {a b : List ℕ} → (let one : Option (List ℕ) = Some a in one) ≡ Some b → a ≡ b
     some_same is = cc
+
+-- once the next body is the latest, the disk is ready for the one behind it
+pub Ready-committed : (mid new : DiskState) (next : Body) (uber : Uber) (done : Unit {0}) → uber ≡ next.uber → InRange new.size next.uber → Apart 8 next.free next.uber.end → CommitsBody uber mid new (Ok done) → Ready new next
+Ready-committed mid new next uber done same in_range apart event = record {
+  in_range = in_range;
+  apart = apart;
+  next = λ told. subst (λ (u : Uber). IsNext (u.number + 1) (latest new.seen)) same (event.following told);
+  label = λ told. event.label;
+  only = λ told found one. subst (λ (u : Uber). found ≡ u) same (only_latest new.size uber found new.seen event.written.fits (event.written.stands told) one);
+}
+
+-- a disk that failed isn't sound
+pub never_sound : (now before : Bool) → now ≡ (before || true) → now ≡ false → ⊥
+never_sound now true is sound = let both : true ≡ false = sym is ∙ sound in cc both
+never_sound now false is sound = let both : true ≡ false = sym is ∙ sound in cc both

@@ -1,15 +1,12 @@
 -- How many sectors a commit takes.
 use Rattle.std.specs.Prelude.{Some, Err}
-use Rattle.std.proofs.Common.{◌≡◌, ℕ, ◌+◌, ◌-◌, ◌*◌, ◌/◌, ◌≤◌, nat_le, Bool, true, false, if◌then◌else◌, List, [], length, ⊎_elim, refl, ap, arith}
-use Rattle.std.proofs.lemmas.Bool.Decides.{nat_tests}
+use Rattle.std.proofs.Common.{◌≡◌, ℕ, ◌+◌, ◌-◌, ◌≤◌, List, [], length, ⊎_elim, ap, arith}
 use Rattle.zst_space.specs.declared.space.Extent.{Extent}
 use Rattle.zst_space.specs.FreeSectors.{FreeSectors, room, total}
 use Rattle.zst_block.specs.IoCalls.{IsBlockLength, IsFull, TakesAtMost}
 use Rattle.zst_block.specs.declared.fault.BlockFault.TheVariants as blocks
 use Rattle.zst_dir.specs.Rows.{Rows}
 use Rattle.zst_dir.specs.Spelling.{dir_bytes}
-use Rattle.zst_leaves.specs.Leaves.{leaves_for}
-use Rattle.zst_extents.specs.StoredExtents.{extent_blocks, tree_blocks}
 use Rattle.zst_image.specs.Commits.{IsDirFull, TakesForDir, commit_sectors}
 use Rattle.zst_image.specs.Faults.{stop_of_commit}
 use Rattle.zst_image.specs.declared.commit_fault.CommitFault.{CommitFault}
@@ -40,37 +37,3 @@ takes-refused rows old new (Full need largest) takes full = record {
 }
 takes-refused rows old new DiskFault takes full = record { takes = takes; one_leaf = λ none small. tt; full = λ n l is. absurd (cc) }
 takes-refused rows old new OutOfMemory takes full = record { takes = takes; one_leaf = λ none small. tt; full = λ n l is. absurd (cc) }
-
--- a tree of more leaves has no fewer blocks
-trees_more : (few many : ℕ) → few ≤ many → tree_blocks few ≤ tree_blocks many
-trees_more few many le = go (nat_le few 1) refl (nat_le few 128) refl (nat_le few 16384) refl (nat_le many 1) refl (nat_le many 128) refl (nat_le many 16384) refl
-  where
-    blocks : (one some most : Bool) → ℕ → ℕ
-    blocks one some most leaves =
-        if one then leaves else
-        (if some then leaves + 1 else
-        (if most then leaves + (leaves + 127) / 128 + 1 else
-        leaves + (leaves + 127) / 128 + (leaves + 16383) / 16384 + 1))
-
-    go : (a : Bool) → nat_le few 1 ≡ a → (b : Bool) → nat_le few 128 ≡ b → (c : Bool) → nat_le few 16384 ≡ c
-        → (d : Bool) → nat_le many 1 ≡ d → (e : Bool) → nat_le many 128 ≡ e → (f : Bool) → nat_le many 16384 ≡ f → blocks a b c few ≤ blocks d e f many
-    go true ia b ib c ic true id e ie f if_ = omega (arith, le)
-    go true ia b ib c ic false id true ie f if_ = omega (arith, le)
-    go true ia b ib c ic false id false ie true if_ = omega (arith, le)
-    go true ia b ib c ic false id false ie false if_ = omega (arith, le)
-    go false ia true ib c ic true id e ie f if_ = grind (arith, nat_tests)
-    go false ia true ib c ic false id true ie f if_ = omega (arith, le)
-    go false ia true ib c ic false id false ie true if_ = omega (arith, le)
-    go false ia true ib c ic false id false ie false if_ = omega (arith, le)
-    go false ia false ib true ic true id e ie f if_ = grind (arith, nat_tests)
-    go false ia false ib true ic false id true ie f if_ = grind (arith, nat_tests)
-    go false ia false ib true ic false id false ie true if_ = omega (arith, le)
-    go false ia false ib true ic false id false ie false if_ = omega (arith, le)
-    go false ia false ib false ic true id e ie f if_ = grind (arith, nat_tests)
-    go false ia false ib false ic false id true ie f if_ = grind (arith, nat_tests)
-    go false ia false ib false ic false id false ie true if_ = grind (arith, nat_tests)
-    go false ia false ib false ic false id false ie false if_ = omega (arith, le)
-
--- more extents take no fewer blocks
-pub more_blocks : (few many : ℕ) → few ≤ many → extent_blocks few ≤ extent_blocks many
-more_blocks few many le = trees_more (leaves_for (16 * few)) (leaves_for (16 * many)) (omega (arith, le))

@@ -10,3 +10,4 @@ pub mod OpenAnswers
 pub mod PlainReads
 pub mod SettledLabels
 pub mod CommitSectors
+pub mod FreedSectors

@@ -1,5 +1,5 @@
 // The commit of a directory: the one commit of an event.
-ghost use Rattle.std.specs.Prelude.{◌≡◌, ◌+◌, ◌*◌, ◌<◌, ◌≤◌, ◌^◌, Bool, [], false, length, IfOk, OnOk};
+ghost use Rattle.std.specs.Prelude.{◌≡◌, ◌+◌, ◌*◌, ◌<◌, ◌≤◌, ◌^◌, Bool, [], false, length, Err, IfErr, IfOk, OnOk};
 ghost use Rattle.zst_space.specs.FreeSectors.{room};
 ghost use Rattle.zst_marks.specs.Marks.{Apart};
 ghost use Rattle.zst_block.specs.Blocks.{FillsFree};
@@ -8,12 +8,15 @@ ghost use Rattle.zst_block.specs.IoCalls.{Works, fails};
 ghost use Rattle.zst_uber.specs.DiskCalls.{HasDiskCause};
 ghost use Rattle.zst_model.specs.pools.Pool.{Pool};
 ghost use Rattle.zst_dir.specs.Rows.{Rows};
-ghost use Rattle.zst_dir.specs.Spelling.{dir_bytes};
-ghost use Rattle.zst_leaves.specs.Leaves.{HasLeaves};
+ghost use Rattle.zst_dir.specs.Spelling.{IsDir, dir_bytes};
+ghost use Rattle.zst_leaves.specs.Leaves.{TellsNone};
+ghost use Rattle.zst_leaves.specs.WrittenLeaves.{WritesLeaves};
+ghost use Rattle.zst_tree.specs.Faults.{fault_of};
 ghost use Rattle.zst_extents.specs.StoredExtents.{HasExtents, extent_blocks};
 ghost use Rattle.zst_image.specs.Bodies.{free_by};
 ghost use Rattle.zst_image.specs.Commits.{Commits, CommitsOver, CommittedDir, IsNextBody, KeepsDisk, NextIs, Ready, RefusedDir, TakesForDir, commit_sectors};
 ghost use Rattle.zst_image.specs.Faults.{stop_of_commit};
+ghost use Rattle.zst_image.specs.declared.commit_fault.CommitFault.TheVariants.{OutOfMemory};
 ghost use Rattle.zst_image.specs.Reads.{DirStands, Rests, dir_sectors};
 
 use crate::body::Body;
@@ -89,6 +92,19 @@ fn write_next<D: Disk>(
     Ok(Body::new(naming(&uber, &tree, length, &stored), free))
 }
 
+// The bytes of a directory. Those that are too many for a tree of 2 levels find no memory.
+pub(crate) fn spell_dir(alloc: Global, dir: &Dir) -> Result<Vec<u8>, CommitFault>
+    ensures spelled { IfOk result (λ bytes. IsDir dir.now bytes.items) }
+    ensures few { IfOk result (λ bytes. length bytes.items ≤ 8192 * 128 ^ 2) }
+    ensures memory { IfErr result (λ fault. fault ≡ OutOfMemory) }
+{
+    let bytes = dir.encode(alloc)?;
+    if bytes.len() > MOST {
+        return Err(CommitFault::OutOfMemory);
+    }
+    Ok(bytes)
+}
+
 // Writes a directory into the leaves of a tree. Gives the tree, and the length of the directory in
 // bytes.
 fn write_dir<D: Disk>(
@@ -102,23 +118,23 @@ fn write_dir<D: Disk>(
     ensures one_leaf { length (dir_bytes dir.now) ≤ 8192 → OnOk result (room io.new.space + 16 ≡ room io.old.space) }
     ensures works { Works (dir_sectors (length (dir_bytes dir.now))) 16 (io_of io.old) (io_of io.new) (stop_of_commit result) }
 {
-    let bytes = dir.encode(alloc)?;
+    let bytes = spell_dir(alloc, dir)?;
     let tree = write_bytes(io, &bytes, number)?;
     Ok((tree, bytes.len() as u64))
 }
 
-// Writes the bytes of a directory into the leaves of a tree. Those that are too many for a tree of
-// 2 levels find no memory.
-fn write_bytes<D: Disk>(io: &mut Io<'_, D>, bytes: &[u8], number: u64) -> Result<Tree, CommitFault>
+// Writes the bytes of a directory into the leaves of a tree.
+pub(crate) fn write_bytes<D: Disk>(
+    io: &mut Io<'_, D>,
+    bytes: &[u8],
+    number: u64,
+) -> Result<Tree, CommitFault>
     requires some { 0 < length bytes.now }
-    ensures there { IfOk result (λ tree. HasLeaves (blocks_of io.new) tree.levels tree.root bytes.now) }
-    ensures extents { OnOk result (length io.new.space.free ≤ length io.old.space.free) }
+    requires few { length bytes.now ≤ 8192 * 128 ^ 2 }
+    ensures written { IfOk result (WritesLeaves number (blocks_of io.new) bytes.now io.old.space io.new.space) }
     ensures one_leaf { length bytes.now ≤ 8192 → OnOk result (room io.new.space + 16 ≡ room io.old.space) }
     ensures works { Works (dir_sectors (length bytes.now)) 16 (io_of io.old) (io_of io.new) (stop_of_commit result) }
 {
-    if bytes.len() > MOST {
-        return Err(CommitFault::OutOfMemory);
-    }
     match write_leaves(io, bytes, number) {
         Ok(tree) => Ok(tree),
         Err(BlockFault::Full { need, largest }) => Err(CommitFault::Full { need, largest }),
@@ -140,18 +156,26 @@ fn write_free<D: Disk>(
 {
     match write_extents(io, alloc, number) {
         Ok(stored) => Ok(stored),
-        Err(OrMemory::Fault(BlockFault::Full { need, largest })) => {
-            Err(CommitFault::Full { need, largest })
-        }
-        Err(OrMemory::Fault(BlockFault::Damaged { .. })) => unreachable!(),
-        Err(OrMemory::Fault(BlockFault::DiskFault)) => Err(CommitFault::DiskFault),
-        Err(OrMemory::Memory) => Err(CommitFault::OutOfMemory),
+        Err(fault) => Err(of_extents(fault)),
+    }
+}
+
+// Why extents weren't written. No block is read for them, so none is found damaged.
+pub(crate) fn of_extents(fault: OrMemory<BlockFault>) -> CommitFault
+    requires { TellsNone {T = Unit {0}} (Err fault) }
+    ensures { stop_of_commit {T = Unit {0}} (Err result) ≡ fault_of {T = Unit {0}} (Err fault) }
+{
+    match fault {
+        OrMemory::Fault(BlockFault::Full { need, largest }) => CommitFault::Full { need, largest },
+        OrMemory::Fault(BlockFault::Damaged { .. }) => unreachable!(),
+        OrMemory::Fault(BlockFault::DiskFault) => CommitFault::DiskFault,
+        OrMemory::Memory => CommitFault::OutOfMemory,
     }
 }
 
 // The body of the next commit, with this guid counter, from whose end on all is free. It names the
 // trees of the one before.
-fn next_uber(uber: &Uber, guids: u64, end: u64) -> Uber
+pub(crate) fn next_uber(uber: &Uber, guids: u64, end: u64) -> Uber
     requires { uber.now.number < 2 ^ 63 }
     ensures { result ≡ record uber.now { number = uber.now.number + 1; guids = guids; end = end } }
 {
@@ -164,7 +188,7 @@ fn next_uber(uber: &Uber, guids: u64, end: u64) -> Uber
 }
 
 // A body that names the tree of a directory of so many bytes, and that of the free extents.
-fn naming(uber: &Uber, tree: &Tree, length: u64, stored: &StoredExtents) -> Uber
+pub(crate) fn naming(uber: &Uber, tree: &Tree, length: u64, stored: &StoredExtents) -> Uber
     ensures { result ≡ record uber.now { dir_levels = tree.now.levels; dir_bytes = length; dir_root = tree.now.root; free_count = stored.now.count; free_levels = stored.now.levels; free_root = stored.now.root } }
 {
     Uber {

@@ -11,13 +11,13 @@ use Rattle.zst_block.proofs.TakenSectors.{takes_more, takes_then, takes_tree}
 use Rattle.zst_model.specs.states.State.{is_block_size, largest_block}
 use Rattle.zst_dir.specs.Rows.{Rows}
 use Rattle.zst_dir.specs.Spelling.{dir_bytes}
+use Rattle.zst_extents.proofs.TreeBlocks as trees
 use Rattle.zst_pool.specs.Calls.{IsCallFull}
 use Rattle.zst_pool.specs.Cost.{Grows, HasNoRoom, Spends, most_sectors}
 use Rattle.zst_pool.specs.Heads.{Stops, rested}
 use Rattle.zst_image.specs.Bodies.{free_by}
 use Rattle.zst_image.specs.Reads.{dir_sectors}
 use Rattle.zst_image.specs.Commits.{IsDirFull, commit_sectors}
-use Rattle.zst_image.proofs.CommitSectors.{more_blocks}
 use Rattle.zst_pool.specs.CommandRuns.{as_kept}
 use Rattle.zst_pool.specs.declared.fault.PoolFault.{PoolFault}
 use Rattle.zst_image.specs.declared.pool_state.PoolState.{PoolState}
@@ -34,7 +34,7 @@ dir-more count more le = omega (arith, le)
 
 -- and so a commit of it, beside more extents
 pub commit-more : (count more extents beside : ℕ) → count ≤ more → extents ≤ beside → commit_sectors count extents ≤ commit_sectors more beside
-commit-more count more extents beside le few = omega (arith, dir-more count more le, more_blocks extents beside few)
+commit-more count more extents beside le few = omega (arith, dir-more count more le, trees.fewer_extents extents beside few)
 
 -- where a commit finds no room for rows that are no more than 2,048 bytes longer, its call does not
 pub call_full : (space left : FreeSectors) (dir rows : Rows) (need largest : ℕ) → length (dir_bytes dir) ≤ length (dir_bytes rows) + 2048

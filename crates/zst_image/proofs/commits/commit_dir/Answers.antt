@@ -1,4 +1,4 @@
-use Rattle.std.proofs.Common.{◌≡◌, ◌||◌, ℕ, ◌+◌, List, length, refl, ap, sym, ◌∙◌, subst, rules, Bool, true, false}
+use Rattle.std.proofs.Common.{◌≡◌, ℕ, ◌+◌, List, length, refl, ap, sym, ◌∙◌, subst, rules, Bool}
 use Rattle.std.proofs.lemmas.Result.{err_from_is_err_and}
 use Rattle.zst_outside.specs.Images.{Leaves}
 use Rattle.zst_space.specs.FreeSectors.{FreeSectors, room}
@@ -16,7 +16,7 @@ use Rattle.zst_uber.specs.declared.uber.Uber.{Uber}
 use Rattle.zst_dir.specs.Spelling.{dir_bytes}
 use Rattle.zst_image.specs.Bodies.{Body, free_by}
 use Rattle.zst_image.specs.Commits.{NextIs, OldOrNext, Ready, commit_sectors}
-use Rattle.zst_image.proofs.CommitLemmas.{IsPrepared, next_in_range, prepared, free_by-next, commit-moments, commit-rests, over-refused, Ready-fills, Commits-over, Stays-from, only_latest}
+use Rattle.zst_image.proofs.CommitLemmas.{IsPrepared, next_in_range, prepared, free_by-next, commit-moments, commit-rests, over-refused, Ready-committed, Ready-fills, Commits-over, Stays-from, never_sound}
 use Rattle.zst_image.proofs.Causes.{never_damaged}
 use Rattle.zst_image.proofs.CommitSectors.{takes-refused}
 use Rattle.zst_image.proofs.SettledLabels.{latest-spared}
@@ -99,8 +99,8 @@ began g c next told is =
     let event = c.commit_event.ensures.commits in
     let fits = subst UberFits c.uber.ensures event.written.fits in
     let moments = subst (λ (u : Uber). Leaves mid new (HasOldOrNew u mid)) c.uber.ensures (event.written.moments told) in
-    let ready = prepared old mid space less c.args.body.now c.in_ok-next.next c.args.guids c.args.dir next c.in_ok-next.ensures.next (works.takes.sectors ∙ c.requires.sectors) c.requires.ready.in_range works.fills c.write_next.new.io.fits
-    (g.met.D.Disk.seen_size c.write_next.new.io.disk.now) fits is in
+    let ready = prepared old mid space less c.args.body.now c.in_ok-next.next c.args.guids c.args.dir next c.in_ok-next.ensures.next (works.takes.sectors ∙ c.requires.sectors)
+    (subst (λ (n : ℕ). InRange n c.args.body.now.uber) (sym works.fills.size) c.requires.ready.in_range) (KeepsBlocks-fills old mid space less works.fills) c.write_next.new.io.fits (g.met.D.Disk.seen_size c.write_next.new.io.disk.now) fits is in
     (ready, commit-moments old mid new space less c.in_ok-next.next c.args.dir next (IsTaken-label old.size space c.args.io.now.fits) works.fills ready moments)
 
 pub returns-in-Ok-clause-over : goal.returns-in-Ok-clause-over
@@ -149,13 +149,9 @@ returns-in-Ok-clause-made g c =
       blocks = λ ptr bytes has. stays ptr bytes (KeepsBlocks-fills old mid space less works.fills ptr bytes has);
       extents = HasExtents-grows (Has mid.seen less) (Has new.seen (free_by next)) stays next.uber.free_levels next.uber.free_root next.uber.free_count next.free is.extents;
       space = same ∙ sym c.commit_event.ensures.space;
-      ready = record {
-        in_range = next_in_range (Has mid.seen less) new.size c.args.body.now next less c.args.guids c.args.dir is sectors (subst (λ (n : ℕ). InRange n c.args.body.now.uber) (sym size) c.requires.ready.in_range) fits;
-        apart = is.apart;
-        next = λ told. subst (λ (u : Uber). IsNext (u.number + 1) (latest new.seen)) c.uber.ensures (event.following told);
-        label = λ told. event.label;
-        only = λ told found one. subst (λ (u : Uber). found ≡ u) c.uber.ensures (only_latest new.size _ found new.seen event.written.fits (event.written.stands told) one);
-      };
+      ready =
+          let in_range = next_in_range (Has mid.seen less) new.size c.args.body.now next less c.args.guids c.args.dir is sectors (subst (λ (n : ℕ). InRange n c.args.body.now.uber) (sym size) c.requires.ready.in_range) fits in
+          Ready-committed mid new next c.uber.result.now _ c.uber.ensures in_range is.apart event;
     }
 
 pub returns-in-Ok-clause-takes : goal.returns-in-Ok-clause-takes
@@ -194,11 +190,6 @@ returns-in-Err-clause-disk g c =
     let works = c.write_next.ensures.works in
     let writes = c.commit_event.ensures.commits.written.writes in
     record { size = writes.size ∙ works.fills.size; failed = search rules; told = λ whole. c.commit_event.ensures.counts ∙ works.told (never_damaged c.write_next.result); honest = λ told. works.fills.honest (writes.honest told); same = c.commit_event.ensures.same ∙ works.same }
-
--- a disk that failed isn't sound
-never_sound : (now before : Bool) → now ≡ (before || true) → now ≡ false → ⊥
-never_sound now true is sound = let both : true ≡ false = sym is ∙ sound in cc both
-never_sound now false is sound = let both : true ≡ false = sym is ∙ sound in cc both
 
 pub returns-in-Err-clause-refused : goal.returns-in-Err-clause-refused
 returns-in-Err-clause-refused g c =

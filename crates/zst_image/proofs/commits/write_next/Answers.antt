@@ -6,8 +6,8 @@ use Rattle.zst_space.specs.declared.space.Extent.{Extent}
 use Rattle.zst_block.specs.IoStates.{blocks_of, disk_of}
 use Rattle.zst_block.proofs.BlocksLaws.{KeepsBlocks-fills}
 use Rattle.zst_block.proofs.IoCallLemmas.{Works-more, Works-then}
+use Rattle.zst_extents.proofs.TreeBlocks.{fewer_extents}
 use Rattle.zst_image.specs.Bodies.{Body}
-use Rattle.zst_image.proofs.CommitSectors.{more_blocks}
 use Rattle.zst_image.proofs.Directories.{DirStands-grows}
 use Rattle.zst_image.proofs.commits.write_next.Goals as goal
 
@@ -39,7 +39,7 @@ returns-in_err-stored-clause-one_leaf g c = λ none small.
 pub returns-in_err-stored-clause-works : goal.returns-in_err-stored-clause-works
 returns-in_err-stored-clause-works g c =
     let p = err_from_is_err_and c.from_residual-in_err-stored.result c.from_residual-in_err-stored.ensures.1 in
-    let less = more_blocks _ (length c.args.io.now.space.free) c.in_ok-tree.ensures.extents in
+    let less = fewer_extents _ (length c.args.io.now.space.free) c.in_ok-tree.ensures.extents in
     rw (p.1, p.2) (Works-more (omega (arith, less)) (Works-then c.in_ok-tree.ensures.works c.in_err-stored.ensures.works))
 
 pub returns-in_err-extend_from_slice-clause-next : goal.returns-in_err-extend_from_slice-clause-next
@@ -55,7 +55,7 @@ returns-in_err-extend_from_slice-clause-one_leaf g c = λ none small.
 pub returns-in_err-extend_from_slice-clause-works : goal.returns-in_err-extend_from_slice-clause-works
 returns-in_err-extend_from_slice-clause-works g c =
     let p = err_from_is_err_and c.from_residual-in_err-extend_from_slice.result c.from_residual-in_err-extend_from_slice.ensures.1 in
-    let less = more_blocks _ (length c.args.io.now.space.free) c.in_ok-tree.ensures.extents in
+    let less = fewer_extents _ (length c.args.io.now.space.free) c.in_ok-tree.ensures.extents in
     rw (p.1, p.2) (Works-more (omega (arith, less)) (Works-then c.in_ok-tree.ensures.works c.in_ok-stored.ensures.works))
 
 -- what the body names stands there
@@ -105,5 +105,5 @@ returns-clause-one_leaf g c = λ none small.
 
 pub returns-clause-works : goal.returns-clause-works
 returns-clause-works g c =
-    let less = more_blocks _ (length c.args.io.now.space.free) c.in_ok-tree.ensures.extents in
+    let less = fewer_extents _ (length c.args.io.now.space.free) c.in_ok-tree.ensures.extents in
     Works-more (omega (arith, less)) (Works-then c.in_ok-tree.ensures.works c.in_ok-stored.ensures.works)
