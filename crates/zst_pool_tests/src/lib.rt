@@ -21,6 +21,8 @@ mod recv;
 #[cfg(test)]
 mod refusals;
 #[cfg(test)]
+mod roots;
+#[cfg(test)]
 mod rows;
 #[cfg(test)]
 mod send;

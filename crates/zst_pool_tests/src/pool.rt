@@ -1,6 +1,6 @@
 //! What no line shows of a pool on a disk in memory: one that stays open, states that aren't kept, lists, free extents, and a crowd.
 mod crowds;
-mod free_extents;
+pub(crate) mod free_extents;
 pub(crate) mod lists;
 mod refused_writes;
 mod sessions;

@@ -29,14 +29,18 @@ fn into_b() -> Result<RecvAsk, TestRefusal> {
 }
 
 // The small pool's stream.
-fn small_stream(alloc: Global) -> Result<Vec<u8>, TestRefusal> {
+pub(crate) fn small_stream(alloc: Global) -> Result<Vec<u8>, TestRefusal> {
     let mut source = with_lines(alloc, &SMALL)?;
     let output = sent(alloc, &mut source, &ask("tank/a@s", "")?, 4_096)?;
     Ok(output.bytes)
 }
 
 // A receive of the small pool's stream into tank/b that runs, and isn't kept.
-fn running(alloc: Global, pool: &mut Pool<'_, MemDisk>, stream: &[u8]) -> Result<Recv, TestRefusal>
+pub(crate) fn running(
+    alloc: Global,
+    pool: &mut Pool<'_, MemDisk>,
+    stream: &[u8],
+) -> Result<Recv, TestRefusal>
     requires works { CanCommit (disk_of pool.old.io) pool.old.io.space pool.old.kept.body }
     ensures same { pool.new.io.disk.ghost_name ≡ pool.old.io.disk.ghost_name }
 {

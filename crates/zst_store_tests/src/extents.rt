@@ -4,7 +4,7 @@ ghost use Rattle.std.specs.Prelude.{◌≡◌, IfOk};
 use crate::{all_free, zeros};
 use std::alloc::{AllocError, Global};
 use zst_block::{BlockFault, Io};
-use zst_extents::{read_extents, write_extents};
+use zst_extents::{read_extents, write_extents, write_unmarked};
 use zst_leaves::{read_leaves, write_leaves};
 use zst_outside::{Disk, SureDisk};
 use zst_space::{Extent, Space};
@@ -70,6 +70,32 @@ fn the_extents_that_were_written_are_read_back(rt: HostRuntime) -> Result<(), Al
         return Err(AllocError);
     };
     assert!(rt; read.as_slice() == io.space.extents());
+    Ok(())
+}
+
+#[test]
+fn extents_that_are_given_are_read_back(rt: HostRuntime) -> Result<(), AllocError> {
+    let mut disk = zeros(rt.alloc())?;
+    let mut io = in_pieces(rt.alloc(), &mut disk)?;
+    let given = [
+        Extent {
+            first: 60,
+            count: 8,
+        },
+        Extent {
+            first: 150,
+            count: 50,
+        },
+    ];
+    let Ok(stored) = write_unmarked(&mut io, rt.alloc(), &given, 7) else {
+        return Err(AllocError);
+    };
+    let (levels, root, count) = (stored.levels, stored.root, stored.count);
+    assert!(rt; levels == 0 && root.sector == 8 && root.number == 7 && count == 2);
+    let Ok(read) = read_extents(&mut io, rt.alloc(), levels, root, count, 200) else {
+        return Err(AllocError);
+    };
+    assert!(rt; read.as_slice() == given.as_slice());
     Ok(())
 }
 

@@ -22,3 +22,5 @@ mod list;
 mod reach;
 #[cfg(test)]
 mod traverse;
+#[cfg(test)]
+mod unmarked;

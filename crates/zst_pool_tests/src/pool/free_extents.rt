@@ -52,7 +52,7 @@ fn naming(uber: &Uber, leaf: &Ptr) -> Result<Uber, TestRefusal>
 
 // The small pool, of which sectors 8 to 71 have only directories and sets that nothing reaches any
 // more, as its latest body names two extents.
-fn with_extents(alloc: Global, extents: [u8; 4]) -> Result<MemDisk, TestRefusal> {
+pub(crate) fn with_extents(alloc: Global, extents: [u8; 4]) -> Result<MemDisk, TestRefusal> {
     let mut disk = with_lines(alloc, &SMALL)?;
     let leaf = leaf_on(alloc, &mut disk, extents)?;
     let kept = PoolState::open(alloc, &mut disk)?;
