@@ -11,6 +11,7 @@ pub mod AcceptedRedactions
 pub mod AcceptedRemovals
 pub mod Filters
 pub mod Lookups
+pub mod Reclaims
 pub mod Redactions
 pub mod Relays
 pub mod RefusedSends

@@ -21,6 +21,7 @@ pub mod PlanExample
 pub mod SendPlans
 pub mod Ranges
 pub mod ReceivedRecords
+pub mod Reclaims
 pub mod RedactExample
 pub mod RedactionLists
 pub mod RedactionSteps

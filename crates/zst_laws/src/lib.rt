@@ -26,6 +26,7 @@ mod meanings;
 mod nearest_snapshots;
 mod plan_examples;
 mod received_records;
+mod reclaims;
 mod redact_example;
 mod redaction_lists;
 mod redaction_steps;
@@ -74,6 +75,7 @@ pub use received_records::{
     cut_is_part_way, far_records_are_refused, moved_has_taken, part_way_is_completed,
     received_is_state, record_faults_come_first,
 };
+pub use reclaims::{reclaimed_stay, reclaims_are_refused};
 pub use remembered_states::{
     history_is_base, own_is_remembered, remembered_is_base, sources_are_bases, steps_remember,
 };

@@ -323,6 +323,7 @@ formed pool (commands.Destroy (names.Dataset name)) now h = let (own, found) = t
 formed pool (commands.Destroy (names.Snapshot name)) now h = let (own, found) = there_is (snapshot_named name pool) h in snapshot_is pool name now own found
 formed pool (commands.Destroy (names.Bookmark name)) now h = absurd h
 formed pool (commands.Abort target) now h = absurd h
+formed pool commands.Reclaim now h = absurd h
 formed pool (commands.Fs name) now h = absurd h
 formed pool (commands.Volume name) now h = absurd h
 formed pool (commands.Object name k head bonus spill) now h = absurd h

@@ -146,6 +146,7 @@ steps_ask_none held other now (commands.Destroy (names.Dataset name)) pool asks 
 steps_ask_none held other now (commands.Destroy (names.Snapshot name)) pool asks = absurd (true≢false asks)
 steps_ask_none held other now (commands.Destroy (names.Bookmark name)) pool asks = refl
 steps_ask_none held other now (commands.Abort target) pool asks = absurd (true≢false asks)
+steps_ask_none held other now commands.Reclaim pool asks = refl
 steps_ask_none held other now (commands.Read name k i) pool asks = refl
 steps_ask_none held other now commands.List pool asks = refl
 steps_ask_none held other now (commands.ListObjects name) pool asks = refl
@@ -270,6 +271,7 @@ free_ones pool (commands.Destroy (names.Dataset name)) held now free = free_data
 free_ones pool (commands.Destroy (names.Snapshot name)) held now free = free_snapshot pool name held free
 free_ones pool (commands.Destroy (names.Bookmark name)) held now free = refl
 free_ones pool (commands.Abort target) held now free = free_target pool target held free
+free_ones pool commands.Reclaim held now free = refl
 free_ones pool (commands.Fs dataset) held now free = refl
 free_ones pool (commands.Volume dataset) held now free = refl
 free_ones pool (commands.Object dataset k head bonus spill) held now free = refl

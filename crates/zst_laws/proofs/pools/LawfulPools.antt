@@ -336,6 +336,7 @@ steps_keep_lawful held now (commands.Destroy (names.Bookmark name)) pool after c
     committed_pool _ after (lawful_without_bookmark name pool p) (bookmark_destroyed_ok held name pool after h).made
 steps_keep_lawful held now (commands.Abort target) pool after c fits p h =
     committed_pool _ after (lawful_without_partial target pool p) (with_aborted_ok held target pool after h).made
+steps_keep_lawful held now commands.Reclaim pool after c fits p h = committed_pool pool after p h
 steps_keep_lawful held now (commands.Read name k i) pool after c fits p h = subst IsPool (sym (read_keeps held now name k i pool after h)) p
 steps_keep_lawful held now commands.List pool after c fits p h = subst IsPool (sym (list_keeps held now pool after h)) p
 steps_keep_lawful held now (commands.ListObjects name) pool after c fits p h = subst IsPool (sym (list_objects_keeps held now name pool after h)) p

@@ -133,6 +133,7 @@ steps_bookmarks held now (commands.Rollback destroys name) pool after h =
     let rolled = with_rollback_ok held destroys name pool after h in made_of pool _ after rolled.made (left_old pool (λ b. not (is_newer_bookmark rolled.snapshot b)))
 steps_bookmarks held now (commands.Destroy name) pool after h = destroyed_old held name pool after h
 steps_bookmarks held now (commands.Abort target) pool after h = made_of pool _ after (with_aborted_ok held target pool after h).made (all_old pool)
+steps_bookmarks held now commands.Reclaim pool after h = made_of pool _ after h (all_old pool)
 steps_bookmarks held now (commands.Read name k i) pool after h = subst (OldOrPlain pool) (sym (read_keeps held now name k i pool after h)) (all_old pool)
 steps_bookmarks held now commands.List pool after h = subst (OldOrPlain pool) (sym (list_keeps held now pool after h)) (all_old pool)
 steps_bookmarks held now (commands.ListObjects name) pool after h = subst (OldOrPlain pool) (sym (list_objects_keeps held now name pool after h)) (all_old pool)

@@ -137,6 +137,13 @@ aborted_follows held target pool after is sound h =
     subst (λ s. IsSoundNext pool s.pool) (committed_ok _ after (with_aborted_ok held target pool after h).made).1
     (record { next = aborted_next pool stays is.linked sound; sound = aborted_sound pool stays is.linked sound })
 
+-- a reclaim, which leaves all that is there
+reclaimed_follows : (pool : Pool) (after : Stepped) → IsPool pool → Sound pool → committed pool ≡ Ok after → IsSoundNext pool after.pool
+reclaimed_follows pool after is sound h = subst (λ s. IsSoundNext pool s.pool) (committed_ok _ after h).1 (record {
+  next = fewer_next pool pool.snapshots pool.bookmarks is.linked sound (λ s there. there) sound.dated.rise (λ b there. there);
+  sound = fewer_sound pool pool.snapshots pool.bookmarks is.linked sound (λ s there. there) sound.dated.rise (λ b there. there);
+})
+
 -- a snapshot
 taken_follows : (now : ℕ) (name : List ℕ) (pool : Pool) (after : Stepped) → IsPool pool → Sound pool → with_snapshot now name pool ≡ Ok after → IsSoundNext pool after.pool
 taken_follows now name pool after is sound h =
@@ -226,6 +233,7 @@ steps_follow held now (commands.Redact of name kept) pool after command is sound
 steps_follow held now (commands.Rollback destroys name) pool after command is sound h = inr (rolled_follows held destroys name pool after is sound h)
 steps_follow held now (commands.Destroy name) pool after command is sound h = inr (destroyed_follows held name pool after is sound h)
 steps_follow held now (commands.Abort target) pool after command is sound h = inr (aborted_follows held target pool after is sound h)
+steps_follow held now commands.Reclaim pool after command is sound h = inr (reclaimed_follows pool after is sound h)
 steps_follow held now (commands.Read name k i) pool after command is sound h = inl (read_keeps held now name k i pool after h)
 steps_follow held now commands.List pool after command is sound h = inl (list_keeps held now pool after h)
 steps_follow held now (commands.ListObjects name) pool after command is sound h = inl (list_objects_keeps held now name pool after h)

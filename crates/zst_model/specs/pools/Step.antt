@@ -66,6 +66,7 @@ IsCommand (commands.Redact snapshot bookmark redactions) = IsRedact snapshot boo
 IsCommand (commands.Rollback destroys snapshot) = IsSnapshot snapshot
 IsCommand (commands.Destroy name) = IsName name
 IsCommand (commands.Abort dataset) = IsDataset dataset
+IsCommand commands.Reclaim = Unit {0}
 IsCommand (commands.Read name k i) = HasObjects name × (0 < k)
 IsCommand commands.List = Unit {0}
 IsCommand (commands.ListObjects name) = HasObjects name
@@ -424,7 +425,8 @@ block_read pool k i Hole = in_indices (i + 1) (answered pool (codes "hole" ∷ [
 block_read pool k i (Data bytes) = in_indices (i + 1) (answered pool (data_line bytes ∷ []))
 
 -- What a command makes of a pool at this time, while sessions hold and claim this. Rollback, destroy and abort alone look at what is held:
--- E5 of a session is for those that drop a dataset, a snapshot or a partial state.
+-- E5 of a session is for those that drop a dataset, a snapshot or a partial state. A reclaim leaves the pool as it is but for its number,
+-- as which sectors of its image are free is no part of what a pool is; and as it drops nothing, it doesn't matter to it what sessions have.
 unfoldable pub stepped : (held : List Held) → (now : ℕ) → Command → Pool → Result Stepped Refusal
 stepped held now (commands.Fs dataset) pool = with_dataset (new_dataset 2 dataset) pool
 stepped held now (commands.Volume dataset) pool = with_dataset (new_dataset 3 dataset) pool
@@ -441,6 +443,7 @@ stepped held now (commands.Redact snapshot bookmark redactions) pool = with_reda
 stepped held now (commands.Rollback destroys snapshot) pool = with_rollback held destroys snapshot pool
 stepped held now (commands.Destroy name) pool = with_destroyed held name pool
 stepped held now (commands.Abort dataset) pool = with_aborted held dataset pool
+stepped held now commands.Reclaim pool = committed pool
 stepped held now (commands.Read name k i) pool =
     or_else (no_such name) (state_named name pool) (λ snap.
     or_else (cannot_apply NoObject) (snap.state k) (λ object.
@@ -463,6 +466,7 @@ commits (commands.Redact snapshot bookmark redactions) = true
 commits (commands.Rollback destroys snapshot) = true
 commits (commands.Destroy name) = true
 commits (commands.Abort dataset) = true
+commits commands.Reclaim = true
 commits (commands.Read name k i) = false
 commits commands.List = false
 commits (commands.ListObjects name) = false

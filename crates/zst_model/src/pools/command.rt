@@ -78,6 +78,8 @@ pub enum Command {
     Abort {
         dataset: DatasetName,
     },
+    /// Makes all sectors free that nothing reaches.
+    Reclaim,
     /// Reads one block of a dataset's head or of a snapshot.
     Read {
         name: Name,
