@@ -36,6 +36,7 @@ kind_of_command (commands.Redact snapshot bookmark redactions) = kinds.Redact
 kind_of_command (commands.Rollback destroys snapshot) = kinds.Rollback
 kind_of_command (commands.Destroy name) = kinds.Destroy
 kind_of_command (commands.Abort dataset) = kinds.Abort
+kind_of_command commands.Reclaim = kinds.Reclaim
 kind_of_command (commands.Read name k i) = kinds.Read
 kind_of_command commands.List = kinds.List
 kind_of_command (commands.ListObjects name) = kinds.List
@@ -55,6 +56,7 @@ said_kind (commands.Redact snapshot bookmark redactions) image words says = ap f
 said_kind (commands.Rollback destroys snapshot) image words says = ap first_kind says.0.1
 said_kind (commands.Destroy name) image words says = ap first_kind says.1.1
 said_kind (commands.Abort dataset) image words says = ap first_kind says
+said_kind commands.Reclaim image words says = ap first_kind says
 said_kind (commands.Read name k i) image words says = ap first_kind says.1.1
 said_kind commands.List image words says = ap first_kind says
 said_kind (commands.ListObjects name) image words says = ap first_kind says.1.1
@@ -68,7 +70,6 @@ is_step kinds.Receive = false
 is_step kinds.Token = false
 is_step kinds.Check = false
 is_step kinds.Gen = false
-is_step kinds.Reclaim = false
 is_step kinds.Replay = false
 is_step kind = true
 
@@ -86,6 +87,7 @@ commands_are_steps (commands.Redact snapshot bookmark redactions) = refl
 commands_are_steps (commands.Rollback destroys snapshot) = refl
 commands_are_steps (commands.Destroy name) = refl
 commands_are_steps (commands.Abort dataset) = refl
+commands_are_steps commands.Reclaim = refl
 commands_are_steps (commands.Read name k i) = refl
 commands_are_steps commands.List = refl
 commands_are_steps (commands.ListObjects name) = refl
@@ -209,6 +211,7 @@ same_command (commands.Read name k i) (commands.Read other l j) image here words
     let number : k ≡ l = decimal_injective k l p.fit.0 q.fit.0 cc in
     let index : i ≡ j = decimal_injective i j p.fit.1 q.fit.1 cc in
     cc
+same_command commands.Reclaim commands.Reclaim image here words p q = let s = p.says in let t = q.says in cc
 same_command commands.List commands.List image here words p q = let s = p.says in let t = q.says in cc
 same_command commands.List (commands.ListObjects name) image here words p q = let s = p.says in let t = q.says.1.1 in absurd cc
 same_command (commands.ListObjects name) commands.List image here words p q = let s = p.says.1.1 in let t = q.says in absurd cc
@@ -226,7 +229,6 @@ kind_of_line (lines.Receive image keeps forces origin target) = kinds.Receive
 kind_of_line (lines.Token image dataset) = kinds.Token
 kind_of_line (lines.Check image) = kinds.Check
 kind_of_line (lines.Gen image steps) = kinds.Gen
-kind_of_line (lines.Reclaim image) = kinds.Reclaim
 kind_of_line (lines.Replay here there) = kinds.Replay
 
 line_kind : (line : Line) (words : List (List ℕ)) → LineIs line words → first_kind words ≡ kind_of_line line
@@ -239,7 +241,6 @@ line_kind (lines.Receive image keeps forces origin target) words p = ap first_ki
 line_kind (lines.Token image dataset) words p = ap first_kind p
 line_kind (lines.Check image) words p = ap first_kind p
 line_kind (lines.Gen image steps) words p = ap first_kind p.0
-line_kind (lines.Reclaim image) words p = ap first_kind p
 line_kind (lines.Replay here there) words p = ap first_kind p
 
 -- words say one line
@@ -301,7 +302,6 @@ same_line (lines.Gen image steps) (lines.Gen here more) words p q =
     let room = q.2 in
     let same : steps ≡ more = decimal_injective steps more (omega arith) (omega arith) cc in
     cc
-same_line (lines.Reclaim image) (lines.Reclaim here) words p q = cc
 same_line (lines.Replay a b) (lines.Replay c d) words p q = cc
 same_line (lines.Step image command) other words p q = absurd (false≢true (sym (ap is_step (line_kind other words q)) ∙ said_step command image words p.0))
 same_line other (lines.Step image command) words p q = absurd (false≢true (sym (ap is_step (line_kind other words p)) ∙ said_step command image words q.0))

@@ -17,7 +17,7 @@ use Rattle.zst_line.specs.Grammar.{stands_in, word_at}
 use Rattle.zst_line.specs.WordFaults.{UsageAt, MisreadAs, IsLine}
 use Rattle.zst_line.specs.NameKinds.{kind_of_name}
 use Rattle.zst_line.specs.declared.line.Line.{Line}
-use Rattle.zst_line.specs.declared.line.Line.TheVariants.{Dump, Create, Step, Send, Resume, Receive, Token, Check, Gen, Reclaim, Replay}
+use Rattle.zst_line.specs.declared.line.Line.TheVariants.{Dump, Create, Step, Send, Resume, Receive, Token, Check, Gen, Replay}
 use Rattle.zst_line.specs.declared.line.LineFault.{LineFault}
 use Rattle.zst_line.specs.declared.line.LineFault.TheVariants as faults
 use Rattle.zst_line.specs.declared.name_kinds.NameKind.{NameKind}
@@ -100,6 +100,7 @@ Says (commands.Rollback destroys snapshot) image words =
     EndsIn (codes "rollback") (image ∷ snapshot ∷ []) words × (destroys ≡ stands_in words (codes "-r"))
 Says (commands.Destroy name) image words = (word : List ℕ) × ((name ≡ name_of word) × (words ≡ codes "destroy" ∷ image ∷ word ∷ []))
 Says (commands.Abort dataset) image words = words ≡ codes "abort" ∷ image ∷ dataset ∷ []
+Says commands.Reclaim image words = words ≡ codes "reclaim" ∷ image ∷ []
 Says (commands.Read name k i) image words = (word : List ℕ) × ((name ≡ name_of word) × (words ≡ codes "read" ∷ image ∷ word ∷ decimal k ∷ decimal i ∷ []))
 Says commands.List image words = words ≡ codes "list" ∷ image ∷ []
 Says (commands.ListObjects name) image words = (word : List ℕ) × ((name ≡ name_of word) × (words ≡ codes "list" ∷ image ∷ word ∷ []))
@@ -136,7 +137,6 @@ LineIs (Receive image keeps forces origin target) words =
 LineIs (Token image dataset) words = words ≡ codes "token" ∷ image ∷ dataset ∷ []
 LineIs (Check image) words = words ≡ codes "check" ∷ image ∷ []
 LineIs (Gen image steps) words = (words ≡ codes "gen" ∷ image ∷ decimal steps ∷ []) × (1 ≤ steps) × (steps ≤ 64)
-LineIs (Reclaim image) words = words ≡ codes "reclaim" ∷ image ∷ []
 LineIs (Replay here there) words = words ≡ codes "replay" ∷ here ∷ there ∷ []
 
 -- each answer where it comes

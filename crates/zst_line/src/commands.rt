@@ -252,3 +252,14 @@ pub fn abort(alloc: Global, words: &[String]) -> Result<Line, AllocError>
         },
     })
 }
+
+pub fn reclaim(alloc: Global, words: &[String]) -> Result<Line, AllocError>
+    requires { AllZip Takes (front Kind.Reclaim 0) (map string_bytes words.now) }
+    ensures { IfOk result (λ line. LineIs line (codes "reclaim" ∷ map string_bytes words.now)) }
+{
+    let [image] = words else { unreachable!() };
+    Ok(Line::Step {
+        image: text(alloc, image.as_str())?,
+        command: Command::Reclaim,
+    })
+}

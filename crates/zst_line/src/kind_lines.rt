@@ -7,13 +7,13 @@ ghost use Rattle.zst_line.specs.Line.{LineIs};
 
 use crate::commands::{
     abort, bookmark_of, clone, create, destroy, free, fs, list, list_objects, object, punch, read,
-    snapshot_of, volume, write,
+    reclaim, snapshot_of, volume, write,
 };
 use crate::kind::Kind;
 use crate::line::Line;
 use crate::options::goes_on;
 use crate::streams::{receive, redact, resume, rollback, send};
-use crate::tools::{check, gen_line, reclaim, replay, token};
+use crate::tools::{check, gen_line, replay, token};
 use std::alloc::{AllocError, Global};
 
 /// The line of a kind that these words behind its first one say.

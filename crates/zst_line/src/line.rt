@@ -56,10 +56,6 @@ pub enum Line {
         image: Text,
         steps: u64,
     },
-    /// Finds the extents that nothing reaches, and frees them.
-    Reclaim {
-        image: Text,
-    },
     /// Runs a script of events on two images.
     Replay {
         here: Text,

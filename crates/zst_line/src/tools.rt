@@ -44,16 +44,6 @@ pub fn gen_line(alloc: Global, words: &[String]) -> Result<Line, AllocError>
     })
 }
 
-pub fn reclaim(alloc: Global, words: &[String]) -> Result<Line, AllocError>
-    requires { AllZip Takes (front Kind.Reclaim 0) (map string_bytes words.now) }
-    ensures { IfOk result (λ line. LineIs line (codes "reclaim" ∷ map string_bytes words.now)) }
-{
-    let [image] = words else { unreachable!() };
-    Ok(Line::Reclaim {
-        image: text(alloc, image.as_str())?,
-    })
-}
-
 pub fn replay(alloc: Global, words: &[String]) -> Result<Line, AllocError>
     requires { AllZip Takes (front Kind.Replay 0) (map string_bytes words.now) }
     ensures { IfOk result (λ line. LineIs line (codes "replay" ∷ map string_bytes words.now)) }

@@ -80,6 +80,7 @@ command_form (commands.Redact snapshot bookmark redactions) image words says = a
 command_form (commands.Rollback destroys snapshot) image words says = ap (λ (w : List (List ℕ)). pool_form (word_at w 0)) says.0.1
 command_form (commands.Destroy name) image words says = ap (λ (w : List (List ℕ)). pool_form (word_at w 0)) says.1.1
 command_form (commands.Abort dataset) image words says = ap (λ (w : List (List ℕ)). pool_form (word_at w 0)) says
+command_form commands.Reclaim image words says = ap (λ (w : List (List ℕ)). pool_form (word_at w 0)) says
 command_form (commands.Read name k i) image words says = ap (λ (w : List (List ℕ)). pool_form (word_at w 0)) says.1.1
 command_form commands.List image words says = ap (λ (w : List (List ℕ)). pool_form (word_at w 0)) says
 command_form (commands.ListObjects name) image words says = ap (λ (w : List (List ℕ)). pool_form (word_at w 0)) says.1.1

@@ -78,6 +78,7 @@ step_image image other (commands.Redact snapshot bookmark redactions) rest says 
 step_image image other (commands.Rollback destroys snapshot) rest says = rolled image other snapshot rest says.0.0 says.0.1
 step_image image other (commands.Destroy name) rest says = plain image (codes "destroy") other rest _ refl says.1.1
 step_image image other (commands.Abort dataset) rest says = plain image (codes "abort") other rest _ refl says
+step_image image other commands.Reclaim rest says = plain image (codes "reclaim") other rest _ refl says
 step_image image other (commands.Read name k i) rest says = plain image (codes "read") other rest _ refl says.1.1
 step_image image other commands.List rest says = plain image (codes "list") other rest _ refl says
 step_image image other (commands.ListObjects name) rest says = plain image (codes "list") other rest _ refl says.1.1

@@ -73,6 +73,9 @@ there = (omega arith, λ e. cc e)
 list_line : AreLine (lines.Step (codes "here") commands.List) (codes "list" ∷ codes "here" ∷ [])
 list_line = (record { kind = kinds.List; rest = codes "here" ∷ []; spelled = refl; fact = ((here, tt), tt) }, (refl, tt, tt))
 
+reclaim_line : AreLine (lines.Step (codes "here") commands.Reclaim) (codes "reclaim" ∷ codes "here" ∷ [])
+reclaim_line = (record { kind = kinds.Reclaim; rest = codes "here" ∷ []; spelled = refl; fact = ((here, tt), tt) }, (refl, tt, tt))
+
 token_line : AreLine (lines.Token (codes "there") (codes "tank")) (codes "token" ∷ codes "there" ∷ codes "tank" ∷ [])
 token_line = (record { kind = kinds.Token; rest = codes "there" ∷ codes "tank" ∷ []; spelled = refl; fact = ((there, tt), ((((λ e. cc e), refl), tank), tt)) }, refl)
 
@@ -92,6 +95,7 @@ pub pools_said : PoolsAreSaid
 unfolding digits chars is_utf8 encode
 pools_said = (
   said _ _ (omega arith) refl (codes "list" ∷ [], (refl, list_line)),
+  said _ _ (omega arith) refl (codes "reclaim" ∷ [], (refl, reclaim_line)),
   said _ _ (omega arith) refl (codes "token" ∷ codes "tank" ∷ [], (refl, token_line)),
   said _ _ (omega arith) refl (refl, omega arith, tank),
   said _ _ (omega arith) refl (codes "tank@s" ∷ [], None, (refl, omega arith, refl, send_line)),

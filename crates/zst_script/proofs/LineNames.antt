@@ -5,7 +5,7 @@ use Rattle.std.specs.List.{AllZip}
 use Rattle.zst_line.specs.declared.kind.Kind.{Kind}
 use Rattle.zst_line.specs.declared.kind.Kind.TheVariants as kinds
 use Rattle.zst_line.specs.declared.line.Line.{Line}
-use Rattle.zst_line.specs.declared.line.Line.TheVariants.{Dump, Create, Step, Send, Resume, Receive, Token, Check, Gen, Reclaim, Replay}
+use Rattle.zst_line.specs.declared.line.Line.TheVariants.{Dump, Create, Step, Send, Resume, Receive, Token, Check, Gen, Replay}
 use Rattle.zst_line.specs.declared.name_kinds.NameKind.{NameKind}
 use Rattle.zst_line.specs.declared.name_kinds.NameKind.TheVariants as name_kinds
 use Rattle.zst_line.specs.declared.word_slot.WordSlot.TheVariants as slots
@@ -81,5 +81,4 @@ names_fit (Receive image keeps forces origin target) words (said, is) =
 names_fit (Token image dataset) words are = tt
 names_fit (Check image) words are = tt
 names_fit (Gen image steps) words are = tt
-names_fit (Reclaim image) words are = tt
 names_fit (Replay here there) words are = tt

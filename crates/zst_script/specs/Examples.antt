@@ -21,10 +21,11 @@ ImagesStand =
     × (with_image (codes "here") (words_of (codes "rollback tank/a@s")) ≡ words_of (codes "rollback here tank/a@s"))
     × (with_image (codes "here") (words_of (codes "rollback -r tank/a@s")) ≡ words_of (codes "rollback -r here tank/a@s"))
 
--- Lines of a pool: a command and a token behind the word for it, and sessions that are opened, by their ids.
+-- Lines of a pool: commands and a token behind the word for it, and sessions that are opened, by their ids.
 abbrev pub PoolsAreSaid : Type 0
 PoolsAreSaid =
-    LineSays (events.Step Here commands.List) (codes "here list") × LineSays (events.Token There (codes "tank")) (codes "there token tank")
+    LineSays (events.Step Here commands.List) (codes "here list") × LineSays (events.Step Here commands.Reclaim) (codes "here reclaim")
+    × LineSays (events.Token There (codes "tank")) (codes "there token tank")
     × LineSays (events.Resume Here 7 (codes "tank")) (codes "here resume 7 tank")
     × LineSays (events.Send There 0 (record { snap = codes "tank@s"; from = None; redact = None })) (codes "there send 0 tank@s")
     × LineSays (events.Receive Here 1 (record { target = codes "tank"; snap = None; keep = true; force = false; origin = None })) (codes "here receive 1 -s tank")
