@@ -67,6 +67,8 @@ pub fn leave_unmarked(
     ensures extents { IfOk result (λ extents. AreUnmarked marks.new space.old.end extents.items) }
     ensures marked { OnOk result (MarksTaken space.old.end space.old space.new marks.old marks.new) }
     ensures enough { IfOk result (λ extents. TakesEnough blocks (length extents.items) marks.old space.old space.new) }
+    // The space's extents stand before the end that it had, and it has none that is earlier.
+    ensures left { OnOk result (IsSpaceUpTo space.old.end space.new) }
 
     // Whatever it answers, no sector becomes free.
     ensures fewer { (sector : ℕ) → IsFree space.new sector → IsFree space.old sector }

@@ -6,7 +6,7 @@ use Rattle.zst_outside.specs.Ranges.{Torn}
 use Rattle.zst_space.specs.FreeSectors.{FreeSectors, IsFree}
 use Rattle.zst_space.proofs.FreeSectorsLaws.{Rise-end}
 use Rattle.zst_block.specs.Blocks.{Has, IsTaken, FitsDisk, FillsFree, KeepsBlocks, SparesTaken, Spared}
-use Rattle.zst_block.proofs.BlocksLaws.{Has-spared, Has-label, SparesTaken-fewer, FillsFree-then}
+use Rattle.zst_block.proofs.BlocksLaws.{Has-fewer, Has-spared, Has-label, SparesTaken-fewer, FillsFree-then}
 use Rattle.zst_uber.proofs.BodyLaws.{uber_at-body_bytes}
 use Rattle.zst_uber.specs.Body.{UberFits, InRange, body_bytes, uber_at}
 use Rattle.zst_uber.specs.OpenAnswers.{IsLatest}
@@ -195,6 +195,49 @@ over-refused old mid space less pool fault label fills = record {
   moments = fills-moments old mid space less pool label fills;
   answer = Stays-from (FillsFree old space mid less) fault fills;
 }
+
+-- an image that keeps another reads as that does where more sectors are free, in none of which anything stands that it reads by
+ReadsAs-over : {tight : Bool} (space more : FreeSectors) (body : Body) (rows : Rows) (pool : Pool) (d c : List ℕ) → AreFewer space more → AreFewer (free_by body) more → KeepsImage space d c → ReadsAs tight body rows pool d → Describes tight body rows pool (Has d more)
+    → ReadsAs tight body rows pool c
+ReadsAs-over space more body rows pool d c written less keeps reads stands = record {
+  stands = keeps.latest_stays ∙ reads.stands;
+  fits = reads.fits;
+  in_range = subst (λ (size : ℕ). InRange size body.uber) (sym keeps.size) reads.in_range;
+  described = Describes-grows d more c (free_by body) (λ ptr bytes has. Has-fewer c more (free_by body) ptr bytes less (keeps.blocks more written ptr bytes has)) body rows pool stands;
+}
+
+-- a commit that wrote into such sectors, whether or not they are free by the body, from a start at which nothing was pending
+pub Commits-over-more : {tight : Bool} (start old new : DiskState) (more space less : FreeSectors) (body : Body) (rows : Rows) (pool next : Pool) (result : Result PoolState CommitFault) → Rests tight start body rows pool → IsSynced start
+    → IsTaken more 0 4096 → AreFewer (free_by body) more → Describes tight body rows pool (Has start.seen more) → FillsFree start more old space → CommitsOver tight old space new less next result → Commits tight start new body rows pool next result
+Commits-over-more {tight = tight} start old new more space less body rows pool next result rests synced label fewer stands fills over = record {
+  moments = Leaves-then start old new (λ c. Reads tight pool c ⊎ Reads tight next c) (OldOrNext tight space old next)
+      (Leaves-weaker start old (Spared more start) (λ c. Reads tight pool c ⊎ Reads tight next c) fills.time (λ c was. inl (body, rows, spared_reads was.0 c was.1 was.2)))
+      over.moments both;
+  answer = CommitAnswer-weaker (λ kept. Rests tight new kept.body kept.dir next) (FillsFree old space new less) (Rests tight new body rows pool) result
+      (λ later. rests_still (FillsFree-then start old new more space less fills later)) over.answer;
+}
+  where
+    keeps_seen : (c : List ℕ) → SparesTaken more start.seen c → ReadsAs tight body rows pool c
+    keeps_seen c spares = ReadsAs-over more more body rows pool start.seen c (λ sector free. free) fewer (KeepsImage-spared more start.seen c label spares) rests.reads stands
+
+    spared_reads : (d c : List ℕ) → start.images d → SparesTaken more d c → ReadsAs tight body rows pool c
+    spared_reads d c image spares = keeps_seen c (subst (λ (seen : List ℕ). SparesTaken more seen c) (synced d image) spares)
+
+    described_in : (d c : List ℕ) → start.images d → SparesTaken more d c → Describes tight body rows pool (Has c more)
+    described_in d c image spares =
+        let same = subst (λ (seen : List ℕ). SparesTaken more seen c) (synced d image) spares in
+        Describes-grows start.seen more c more (λ ptr bytes has. Has-spared more start.seen c ptr bytes same has) body rows pool stands
+
+    rests_still : FillsFree start more new less → Rests tight new body rows pool
+    rests_still all = record { reads = keeps_seen new.seen all.seen; each = λ c image. let was = all.crash c image in spared_reads was.0 c was.1 was.2 }
+
+    past : (c : List ℕ) → (d : List ℕ) × old.images d × KeepsImage space d c → Reads tight pool c
+    past c is =
+        let was = fills.crash is.0 is.1 in
+        (body, rows, ReadsAs-over space more body rows pool is.0 c fills.fewer fewer is.2 (spared_reads was.0 is.0 was.1 was.2) (described_in was.0 is.0 was.1 was.2))
+
+    both : (c : List ℕ) → OldOrNext tight space old next c → Reads tight pool c ⊎ Reads tight next c
+    both c is = ⊎_elim (λ before. inl (past c before)) (λ after. inr after) is
 
 -- what was written into free sectors alone leaves the disk ready for the next commit
 pub Ready-fills : (old new : DiskState) (space less : FreeSectors) (body : Body) → IsTaken space 0 4096 → FillsFree old space new less → Ready old body → Ready new body
