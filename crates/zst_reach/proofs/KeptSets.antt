@@ -10,15 +10,16 @@ use Rattle.zst_block.specs.declared.ptr.Ptr.{Ptr}
 use Rattle.zst_dnode.specs.declared.dnode.Dnode.{Dnode}
 use Rattle.zst_dnode.specs.declared.slot.Slot.{Slot}
 use Rattle.zst_dnode.specs.declared.slot.Slot.TheVariants.{Absent, There}
+use Rattle.zst_model.specs.sends.Inclusion.{Pairs}
 use Rattle.zst_model.specs.states.State.{Block, Hole, Redacted, Data, Object}
 use Rattle.zst_model.specs.states.DatedState.{DatedState}
-use Rattle.zst_tree.specs.Indices.{Map, Subtree, TreeIs, child, span}
+use Rattle.zst_tree.specs.Indices.{Blocks, Map, Subtree, TreeIs, child, span}
 use Rattle.zst_tree.specs.declared.tree.Tree.{Tree}
 use Rattle.zst_tree.specs.declared.tree.ObjSet.{ObjSet}
 use Rattle.zst_tree.proofs.Span.{span-pos, span-suc, span_zero}
 use Rattle.zst_tree.proofs.SubtreeCases.{flat_kind, node_flat}
-use Rattle.zst_objset.specs.Dnodes.{BlockIs, ObjectIs, SlotIs, SpillIs, tree_of}
-use Rattle.zst_objset.specs.Sets.{LeafIs, SetHolds}
+use Rattle.zst_objset.specs.Dnodes.{BlockIs, ObjectIn, SlotIn, SpillIs, outside, read_unless, tree_of}
+use Rattle.zst_objset.specs.Sets.{LeafIn, LeafIs, SetHolds, SetHoldsBut, SetIn}
 use Rattle.zst_objset.specs.TightSets.{SetIsTight}
 use Rattle.zst_objset.proofs.OneState.{under_bound}
 use Rattle.zst_objset.proofs.TightLaws.{SetIsTight-of, TreeIs-lawful, no_block}
@@ -113,50 +114,56 @@ module _ (image : List ℕ) (space more : FreeSectors) where
   pub kind_one : (ptr : Ptr) → ptr.kind ≡ 1 → is_flat ptr ≡ false
   kind_one ptr is = rw is refl
 
-  block_kept : (tree : Tree) (map : Map) (index : ℕ) (block : Block) → TreeIs (Has image space) tree map → index < 2 ^ 44 → FreeBefore space more (ReachesSector (IsBlock image) tree.levels tree.root)
-      → BlockIs (Has image space) (map index) block → BlockIs (Has image more) (map index) block
-  block_kept tree map index Hole is small before block = block
-  block_kept tree map index Redacted is small before block = block
-  block_kept tree map index (Data bytes) is small before block =
-      let leaf = tree_leaf tree map index is small (kind_one (map index) block.0) in
-      (block.0, Has-kept (map index) bytes block.1 (λ sector of. before sector (record { found = map index; reached = leaf.reached; is_of = of })))
-
   spill_kept : (ptr : Ptr) (spill : Option (List ℕ)) → FreeBefore space more (ReachesSector (IsBlock image) 0 ptr) → SpillIs (Has image space) ptr spill → SpillIs (Has image more) ptr spill
   spill_kept ptr None before is = is
   spill_kept ptr (Some bytes) before is = (is.0, Has-kept ptr bytes is.1 (λ sector of. before sector (reach_here (IsBlock image) 0 ptr sector (kind_one ptr is.0) of)))
 
-  object_kept : (dnode : Dnode) (object : Object) (date : ℕ) (dates : ℕ → ℕ) (map : Map) → FreeBefore space more (ReachesInDnode (IsBlock image) dnode) → ObjectIs (Has image space) dnode object date dates map → ObjectIs (Has image more) dnode object date dates map
-  object_kept dnode object date dates map before is = record {
+  leaf_flat : (ptr : Ptr) (there : Bool) → ptr.kind ≡ (if there then 3 else 4) → is_flat ptr ≡ false
+  leaf_flat ptr true is = flat_kind ptr (inl is)
+  leaf_flat ptr false is = flat_kind ptr (inr is)
+
+  block_kept : (read later : Blocks) (tree : Tree) (map : Map) (index : ℕ) (block : Block) → TreeIs (Has image space) tree map → index < 2 ^ 44 → FreeBefore space more (ReachesSector (IsBlock image) tree.levels tree.root)
+      → ((ptr : Ptr) (bytes : List ℕ) → read ptr bytes → FreeBefore space more (IsOf ptr) → later ptr bytes) → BlockIs read (map index) block → BlockIs later (map index) block
+  block_kept read later tree map index Hole is small before stays block = block
+  block_kept read later tree map index Redacted is small before stays block = block
+  block_kept read later tree map index (Data bytes) is small before stays block =
+      let leaf = tree_leaf tree map index is small (kind_one (map index) block.0) in
+      (block.0, stays (map index) bytes block.1 (λ sector of. before sector (record { found = map index; reached = leaf.reached; is_of = of })))
+
+  -- what is read of data is read of them later too, where none of their sectors became free
+  abbrev StaysRead : (reads later : ℕ → ℕ → Blocks) → Type 0
+  StaysRead reads later = (k i : ℕ) (ptr : Ptr) (bytes : List ℕ) → reads k i ptr bytes → FreeBefore space more (IsOf ptr) → later k i ptr bytes
+
+-- a set of whose data only some are read
+module _ (image : List ℕ) (space more : FreeSectors) (reads later : ℕ → ℕ → Blocks) (stays : StaysRead image space more reads later) where
+  object_kept : (k : ℕ) (dnode : Dnode) (object : Object) (date : ℕ) (dates : ℕ → ℕ) (map : Map) → FreeBefore space more (ReachesInDnode (IsBlock image) dnode) → ObjectIn (Has image space) (reads k) dnode object date dates map → ObjectIn (Has image more) (later k) dnode object date dates map
+  object_kept k dnode object date dates map before is = record {
     type_is = is.type_is;
     bonus_type_is = is.bonus_type_is;
     size_is = is.size_is;
     bonus_is = is.bonus_is;
     date_is = is.date_is;
     end_is = is.end_is;
-    spill_is = spill_kept dnode.spill object.attr.spill (λ sector reached. before sector (inr reached)) is.spill_is;
-    tree = TreeIs-kept (tree_of dnode) map is.tree (λ sector reached. before sector (inl reached));
-    blocks = λ i less. block_kept (tree_of dnode) map i (object.blocks i) is.tree (under_bound i less) (λ sector reached. before sector (inl reached)) (is.blocks i less);
+    spill_is = spill_kept image space more dnode.spill object.attr.spill (λ sector reached. before sector (inr reached)) is.spill_is;
+    tree = TreeIs-kept image space more (tree_of dnode) map is.tree (λ sector reached. before sector (inl reached));
+    blocks = λ i less. block_kept image space more (reads k i) (later k i) (tree_of dnode) map i (object.blocks i) is.tree (under_bound i less) (λ sector reached. before sector (inl reached)) (stays k i) (is.blocks i less);
     index_dates = is.index_dates;
   }
 
-  slot_kept : (snap : DatedState) (k : ℕ) (slot : Slot) → FreeBefore space more (ReachesInSlot (IsBlock image) slot) → SlotIs (Has image space) snap k slot → SlotIs (Has image more) snap k slot
+  slot_kept : (snap : DatedState) (k : ℕ) (slot : Slot) → FreeBefore space more (ReachesInSlot (IsBlock image) slot) → SlotIn (Has image space) reads snap k slot → SlotIn (Has image more) later snap k slot
   slot_kept snap k (Absent date) before is = is
-  slot_kept snap k (There dnode) before is = record { object = is.object; there = is.there; map = is.map; is = object_kept dnode is.object (snap.number_date k) (snap.index_date k) is.map before is.is }
+  slot_kept snap k (There dnode) before is = record { object = is.object; there = is.there; map = is.map; is = object_kept k dnode is.object (snap.number_date k) (snap.index_date k) is.map before is.is }
 
-  leaf_flat : (ptr : Ptr) (there : Bool) → ptr.kind ≡ (if there then 3 else 4) → is_flat ptr ≡ false
-  leaf_flat ptr true is = flat_kind ptr (inl is)
-  leaf_flat ptr false is = flat_kind ptr (inr is)
-
-  leaf_kept : (set : ObjSet) (snap : DatedState) (j : ℕ) (map : Map) → j < 2 ^ 44 → TreeIs (Has image space) set.tree map → FreeBefore space more (ReachesInSet (IsBlock image) set) → LeafIs (Has image space) snap j (map j) → LeafIs (Has image more) snap j (map j)
+  leaf_kept : (set : ObjSet) (snap : DatedState) (j : ℕ) (map : Map) → j < 2 ^ 44 → TreeIs (Has image space) set.tree map → FreeBefore space more (ReachesInSet (IsBlock image) set) → LeafIn (Has image space) reads snap j (map j) → LeafIn (Has image more) later snap j (map j)
   leaf_kept set snap j map small tree before (inl hole) = inl hole
   leaf_kept set snap j map small tree before (inr leaf) =
-      let some = leaf_flat (map j) _ leaf.names.kind in
-      let at = tree_leaf set.tree map j tree small some in
+      let some = leaf_flat image space more (map j) _ leaf.names.kind in
+      let at = tree_leaf image space more set.tree map j tree small some in
       inr (record {
         bytes = leaf.bytes;
         slots = leaf.slots;
         names = record {
-          there = Has-kept (map j) leaf.bytes leaf.names.there (λ sector of. before sector (inl (record { found = map j; reached = at.reached; is_of = of })));
+          there = Has-kept image space more (map j) leaf.bytes leaf.names.there (λ sector of. before sector (inl (record { found = map j; reached = at.reached; is_of = of })));
           kind = leaf.names.kind;
           level = leaf.names.level;
           number = leaf.names.number;
@@ -184,21 +191,34 @@ module _ (image : List ℕ) (space more : FreeSectors) where
         };
       })
 
-  pub SetHolds-kept : (set : ObjSet) (snap : DatedState) → FreeBefore space more (ReachesInSet (IsBlock image) set) → SetHolds (Has image space) set snap → SetHolds (Has image more) set snap
-  SetHolds-kept set snap before holds = record {
+  SetIn-kept : (set : ObjSet) (snap : DatedState) → FreeBefore space more (ReachesInSet (IsBlock image) set) → SetIn (Has image space) reads set snap → SetIn (Has image more) later set snap
+  SetIn-kept set snap before holds = record {
     lawful = holds.lawful;
     bounded = holds.bounded;
     levels = holds.levels;
     map = holds.map;
-    tree = TreeIs-kept set.tree holds.map holds.tree (λ sector reached. before sector (inl reached));
+    tree = TreeIs-kept image space more set.tree holds.map holds.tree (λ sector reached. before sector (inl reached));
     leaves = λ j less. leaf_kept set snap j holds.map less holds.tree before (holds.leaves j less);
   }
 
-  -- and so it is with a tight set
+module _ (image : List ℕ) (space more : FreeSectors) where
+  -- all of them are read
+  pub SetHolds-kept : (set : ObjSet) (snap : DatedState) → FreeBefore space more (ReachesInSet (IsBlock image) set) → SetHolds (Has image space) set snap → SetHolds (Has image more) set snap
+  SetHolds-kept = SetIn-kept image space more (λ k i. Has image space) (λ k i. Has image more) (λ k i. Has-kept image space more)
+
+  -- all but those of some pairs
+  unless_kept : (unread : Bool) (ptr : Ptr) (bytes : List ℕ) → read_unless unread (Has image space) ptr bytes → FreeBefore space more (IsOf ptr) → read_unless unread (Has image more) ptr bytes
+  unless_kept true ptr bytes has before = tt
+  unless_kept false ptr bytes has before = Has-kept image space more ptr bytes has before
+
+  pub SetHoldsBut-kept : (pairs : Pairs) (set : ObjSet) (snap : DatedState) → FreeBefore space more (ReachesInSet (IsBlock image) set) → SetHoldsBut (Has image space) pairs set snap → SetHoldsBut (Has image more) pairs set snap
+  SetHoldsBut-kept pairs = SetIn-kept image space more (outside pairs (Has image space)) (outside pairs (Has image more)) (λ k i. unless_kept (pairs k i))
+
+  -- a tight set stays tight
   pub SetIsTight-kept : (set : ObjSet) (snap : DatedState) → FreeBefore space more (ReachesInSet (IsBlock image) set) → SetIsTight (Has image space) set snap → SetIsTight (Has image more) set snap
   SetIsTight-kept set snap before tight =
       let holds = tight.holds in
-      SetIsTight-of image more set snap holds.map (SetHolds-kept set snap before holds) (TreeIs-kept set.tree holds.map holds.tree (λ sector reached. before sector (inl reached)))
+      SetIsTight-of image more set snap holds.map (SetHolds-kept set snap before holds) (TreeIs-kept image space more set.tree holds.map holds.tree (λ sector reached. before sector (inl reached)))
       (λ j less bytes held there spells s small. tight.tight j less bytes held (there_before j less (holds.leaves j less) (TreeIs-lawful (Has image space) set.tree holds.map holds.tree j less) bytes there) spells s small) tight.tells
     where
       there_before : (j : ℕ) → j < 2 ^ 44 → LeafIs (Has image space) snap j (tight.holds.map j) → is_lawful (tight.holds.map j) ≡ true → (bytes : List ℕ) → Has image more (tight.holds.map j) bytes → Has image space (tight.holds.map j) bytes

@@ -16,8 +16,8 @@ use Rattle.zst_dnode.specs.declared.slot.Slot.TheVariants.{Absent, There}
 use Rattle.zst_leaves.specs.Leaves.{HasLeaves, LeavesBelow, bytes_below, part}
 use Rattle.zst_model.specs.states.DatedState.{DatedState}
 use Rattle.zst_model.specs.states.State.{is_number}
-use Rattle.zst_objset.specs.Dnodes.{SlotIs}
-use Rattle.zst_objset.specs.Sets.{IsLeaf, LeafIs, SetHolds}
+use Rattle.zst_objset.specs.Dnodes.{SlotIn}
+use Rattle.zst_objset.specs.Sets.{IsLeafIn, LeafIn, SetIn}
 use Rattle.zst_tree.specs.Damage.{NamesNode}
 use Rattle.zst_tree.specs.Indices.{Blocks, IsNoDamage, IsNode, Map, Subtree, child, span}
 use Rattle.zst_tree.specs.declared.tree.ObjSet.{ObjSet}
@@ -113,16 +113,18 @@ module _ (image : List ℕ) (space : FreeSectors) where
   pub HasLeaves-nodes : (levels : ℕ) (root : Ptr) (text : List ℕ) → HasLeaves (Has image space) levels root text → NodesStand (Has image space) levels root
   HasLeaves-nodes levels root text is = leaves_nodes levels root text is.below
 
+-- a set that holds a state, whatever of its data is read
+module _ (image : List ℕ) (space : FreeSectors) (reads : ℕ → ℕ → Blocks) where
   -- the tree of an object in a slot
-  slot_nodes : (snap : DatedState) (k : ℕ) (slot : Slot) → SlotIs (Has image space) snap k slot → NodesStandInSlot (Has image space) slot
+  slot_nodes : (snap : DatedState) (k : ℕ) (slot : Slot) → SlotIn (Has image space) reads snap k slot → NodesStandInSlot (Has image space) slot
   slot_nodes snap k (Absent date) is = tt
-  slot_nodes snap k (There dnode) is = Subtree-nodes dnode.levels dnode.root 0 is.is.tree.whole is.is.tree.stands.below
+  slot_nodes snap k (There dnode) is = Subtree-nodes image space dnode.levels dnode.root 0 is.is.tree.whole is.is.tree.stands.below
 
   absent_nodes : (slot : Slot) → slot ≡ Absent 0 → NodesStandInSlot (Has image space) slot
   absent_nodes slot is = rw is tt
 
   -- a leaf of a set
-  leaf_stands : (snap : DatedState) (j : ℕ) (ptr : Ptr) → IsLeaf (Has image space) snap j ptr → LeafStands (Has image space) ptr
+  leaf_stands : (snap : DatedState) (j : ℕ) (ptr : Ptr) → IsLeafIn (Has image space) reads snap j ptr → LeafStands (Has image space) ptr
   leaf_stands snap j ptr leaf = record {
     bytes = leaf.bytes;
     there = leaf.names.there;
@@ -134,7 +136,7 @@ module _ (image : List ℕ) (space : FreeSectors) where
       stands place under true number = slot_nodes snap (16 * j + place) (leaf.slots place) (leaf.slots_are.numbers place under number)
       stands place under false other = absent_nodes (leaf.slots place) (leaf.slots_are.no_number place under other)
 
-  leaf_or_flat : (snap : DatedState) (j : ℕ) (ptr : Ptr) → LeafIs (Has image space) snap j ptr → (is_flat ptr ≡ true) ⊎ LeafStands (Has image space) ptr
+  leaf_or_flat : (snap : DatedState) (j : ℕ) (ptr : Ptr) → LeafIn (Has image space) reads snap j ptr → (is_flat ptr ≡ true) ⊎ LeafStands (Has image space) ptr
   leaf_or_flat snap j ptr (inl hole) = inl (rw hole.kind refl)
   leaf_or_flat snap j ptr (inr leaf) = inr (leaf_stands snap j ptr leaf)
 
@@ -144,13 +146,13 @@ module _ (image : List ℕ) (space : FreeSectors) where
 
   -- the tree of a set below a pointer
   set_below : (snap : DatedState) (level : ℕ) (ptr : Ptr) (first : ℕ) (map : Map) → Subtree (Has image space) level ptr first map
-      → ((j : ℕ) → first ≤ j → j < first + span level → j < 2 ^ 44 → LeafIs (Has image space) snap j (map j)) → SetStands (Has image space) level ptr first
+      → ((j : ℕ) → first ≤ j → j < first + span level → j < 2 ^ 44 → LeafIn (Has image space) reads snap j (map j)) → SetStands (Has image space) level ptr first
   unfolding Subtree SetStands
-  set_below snap zero ptr first map is leaves = λ small. leaf_or_flat snap first ptr (subst (LeafIs (Has image space) snap first) is.1 (leaves first (omega arith) (omega (arith, span-pos 0)) small))
+  set_below snap zero ptr first map is leaves = λ small. leaf_or_flat snap first ptr (subst (LeafIn (Has image space) reads snap first) is.1 (leaves first (omega arith) (omega (arith, span-pos 0)) small))
   set_below snap (suc level) ptr first map (inl flat) leaves = inl flat.1
   set_below snap (suc level) ptr first map (inr (bytes, node, below)) leaves =
       inr (
-        names_node (suc level) ptr bytes node,
+        names_node image space (suc level) ptr bytes node,
         (
           bytes,
           node.there,
@@ -160,7 +162,7 @@ module _ (image : List ℕ) (space : FreeSectors) where
         ),
       )
 
-  pub SetHolds-stands : (set : ObjSet) (snap : DatedState) → SetHolds (Has image space) set snap → SetStands (Has image space) set.tree.levels set.tree.root 0
-  SetHolds-stands set snap holds =
+  pub SetIn-stands : (set : ObjSet) (snap : DatedState) → SetIn (Has image space) reads set snap → SetStands (Has image space) set.tree.levels set.tree.root 0
+  SetIn-stands set snap holds =
       set_below snap set.tree.levels set.tree.root 0 holds.tree.whole holds.tree.stands.below
-      (λ j from under small. subst (LeafIs (Has image space) snap j) (holds.tree.agrees j small) (holds.leaves j small))
+      (λ j from under small. subst (LeafIn (Has image space) reads snap j) (holds.tree.agrees j small) (holds.leaves j small))

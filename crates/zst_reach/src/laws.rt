@@ -7,19 +7,22 @@ ghost use Rattle.zst_extents.specs.StoredExtents.{HasExtents};
 ghost use Rattle.zst_leaves.specs.Leaves.{HasLeaves};
 ghost use Rattle.zst_list.specs.StoredLists.{HasList};
 ghost use Rattle.zst_model.specs.fields.Lists.{Runs};
+ghost use Rattle.zst_model.specs.sends.Inclusion.{Pairs};
 ghost use Rattle.zst_model.specs.states.DatedState.{DatedState};
 ghost use Rattle.zst_tree.specs.declared.tree.ObjSet.{ObjSet};
-ghost use Rattle.zst_objset.specs.Sets.{SetHolds};
+ghost use Rattle.zst_objset.specs.Sets.{SetHolds, SetHoldsBut};
 ghost use Rattle.zst_objset.specs.TightSets.{SetIsTight};
 ghost use Rattle.zst_reach.specs.Reached.{ReachesSector, SparesReached};
 ghost use Rattle.zst_reach.specs.ReachedSets.{ReachesInSet};
 
-/// A set holds its state, and tightly, whatever sectors become free that it doesn't reach.
+/// A set holds its state, and tightly, whatever sectors become free that it doesn't reach; and so it is but for some pairs' bytes.
 pub fn unreached_sectors_may_be_free()
     ensures holds { (image : List ℕ) (space more : FreeSectors) (set : ObjSet) (snap : DatedState)
         → ((sector : ℕ) → ReachesInSet (IsBlock image) set sector → IsFree more sector → IsFree space sector) → SetHolds (Has image space) set snap → SetHolds (Has image more) set snap }
     ensures tight { (image : List ℕ) (space more : FreeSectors) (set : ObjSet) (snap : DatedState)
         → ((sector : ℕ) → ReachesInSet (IsBlock image) set sector → IsFree more sector → IsFree space sector) → SetIsTight (Has image space) set snap → SetIsTight (Has image more) set snap }
+    ensures but { (image : List ℕ) (space more : FreeSectors) (pairs : Pairs) (set : ObjSet) (snap : DatedState)
+        → ((sector : ℕ) → ReachesInSet (IsBlock image) set sector → IsFree more sector → IsFree space sector) → SetHoldsBut (Has image space) pairs set snap → SetHoldsBut (Has image more) pairs set snap }
 {}
 
 /// A text stands in its leaves whatever sectors become free that these and the nodes above them don't take,

@@ -10,6 +10,7 @@ mod sets;
 mod texts;
 mod trees;
 
+pub use blocks::mark_block;
 pub use laws::{
     unreached_sectors_may_be_free, unreached_sectors_may_change,
     unreached_sectors_of_texts_may_be_free,

@@ -4,9 +4,10 @@ ghost use Rattle.zst_block.specs.Blocks.{IsBlock};
 ghost use Rattle.zst_block.specs.IoStates.{IsHonest, blocks_of, disk_of, io_of};
 ghost use Rattle.zst_block.specs.IoCalls.{Looks, stop_of};
 ghost use Rattle.zst_marks.specs.Marks.{HasRoomFor, IsMarked, MarksMore};
+ghost use Rattle.zst_model.specs.sends.Inclusion.{Pairs};
 ghost use Rattle.zst_model.specs.states.DatedState.{DatedState};
 ghost use Rattle.zst_objset.specs.Damage.{IfDamaged, IsDamagedObject};
-ghost use Rattle.zst_objset.specs.Sets.{SetHolds};
+ghost use Rattle.zst_objset.specs.Sets.{SetHoldsBut};
 ghost use Rattle.zst_tree.specs.Damage.{IsSeen, NamesNode};
 ghost use Rattle.zst_tree.specs.Indices.{Delivers, span};
 ghost use Rattle.zst_reach.specs.ReachedSets.{AreMarkedInSet, AreMarkedInTree, ReachesInSet, ReachesInTree};
@@ -99,9 +100,9 @@ pub fn mark_set<D: Disk>(
     ensures only { IsHonest io.new → (sector : ℕ) → IsMarked marks.new sector → IsMarked marks.old sector ⊎ ReachesInSet (IsBlock (disk_of io.old).seen) set.now sector }
     ensures more { MarksMore marks.old marks.new }
 
-    // A set that holds a state is walked, unless the disk fails. What is damaged is a block of this set:
-    // of the known one nothing is told.
-    ensures there { (snap : DatedState) → IsHonest io.new → SetHolds (blocks_of io.old) set.now snap → Delivers (λ done. Unit {0}) result }
+    // A set that holds a state is walked, unless the disk fails, also where that is so but for the bytes of some pairs: the blocks
+    // of these are marked, and not read. What is damaged is a block of this set: of the known one nothing is told.
+    ensures there { (pairs : Pairs) (snap : DatedState) → IsHonest io.new → SetHoldsBut (blocks_of io.old) pairs set.now snap → Delivers (λ done. Unit {0}) result }
     ensures damaged { IsHonest io.new → IfDamaged result (IsDamagedObject (IsSeen (disk_of io.old).seen) (disk_of io.old).size NamesNode set.now) }
 
     // What is shared isn't read again.

@@ -5,9 +5,11 @@ use Rattle.std.proofs.lemmas.List.Elements.{All-cons, All-nil, Contains-append_l
 use Rattle.zst_block.specs.Blocks.{Has, IsBlock}
 use Rattle.zst_dir.specs.RowNames.{Match}
 use Rattle.zst_dir.specs.Rows.{Rows}
+use Rattle.zst_dir.specs.declared.rows.Partial.{Partial}
 use Rattle.zst_image.specs.Reads.{BookmarkIs, DatasetIs, PartialIs, RunsBy, SetIs, SnapshotIs}
 use Rattle.zst_image.proofs.OnePool.{SetIs-holds}
 use Rattle.zst_list.specs.Spelling.{list_bytes}
+use Rattle.zst_model.specs.pools.Pool as plain
 use Rattle.zst_model.specs.pools.Pool.{Pool}
 use Rattle.zst_model.specs.states.DatedState.{DatedState}
 use Rattle.zst_reach.specs.ReachedSets.{ReachesInSet}
@@ -16,7 +18,7 @@ use Rattle.zst_reach.proofs.KeptTexts.{HasList-kept}
 use Rattle.zst_space.specs.FreeSectors.{FreeSectors}
 use Rattle.zst_tree.specs.Indices.{Blocks}
 use Rattle.zst_tree.specs.declared.tree.ObjSet.{ObjSet}
-use Rattle.zst_roots.specs.ReachedRows.{RowsReach}
+use Rattle.zst_roots.specs.ReachedRows.{PartialReaches, RowsReach}
 use Rattle.zst_roots.specs.StandingRows.{HeadStands, ListStands, PartialStands, SnapshotStands}
 
 -- what is so of each listed row and of what it matches, is so of the lists
@@ -35,9 +37,14 @@ Match-rows Is P gives (x ∷ xs) [] is = absurd is
 Match-rows Is P gives (x ∷ xs) (y ∷ ys) is = All-cons P x xs (gives x y is.0) (Match-rows Is P gives xs ys is.1)
 
 module _ (image : List ℕ) (space more : FreeSectors) where
-  SetIs-kept : (bound : Option ℕ) (set : ObjSet) (state : DatedState) → FreeBefore space more (ReachesInSet (IsBlock image) set) → SetIs bound (Has image space) set state → SetIs bound (Has image more) set state
+  -- a set is known as well
+  pub SetIs-kept : (bound : Option ℕ) (set : ObjSet) (state : DatedState) → FreeBefore space more (ReachesInSet (IsBlock image) set) → SetIs bound (Has image space) set state → SetIs bound (Has image more) set state
   SetIs-kept None set state before is = SetHolds-kept image space more set state before is
   SetIs-kept (Some number) set state before is = (SetIsTight-kept image space more set state before is.0, is.1)
+
+  -- so does the row of a partial state
+  pub PartialIs-kept : (bound : Option ℕ) (row : Partial) (partial : plain.Partial) → FreeBefore space more (PartialReaches (IsBlock image) row) → PartialIs bound (Has image space) row partial → PartialIs bound (Has image more) row partial
+  PartialIs-kept bound row partial before is = record { named = is.named; objects = SetIs-kept bound row.objects partial.objects before is.objects }
 
   pub RunsBy-kept : (bound : Option ℕ) (rows : Rows) (running : Pool) → RunsBy bound (Has image space) rows running → FreeBefore space more (RowsReach (IsBlock image) rows) → RunsBy bound (Has image more) rows running
   RunsBy-kept bound rows running is before = record {
@@ -54,10 +61,8 @@ module _ (image : List ℕ) (space more : FreeSectors) where
       list = HasList-kept image space more row.levels row.root row.runs bookmark.runs (λ some sector reached. before sector (inr (inr (inr (record { row = row; listed = listed; reached = (some, reached) }))))) stands.list;
       no_list = stands.no_list;
     }) is.bookmarks;
-    partials = Match-listed (PartialIs bound (Has image space)) (PartialIs bound (Has image more)) rows.partials running.partials (λ row listed partial stands. record {
-      named = stands.named;
-      objects = SetIs-kept bound row.objects partial.objects (λ sector reached. before sector (inr (inr (inl (record { row = row; listed = listed; reached = reached }))))) stands.objects;
-    }) is.partials;
+    partials = Match-listed (PartialIs bound (Has image space)) (PartialIs bound (Has image more)) rows.partials running.partials (λ row listed partial stands.
+        PartialIs-kept bound row partial (λ sector reached. before sector (inr (inr (inl (record { row = row; listed = listed; reached = reached }))))) stands) is.partials;
   }
 
 -- rows that stand for a pool that runs are walked

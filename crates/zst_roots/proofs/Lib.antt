@@ -5,3 +5,4 @@ pub mod SparedRows
 pub mod RowSums
 pub mod TextMarks
 pub mod FoundSectors
+pub mod HeldMarks

@@ -1,4 +1,4 @@
--- What the two texts of a body reach, and what is told of them, put together.
+-- What the two texts of a body reach, and what is told of them, put together; and so what is told of a pool.
 use Rattle.std.proofs.Common.{◌≡◌, ◌⊎◌, inl, inr, ⊎_elim, ℕ, ◌<◌, List, subst}
 use Rattle.std.specs.Prelude.{Result, Ok, Err}
 use Rattle.zst_block.specs.Blocks.{IsBlock}
@@ -15,8 +15,9 @@ use Rattle.zst_tree.specs.Faults.{IfFault}
 use Rattle.zst_tree.specs.declared.or_memory.OrMemory.{OrMemory}
 use Rattle.zst_tree.specs.declared.or_memory.OrMemory.TheVariants.{Fault, Memory}
 use Rattle.zst_uber.specs.declared.uber.Uber.{Uber}
-use Rattle.zst_roots.specs.RowDamage.{IsDamagedInPool, IsDamagedInRows, IsDamagedInTexts}
+use Rattle.zst_roots.specs.RowDamage.{IsDamagedHeld, IsDamagedInPool, IsDamagedInRows, IsDamagedInTexts, IsToldOfSome}
 use Rattle.zst_roots.specs.Unreached.{TextsReach}
+use Rattle.zst_roots.specs.declared.held.HeldBlocks.{HeldBlocks}
 
 module _ (image : List ℕ) (uber : Uber) where
   -- where all that the directory reaches was marked, and then all that the free extents do, all that the texts reach is
@@ -51,12 +52,17 @@ module _ (image : List ℕ) (size : ℕ) (uber : Uber) where
   free_told now size_now (Err DiskFault) same same_size some told = tt
 
   -- what is told of the rows is told of the pool
-  pub rows_told : (rows : Rows) (T U : Type 0) (fault : OrMemory BlockFault) → IfFault {T = T} (Err fault) (λ f. IfDamage f (IsDamagedInRows (IsSeen image) size rows))
-      → IfFault {T = U} (Err fault) (λ f. IfDamage f (IsDamagedInPool (IsSeen image) size uber rows))
-  rows_told rows T U (Fault fault) told = IfDamage-weaker (IsDamagedInRows (IsSeen image) size rows) (IsDamagedInPool (IsSeen image) size uber rows) (λ sector stated found is. inl is) fault told
-  rows_told rows T U Memory told = tt
+  pub rows_told : (rows : Rows) (held : List HeldBlocks) (T U : Type 0) (fault : OrMemory BlockFault) → IfFault {T = T} (Err fault) (λ f. IfDamage f (IsDamagedInRows (IsSeen image) size rows))
+      → IfFault {T = U} (Err fault) (λ f. IfDamage f (IsDamagedInPool (IsSeen image) size uber rows held))
+  rows_told rows held T U (Fault fault) told = IfDamage-weaker (IsDamagedInRows (IsSeen image) size rows) (IsDamagedInPool (IsSeen image) size uber rows held) (λ sector stated found is. inl is) fault told
+  rows_told rows held T U Memory told = tt
+
+  -- so is what is told of what sessions hold
+  pub held_told : (rows : Rows) (held : List HeldBlocks) (now : List ℕ) (size_now : ℕ) (fault : BlockFault) → now ≡ image → size_now ≡ size → IfDamage fault (IsToldOfSome held (IsDamagedHeld (IsSeen now) size_now)) → IfDamage fault (IsDamagedInPool (IsSeen image) size uber rows held)
+  held_told rows held now size_now fault same same_size told = IfDamage-weaker (IsToldOfSome held (IsDamagedHeld (IsSeen now) size_now)) (IsDamagedInPool (IsSeen image) size uber rows held)
+      (λ sector stated found is. inr (inl (subst (λ (seen : List ℕ). IsToldOfSome held (IsDamagedHeld (IsSeen seen) size) sector stated found) same (subst (λ (n : ℕ). IsToldOfSome held (IsDamagedHeld (IsSeen now) n) sector stated found) same_size is)))) fault told
 
   -- and so is what is told of the texts
-  pub texts_told : (rows : Rows) (now : List ℕ) (size_now : ℕ) (fault : BlockFault) → now ≡ image → size_now ≡ size → IfDamage fault (IsDamagedInTexts (IsSeen now) size_now uber) → IfDamage fault (IsDamagedInPool (IsSeen image) size uber rows)
-  texts_told rows now size_now fault same same_size told = IfDamage-weaker (IsDamagedInTexts (IsSeen now) size_now uber) (IsDamagedInPool (IsSeen image) size uber rows)
-      (λ sector stated found is. inr (subst (λ (seen : List ℕ). IsDamagedInTexts (IsSeen seen) size uber sector stated found) same (subst (λ (n : ℕ). IsDamagedInTexts (IsSeen now) n uber sector stated found) same_size is))) fault told
+  pub texts_told : (rows : Rows) (held : List HeldBlocks) (now : List ℕ) (size_now : ℕ) (fault : BlockFault) → now ≡ image → size_now ≡ size → IfDamage fault (IsDamagedInTexts (IsSeen now) size_now uber) → IfDamage fault (IsDamagedInPool (IsSeen image) size uber rows held)
+  texts_told rows held now size_now fault same same_size told = IfDamage-weaker (IsDamagedInTexts (IsSeen now) size_now uber) (IsDamagedInPool (IsSeen image) size uber rows held)
+      (λ sector stated found is. inr (inr (subst (λ (seen : List ℕ). IsDamagedInTexts (IsSeen seen) size uber sector stated found) same (subst (λ (n : ℕ). IsDamagedInTexts (IsSeen now) n uber sector stated found) same_size is)))) fault told

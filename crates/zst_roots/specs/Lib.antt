@@ -3,3 +3,4 @@ pub mod StandingRows
 pub mod RowDamage
 pub mod WalkedRows
 pub mod Unreached
+pub mod Held

@@ -9,6 +9,7 @@ use Rattle.zst_objset.specs.Damage.{DamageFact, IsDamagedObject}
 use Rattle.zst_tree.specs.Damage.{IsDamagedNode, NamesNode}
 use Rattle.zst_tree.specs.declared.tree.ObjSet.{ObjSet}
 use Rattle.zst_uber.specs.declared.uber.Uber.{Uber}
+use Rattle.zst_roots.specs.declared.held.HeldBlocks.{HeldBlocks}
 
 -- damage is told of some row that the list contains, as of rows of its kind
 pub record IsToldOfSome {Row : Type 0} (rows : List Row) (tells : Row → DamageFact) (sector : ℕ) (stated found : List ℕ) : Type 0 where
@@ -31,6 +32,10 @@ module _ (images : List ℕ → Type 0) (size : ℕ) where
   abbrev pub IsDamagedPartial : Partial → DamageFact
   IsDamagedPartial row = IsDamagedIn row.objects
 
+  -- of what a session holds: one of its set
+  abbrev pub IsDamagedHeld : HeldBlocks → DamageFact
+  IsDamagedHeld one = IsDamagedIn one.set
+
   -- of a bookmark whose list has runs: a node above the leaves of that list
   abbrev pub IsDamagedList : Bookmark → DamageFact
   IsDamagedList row sector stated found = (0 < row.runs) × IsDamagedNode images size NamesNode row.levels row.root sector stated found
@@ -49,6 +54,6 @@ module _ (images : List ℕ → Type 0) (size : ℕ) where
       IsDamagedNode images size NamesNode uber.dir_levels uber.dir_root sector stated found
       ⊎ ((0 < uber.free_count) × IsDamagedNode images size NamesNode uber.free_levels uber.free_root sector stated found)
 
-  -- of all that a pool reaches: one of its rows, or of the texts of its body
-  abbrev pub IsDamagedInPool : Uber → Rows → DamageFact
-  IsDamagedInPool uber rows sector stated found = IsDamagedInRows rows sector stated found ⊎ IsDamagedInTexts uber sector stated found
+  -- of all that a pool reaches: one of its rows, of a set that a session holds, or of the texts of its body
+  abbrev pub IsDamagedInPool : Uber → Rows → List HeldBlocks → DamageFact
+  IsDamagedInPool uber rows held sector stated found = IsDamagedInRows rows sector stated found ⊎ (IsToldOfSome held IsDamagedHeld sector stated found ⊎ IsDamagedInTexts uber sector stated found)

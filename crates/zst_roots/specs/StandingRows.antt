@@ -5,11 +5,13 @@ use Rattle.zst_dir.specs.declared.rows.Snapshot.{Snapshot}
 use Rattle.zst_dir.specs.declared.rows.Bookmark.{Bookmark}
 use Rattle.zst_dir.specs.declared.rows.Partial.{Partial}
 use Rattle.zst_leaves.specs.Leaves.{HasLeaves}
+use Rattle.zst_model.specs.sends.Inclusion.{Pairs}
 use Rattle.zst_model.specs.states.DatedState.{DatedState}
-use Rattle.zst_objset.specs.Sets.{SetHolds}
+use Rattle.zst_objset.specs.Sets.{SetHolds, SetHoldsBut}
 use Rattle.zst_tree.specs.Indices.{Blocks}
 use Rattle.zst_tree.specs.declared.tree.ObjSet.{ObjSet}
 use Rattle.zst_uber.specs.declared.uber.Uber.{Uber}
+use Rattle.zst_roots.specs.declared.held.HeldBlocks.{HeldBlocks}
 
 module _ (has : Blocks) where
   -- the set holds some state
@@ -25,6 +27,10 @@ module _ (has : Blocks) where
 
   abbrev pub PartialStands : Partial → Type 0
   PartialStands row = HoldsSome row.objects
+
+  -- what a session holds: its set does, but for the bytes of some pairs, which a redacted send doesn't read
+  abbrev pub HeldStands : HeldBlocks → Type 0
+  HeldStands one = (pairs : Pairs) × (state : DatedState) × SetHoldsBut has pairs one.set state
 
   -- where a bookmark's list has runs, some text stands in its leaves
   abbrev pub ListStands : Bookmark → Type 0

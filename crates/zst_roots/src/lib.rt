@@ -1,7 +1,8 @@
 //! What the rows of a pool's directory reach: the object sets of heads, snapshots and partial states, and the lists of bookmarks;
-//! and what nothing reaches.
+//! what sessions hold besides; and what nothing reaches.
 #![tactic(auto)]
 
+mod held;
 mod laws;
 mod lists;
 mod nearest;
@@ -12,6 +13,7 @@ mod texts;
 mod turns;
 mod unreached;
 
+pub use held::HeldBlocks;
 pub use laws::{rows_reach_the_same_whatever_is_unreached, rows_stand_over_what_is_unreached};
 pub use rows::mark_rows;
 pub use unreached::{UnreachedSectors, find_unreached};

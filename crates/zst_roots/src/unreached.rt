@@ -1,5 +1,5 @@
 // What nothing of a pool reaches is found.
-ghost use Rattle.std.specs.Prelude.{◌↔◌, ◌<◌, ◌≤◌, ℕ, List, Option, IfOk};
+ghost use Rattle.std.specs.Prelude.{◌↔◌, ◌<◌, ◌≤◌, ℕ, List, Option, All, IfOk};
 ghost use Rattle.zst_block.specs.Blocks.{IsBlock};
 ghost use Rattle.zst_block.specs.IoStates.{IsHonest, blocks_of, disk_of, io_of};
 ghost use Rattle.zst_block.specs.IoCalls.{Looks};
@@ -16,8 +16,10 @@ ghost use Rattle.zst_tree.specs.Faults.{GivesOrTells, IfFault, fault_of};
 ghost use Rattle.zst_tree.specs.Indices.{IsNoDamage};
 ghost use Rattle.zst_uber.specs.Body.{InRange};
 ghost use Rattle.zst_roots.specs.RowDamage.{IsDamagedInPool};
+ghost use Rattle.zst_roots.specs.StandingRows.{HeldStands};
 ghost use Rattle.zst_roots.specs.Unreached.{IsFoundFor, IsReached, StaysReached};
 
+use crate::held::{HeldBlocks, mark_held};
 use crate::rows::mark_rows;
 use crate::texts::mark_texts;
 use std::alloc::{AllocError, Global};
@@ -32,7 +34,8 @@ use zst_uber::Uber;
 /// What nothing of a pool reaches below its end, before a reclaim and after it.
 #[derive(Drop)]
 pub struct UnreachedSectors {
-    /// What stays reached is marked: sectors 0 to 7, and what the rows reach, whichever texts the next body names.
+    /// What stays reached is marked: sectors 0 to 7, what the rows reach, and what sessions hold, whichever texts the next body
+    /// names.
     pub marks: Marks,
     /// What nothing reaches now is free, so that a reclaim may write into it, and all from the end on.
     pub space: Space,
@@ -49,7 +52,8 @@ fn first_marks(alloc: Global, end: u64) -> Result<Marks, AllocError>
     Ok(marks)
 }
 
-/// Walks all that a pool reaches, by its latest body and the rows of its directory, and finds what nothing reaches.
+/// Walks all that a pool reaches, by its latest body, the rows of its directory and what sessions hold besides, and finds what
+/// nothing reaches.
 /// For this it has two bitmaps in memory, of one bit for each sector below the end: of an image whose end is at
 /// 64 GB each takes 16 MB.
 pub fn find_unreached<D: Disk>(
@@ -57,22 +61,24 @@ pub fn find_unreached<D: Disk>(
     alloc: Global,
     uber: &Uber,
     dir: &Dir,
+    held: &[HeldBlocks],
 ) -> Result<UnreachedSectors, OrMemory<BlockFault>>
     requires in_range { InRange (disk_of io.old).size uber.now }
 
     // What stays reached whichever texts the next body names is marked; what isn't reached now is free.
-    ensures marked { IsHonest io.new → IfOk result (λ found. (sector : ℕ) → sector < uber.now.end → IsMarked found.marks sector ↔ StaysReached (IsBlock (disk_of io.old).seen) dir.now sector) }
-    ensures free { IsHonest io.new → IfOk result (λ found. (sector : ℕ) → sector < uber.now.end → IsFree found.space sector ↔ ¬ IsReached (IsBlock (disk_of io.old).seen) uber.now dir.now sector) }
+    ensures marked { IsHonest io.new → IfOk result (λ found. (sector : ℕ) → sector < uber.now.end → IsMarked found.marks sector ↔ StaysReached (IsBlock (disk_of io.old).seen) dir.now held.now sector) }
+    ensures free { IsHonest io.new → IfOk result (λ found. (sector : ℕ) → sector < uber.now.end → IsFree found.space sector ↔ ¬ IsReached (IsBlock (disk_of io.old).seen) uber.now dir.now held.now sector) }
     ensures fits { IfOk result (IsFoundFor uber.now) }
 
-    // A pool that reads is walked, unless the disk or the memory fails. What is damaged is a block of a row or of a text.
+    // A pool that reads is walked, where each held set holds a state, unless the disk or the memory fails. What is damaged is a block of a row, of a held set or of a text.
     ensures there { (bound : Option ℕ) (running : Pool) (rows : Rows) (free : List Extent) → IsHonest io.new → RunsBy bound (blocks_of io.old) dir.now running → HasDir (blocks_of io.old) uber.now rows
-        → HasExtents (blocks_of io.old) uber.now.free_levels uber.now.free_root uber.now.free_count free → GivesOrTells (λ done. Unit {0}) IsNoDamage result }
-    ensures damaged { IsHonest io.new → IfFault result (λ fault. IfDamage fault (IsDamagedInPool (IsSeen (disk_of io.old).seen) (disk_of io.old).size uber.now dir.now)) }
+        → HasExtents (blocks_of io.old) uber.now.free_levels uber.now.free_root uber.now.free_count free → All (HeldStands (blocks_of io.old)) held.now → GivesOrTells (λ done. Unit {0}) IsNoDamage result }
+    ensures damaged { IsHonest io.new → IfFault result (λ fault. IfDamage fault (IsDamagedInPool (IsSeen (disk_of io.old).seen) (disk_of io.old).size uber.now dir.now held.now)) }
     ensures looks { Looks (io_of io.old) (io_of io.new) (fault_of result) }
 {
     let mut marks = first_marks(alloc, uber.end)?;
     mark_rows(io, alloc, &mut marks, uber.end, dir)?;
+    mark_held(io, &mut marks, uber.end, dir, held)?;
     let mut reached = marks.copy(alloc)?;
     mark_texts(io, &mut reached, uber)?;
     let free = reached.unmarked(alloc, 8, uber.end)?;

@@ -5,6 +5,7 @@ use Rattle.zst_block.specs.Blocks.{Has, IsBlock}
 use Rattle.zst_block.specs.IoStates.{blocks_of, disk_of}
 use Rattle.zst_block.proofs.IoCallLemmas.{Looks-none, Looks-then}
 use Rattle.zst_marks.proofs.MoreMarks.{MarksMore-none, MarksMore-then}
+use Rattle.zst_model.specs.sends.Inclusion.{no_pairs}
 use Rattle.zst_reach.specs.ReachedSets.{ReachesInSet}
 use Rattle.zst_space.specs.FreeSectors.{FreeSectors}
 use Rattle.zst_tree.specs.Damage.{IsSeen}
@@ -65,7 +66,7 @@ returns-in_err-mark_set-clause-stands g c = λ honest stand.
     let turn = in_turn c.rows-row-items.result.now rows c.loop-row.row-index row c.rows-row-items.ensures c.loop-row-test.true c.row-item.is in
     let there = there_after inv.looks (λ (seen : List ℕ) (space : FreeSectors). HoldsSome (Has seen space) c.set.result.now) (subst (HoldsSome (blocks_of c.args.io.now)) (sym c.set.ensures) (holds_in_turn (λ (r : g.row.R.Denot). HoldsSome (blocks_of c.args.io.now) (g.R.SetRow.set r)) rows c.loop-row.row-index row turn stand)) in
     let p = err_from_is_err_and c.from_residual.result c.from_residual.ensures.1 in
-    rw (p.1, p.2) (step.there there.0 honest there.1)
+    rw (p.1, p.2) (step.there no_pairs there.0 honest there.1)
 
 pub returns-in_err-mark_set-clause-damaged : goal.returns-in_err-mark_set-clause-damaged
 returns-in_err-mark_set-clause-damaged g c = λ honest.

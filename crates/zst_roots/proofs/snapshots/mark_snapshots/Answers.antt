@@ -7,6 +7,7 @@ use Rattle.zst_block.specs.IoStates.{blocks_of, disk_of}
 use Rattle.zst_block.proofs.IoCallLemmas.{Looks-none, Looks-then}
 use Rattle.zst_dir.specs.declared.rows.Snapshot.{Snapshot}
 use Rattle.zst_marks.proofs.MoreMarks.{MarksMore-none, MarksMore-then}
+use Rattle.zst_model.specs.sends.Inclusion.{no_pairs}
 use Rattle.zst_space.specs.FreeSectors.{FreeSectors}
 use Rattle.zst_tree.specs.Damage.{IsSeen}
 use Rattle.zst_tree.proofs.LoadedNodes.{there_after}
@@ -100,7 +101,7 @@ returns-in_err-mark_set-clause-stands g c = λ honest stand.
     let turn = in_turn rows c.args.dir.now.snapshots place row c.snapshots-rows.ensures inside at in
     let there = there_after inv.looks (λ (seen : List ℕ) (space : FreeSectors). SnapshotStands (Has seen space) row) (holds_in_turn (SnapshotStands (blocks_of c.args.io.now)) c.args.dir.now.snapshots place row turn stand) in
     let p = err_from_is_err_and c.from_residual-in_err-mark_set.result c.from_residual-in_err-mark_set.ensures.1 in
-    rw (p.1, p.2) (step.there there.0 honest there.1)
+    rw (p.1, p.2) (step.there no_pairs there.0 honest there.1)
 
 pub returns-in_err-mark_set-clause-damaged : goal.returns-in_err-mark_set-clause-damaged
 returns-in_err-mark_set-clause-damaged g c = λ honest.
