@@ -102,17 +102,25 @@ module _ (made : Result PoolState CommitFault) (answer : Result PoolState PoolFa
   pub answers_cause : (before now : ℕ) → calls.HasDiskCause DiskFault before now made → HasDiskCause before now answer
   answers_cause before now cause = subst (HasDiskCause before now) (sym is) (committed_cause before now made cause)
 
-  -- it ends as the commit does
-  pub answers_ends : (kept : PoolState) (dir : Rows) (old new : IoState) → IfOk made (CommittedDir kept.body dir old new) → RefusedDir kept.body old new made → KeepsDisk (blocks.fails (stop_of_commit made)) false old new
-      → calls.HasDiskCause DiskFault old.disk.faults new.disk.faults made → EndsCommit kept old new answer
-  answers_ends kept dir old new done refused disk cause = record {
-    ready = answers_ok (λ next. Ready new.disk next.body) (IfOk-weaker made (CommittedDir kept.body dir old new) (λ next. Ready new.disk next.body) (λ next is. is.ready) done);
-    stays = λ works. answers_err (Ready new.disk kept.body) (refused.stays works);
+  -- it ends as the commit does, whatever that made free
+  pub ends_as : (kept : PoolState) (old new : IoState) → IfOk made (λ next. Ready new.disk next.body) → IfOk made (λ next. new.space ≡ free_by next.body) → IfOk made (λ next. HasItsExtents new.disk next.body)
+      → (new.failed ≡ false → OnErr made (Ready new.disk kept.body)) → KeepsDisk (blocks.fails (stop_of_commit made)) false old new → calls.HasDiskCause DiskFault old.disk.faults new.disk.faults made → EndsCommit kept old new answer
+  ends_as kept old new ready space extents stays disk cause = record {
+    ready = answers_ok (λ next. Ready new.disk next.body) ready;
+    stays = λ works. answers_err (Ready new.disk kept.body) (stays works);
     disk = record { size = disk.size; failed = answers_fails old.failed disk.failed; told = λ whole. disk.told refl; honest = disk.honest; same = disk.same };
     cause = answers_cause old.disk.faults new.disk.faults cause;
-    space = answers_ok (λ next. new.space ≡ free_by next.body) (IfOk-weaker made (CommittedDir kept.body dir old new) (λ next. new.space ≡ free_by next.body) (λ next is. sym is.space) done);
-    extents = answers_ok (λ next. HasItsExtents new.disk next.body) (IfOk-weaker made (CommittedDir kept.body dir old new) (λ next. HasItsExtents new.disk next.body) (λ next is. is.extents) done);
+    space = answers_ok (λ next. new.space ≡ free_by next.body) space;
+    extents = answers_ok (λ next. HasItsExtents new.disk next.body) extents;
   }
+
+  pub answers_ends : (kept : PoolState) (dir : Rows) (old new : IoState) → IfOk made (CommittedDir kept.body dir old new) → RefusedDir kept.body old new made → KeepsDisk (blocks.fails (stop_of_commit made)) false old new
+      → calls.HasDiskCause DiskFault old.disk.faults new.disk.faults made → EndsCommit kept old new answer
+  answers_ends kept dir old new done refused disk cause = ends_as kept old new
+      (IfOk-weaker made (CommittedDir kept.body dir old new) (λ next. Ready new.disk next.body) (λ next is. is.ready) done)
+      (IfOk-weaker made (CommittedDir kept.body dir old new) (λ next. new.space ≡ free_by next.body) (λ next is. sym is.space) done)
+      (IfOk-weaker made (CommittedDir kept.body dir old new) (λ next. HasItsExtents new.disk next.body) (λ next is. is.extents) done)
+      refused.stays disk cause
 
   -- what is kept then has the rows that were committed
   pub answers_rows : (body : Body) (dir : Rows) (old new : IoState) → IfOk made (CommittedDir body dir old new) → IfOk answer (λ next. next.dir ≡ dir)

@@ -13,20 +13,21 @@ use Rattle.zst_block.specs.declared.io.Io.{Io}
 use Rattle.zst_model.specs.declared.pools.command.Command.{Command}
 use Rattle.zst_model.specs.declared.refusals.refusal.Refusal.{Refusal}
 use Rattle.zst_model.specs.pools.Pool.{Partial as PlainPartial, Pool as Plain}
-use Rattle.zst_model.specs.pools.Step.{Stepped, stepped}
-use Rattle.zst_objset.specs.Damage.{DamageFact}
+use Rattle.zst_model.specs.pools.Step.{stepped}
 use Rattle.zst_dir.specs.Rows.{Rows}
 use Rattle.zst_dir.specs.declared.rows.Partial.{Partial}
+use Rattle.zst_roots.specs.declared.held.HeldBlocks.{HeldBlocks}
 use Rattle.zst_image.specs.Commits.{HasItsExtents, Ready}
 use Rattle.zst_image.specs.Bodies.{free_by}
 use Rattle.zst_image.specs.declared.pool_state.PoolState.{PoolState}
 use Rattle.zst_pool.specs.Calls.{CallDid, CallGrows, CanCommit, IsCallFault, IsCallFull, keeping}
-use Rattle.zst_pool.specs.CommandRuns.{Runs}
-use Rattle.zst_pool.specs.Cost.{Cost, FindsLess, cost_of}
+use Rattle.zst_pool.specs.CommandRuns.{CarriesOut}
+use Rattle.zst_pool.specs.Cost.{FindsLess, cost_of}
 use Rattle.zst_pool.specs.Events.{CommitsPartial, EndsCommit, LooksUp, PutsPartial, SameDisk, Settles, StepDid}
 use Rattle.zst_pool.specs.Damage.{IsOf, TellsDamage}
 use Rattle.zst_pool.specs.Faults.{is_disk_fault}
 use Rattle.zst_pool.specs.Queries.{stop_of}
+use Rattle.zst_pool.specs.Reclaims.{SparesReached}
 use Rattle.zst_pool.specs.StepAnswers.{BeforeOrAfter, StepAnswer}
 use Rattle.zst_pool.specs.declared.fault.PoolFault.{PoolFault}
 use Rattle.zst_pool.specs.declared.fault.PoolFault.TheVariants.{DiskFault, Failed, OutOfMemory, Full}
@@ -36,7 +37,7 @@ use Rattle.zst_pool.proofs.CommitAnswers.{disk_told}
 use Rattle.zst_pool.proofs.CommandParts.{disk_fault_same, or_false}
 use Rattle.zst_pool.proofs.PoolsAtRest.{commit_next_of}
 use Rattle.zst_pool.proofs.QuerySteps.{cause_told as cause_looked, extents_read, fails_told, on_err, on_ok, ready_read, rests_read, since_read, spares_read}
-use Rattle.zst_pool.proofs.StepCosts.{blocks_spared, spends_apart}
+use Rattle.zst_pool.proofs.StepCosts.{blocks_spared, reclaims_idle, spared_still, spends_apart}
 
 abbrev refused_with : PoolFault → Result ℕ PoolFault
 refused_with fault = Err fault
@@ -147,11 +148,11 @@ module _ {D : Type 0} {g : Ghosts D} where
     size = refl;
   })
 
-  -- what was run stands over the Io that the pool then has, as what it kept
-  pub runs_settled : {definition : Plain → Result Stepped Refusal} {cost : Cost} {damage : DamageFact} {kept : PoolState} {old : IoState} (mid new : Io D g) (made answer : Result PoolState PoolFault) → new ≡ mid → answer ≡ made
-      → Runs definition cost damage kept old (io_of mid) made → Runs definition cost damage kept old (io_of new) answer
-  runs_settled {definition = definition} {cost = cost} {damage = damage} {kept = kept} {old = old} mid new made answer over same runs =
-      subst (λ (r : Result PoolState PoolFault). Runs definition cost damage kept old (io_of new) r) (sym same) (subst (λ (io : Io D g). Runs definition cost damage kept old (io_of io) made) (sym over) runs)
+  -- what was carried out stands over the Io that the pool then has, as what it kept
+  pub carries_settled : {now : ℕ} {command : Command} {held : List HeldBlocks} {kept : PoolState} {old : IoState} (mid new : Io D g) (made answer : Result PoolState PoolFault) → new ≡ mid → answer ≡ made
+      → CarriesOut now command held kept old (io_of mid) made → CarriesOut now command held kept old (io_of new) answer
+  carries_settled {now = now} {command = command} {held = held} {kept = kept} {old = old} mid new made answer over same does =
+      subst (CarriesOut now command held kept old (io_of new)) (sym same) (subst (λ (io : Io D g). CarriesOut now command held kept old (io_of io) made) (sym over) does)
 
   -- an event that went well, or was refused so, also where it answers something else
   pub settles_ok : {T U : Type 0} (old new : Pool D g) (value : T) (reply : U) → Settles old new (Ok value) → Settles old new (Ok reply)
@@ -212,26 +213,29 @@ module _ {D : Type 0} {g : Ghosts D} where
       }
 
   -- a step for which no memory was left before anything was done
-  pub step_starved : (now : ℕ) (command : Command) (old new : Pool D g) (result : Result (List (List ℕ)) PoolFault) → result ≡ Err OutOfMemory → new.kept ≡ old.kept → OnlyReads (disk_of old.io) (disk_of new.io)
-      → StepDid now command old new result
-  step_starved now command old new result fell kept reads =
+  pub step_starved : (now : ℕ) (command : Command) (held : List HeldBlocks) (old new : Pool D g) (result : Result (List (List ℕ)) PoolFault) → result ≡ Err OutOfMemory → new.kept ≡ old.kept → OnlyReads (disk_of old.io) (disk_of new.io)
+      → StepDid now command held old new result
+  step_starved now command held old new result fell kept reads =
       let here = disk_of old.io in
       let there = disk_of new.io in
       let cost = cost_of command in
-      let Is = TellsDamage command old.kept.dir here (free_by old.kept.body) in
+      let Is = TellsDamage command held old.kept.body old.kept.dir here in
+      let spares = spares_read here there old.kept reads in
       record {
         moments = λ tight running told rested. since_read here there old.kept reads running rested (stepped [] now command running);
-        answer = λ tight running told standing rested.
+        answer = λ tight running told standing rested stand.
             subst (λ (k : PoolState). StepAnswer tight there k running (stepped [] now command running) result) (sym kept)
             (subst (StepAnswer tight there old.kept running (stepped [] now command running)) (sym fell) (rests_read here there old.kept reads running rested));
         open_still = λ standing is. cc (fell, is);
-        spends = λ standing. (0, omega arith, spends_apart cost.cells 0 cost.most_list old.kept new.io.space new.kept OutOfMemory result fell (λ need largest is. cc));
-        exact = λ running told standing rested. spends_apart cost.cells (cost.block running) (cost.list running) old.kept new.io.space new.kept OutOfMemory result fell (λ need largest is. cc);
-        short = λ running told standing rested.
+        spends = λ other standing. (0, omega arith, spends_apart cost.cells 0 cost.most_list old.kept new.io.space new.kept OutOfMemory result fell (λ need largest is. cc));
+        exact = λ other running told standing rested. spends_apart cost.cells (cost.block running) (cost.list running) old.kept new.io.space new.kept OutOfMemory result fell (λ need largest is. cc);
+        short = λ other running told standing rested.
             subst (λ (r : Result (List (List ℕ)) PoolFault). IfErr r (FindsLess cost.cells (cost.block running) (cost.list running) old.kept.body (stepped [] now command running))) (sym fell) (λ need largest is. absurd (cc));
-        spares = λ apart. on_err result (spares_read here there old.kept reads);
+        spares = λ other apart. on_err result spares;
+        blocks = λ other apart. blocks_spared here.seen there.seen old.kept new.kept kept spares;
+        reclaims = λ one told standing. reclaims_idle held here there old.kept new.kept new.io.space OutOfMemory result fell reads (λ need largest is. cc);
+        spared = λ told apart. subst (λ (k : PoolState). SparesReached held here there old.kept k) (sym kept) (spared_still held here there old.kept spares);
         damaged = λ told. subst (λ (r : Result (List (List ℕ)) PoolFault). IfErr r (IsOf Is)) (sym fell) (λ sector stated found is. absurd (cc));
-        blocks = λ apart. blocks_spared here.seen there.seen old.kept new.kept kept (spares_read here there old.kept reads);
       }
 
   -- and an event
@@ -252,19 +256,21 @@ module _ {D : Type 0} {g : Ghosts D} where
   }
 
   -- a step of a pool that has failed
-  pub step_failed : (now : ℕ) (command : Command) (pool : Pool D g) → pool.io.failed ≡ true → StepDid now command pool pool (Err Failed)
-  step_failed now command pool failed =
+  pub step_failed : (now : ℕ) (command : Command) (held : List HeldBlocks) (pool : Pool D g) → pool.io.failed ≡ true → StepDid now command held pool pool (Err Failed)
+  step_failed now command held pool failed =
       let here = disk_of pool.io in
       record {
         moments = λ tight running told rested. Leaves-none here (BeforeOrAfter tight running (stepped [] now command running));
         answer = λ tight running told works. absurd (cc (failed, works));
         open_still = λ works. absurd (cc (failed, works));
-        spends = λ works. absurd (cc (failed, works));
-        exact = λ running told works. absurd (cc (failed, works));
-        short = λ running told works. absurd (cc (failed, works));
-        spares = λ apart. spares_read here here pool.kept (OnlyReads-none here);
+        spends = λ other works. absurd (cc (failed, works));
+        exact = λ other running told works. absurd (cc (failed, works));
+        short = λ other running told works. absurd (cc (failed, works));
+        spares = λ other apart. spares_read here here pool.kept (OnlyReads-none here);
+        blocks = λ other apart ptr bytes has. has;
+        reclaims = λ one told works. absurd (cc (failed, works));
+        spared = λ told apart. spared_still held here here pool.kept (spares_read here here pool.kept (OnlyReads-none here));
         damaged = λ told sector stated found is. absurd (cc (is));
-        blocks = λ apart ptr bytes has. has;
       }
 
   -- a call that found nothing out of a pool did nothing, and no disk failed it

@@ -28,6 +28,10 @@ pub mod PartialRows
 pub mod CommandParts
 pub mod PlanLemmas
 pub mod Replies
+pub mod UnmarkedSectors
+pub mod UnreachedSectors
+pub mod ReclaimedPools
+pub mod ReclaimRuns
 pub mod PoolsAtRest
 pub mod BuiltLists
 pub mod WrittenRuns

@@ -21,7 +21,7 @@ use Rattle.zst_pool.specs.PartialRows.{latest_row, rolled_rows, rows_after, rows
 use Rattle.zst_pool.specs.Partials.{changed_at, latest_snapshot, partials_of_others, rolled, rolled_back, rolled_to}
 use Rattle.zst_pool.specs.Partials as plains
 use Rattle.zst_dir.specs.RowNames.{Match}
-use Rattle.zst_image.specs.Reads.{DatasetIs, SnapshotIs, PartialIs, RunsBy}
+use Rattle.zst_image.specs.Reads.{DatasetIs, SnapshotIs, PartialIs, RunsBy, kept_rows}
 use Rattle.zst_pool.proofs.LastElements.{last-Match}
 use Rattle.zst_dir.proofs.Matches.{filter-Match, inserted-Match, map-Match, FoundAlike}
 
@@ -100,22 +100,24 @@ unkept_dropped {bound = bound} has rows running target runs = record {
       rows.partials running.partials runs.partials;
 }
 
--- is no part of what is kept
-kept_left : (target : List ℕ) (partials : List plain.Partial)
-    → filter (λ partial. partial.keep) (filter (λ partial. not (bytes_eq partial.target target && not partial.keep)) partials) ≡ filter (λ partial. partial.keep) partials
-kept_left target [] = refl
-kept_left target (partial ∷ partials) =
-    go (bytes_eq partial.target target) partial.keep refl (filter (λ other. not (bytes_eq other.target target && not other.keep)) partials) (kept_left target partials)
+-- what isn't kept is no part of what is
+kept_left : {A : Type 0} (is_its keep : A → Bool) (xs : List A) → filter keep (filter (λ x. not (is_its x && not (keep x))) xs) ≡ filter keep xs
+kept_left is_its keep [] = refl
+kept_left {A = A} is_its keep (x ∷ xs) = go (is_its x) (keep x) refl (filter (λ y. not (is_its y && not (keep y))) xs) (kept_left is_its keep xs)
   where
-    go : (b k : Bool) → partial.keep ≡ k → (left : List plain.Partial) → filter (λ other. other.keep) left ≡ filter (λ other. other.keep) partials
-        → filter (λ other. other.keep) (cond (not (b && not k)) (partial ∷ left) left) ≡ cond k (partial ∷ filter (λ other. other.keep) partials) (filter (λ other. other.keep) partials)
-    go true true is left rest = ap (λ (t : Bool). cond t (partial ∷ filter (λ other. other.keep) left) (filter (λ other. other.keep) left)) is ∙ ap (λ (l : List plain.Partial). partial ∷ l) rest
+    go : (b k : Bool) → keep x ≡ k → (left : List A) → filter keep left ≡ filter keep xs → filter keep (cond (not (b && not k)) (x ∷ left) left) ≡ cond k (x ∷ filter keep xs) (filter keep xs)
+    go true true is left rest = ap (λ (t : Bool). cond t (x ∷ filter keep left) (filter keep left)) is ∙ ap (λ (l : List A). x ∷ l) rest
     go true false is left rest = rest
-    go false true is left rest = ap (λ (t : Bool). cond t (partial ∷ filter (λ other. other.keep) left) (filter (λ other. other.keep) left)) is ∙ ap (λ (l : List plain.Partial). partial ∷ l) rest
-    go false false is left rest = ap (λ (t : Bool). cond t (partial ∷ filter (λ other. other.keep) left) (filter (λ other. other.keep) left)) is ∙ rest
+    go false true is left rest = ap (λ (t : Bool). cond t (x ∷ filter keep left) (filter keep left)) is ∙ ap (λ (l : List A). x ∷ l) rest
+    go false false is left rest = ap (λ (t : Bool). cond t (x ∷ filter keep left) (filter keep left)) is ∙ rest
 
 pub kept_stays : (target : List ℕ) (running : Pool) → kept_of (plains.without_unkept target running) ≡ kept_of running
-kept_stays target running = ap (λ (l : List plain.Partial). record running { partials = l }) (kept_left target running.partials)
+kept_stays target running =
+    ap (λ (l : List plain.Partial). record running { partials = l }) (kept_left (λ (partial : plain.Partial). bytes_eq partial.target target) (λ (partial : plain.Partial). partial.keep) running.partials)
+
+-- nor of the rows that last
+pub kept_rows_stay : (target : List ℕ) (rows : Rows) → kept_rows (record rows { partials = filter (λ partial. not (is_unkept_for target partial)) rows.partials }) ≡ kept_rows rows
+kept_rows_stay target rows = ap (λ (l : List Partial). record rows { partials = l }) (kept_left (λ (partial : Partial). bytes_eq partial.target target) (λ (partial : Partial). partial.keep) rows.partials)
 
 -- a command that only answers touches no partial state
 pub rows_stay : (command : Command) (rows : List Partial) → commits command ≡ false → rows_after command rows ≡ rows

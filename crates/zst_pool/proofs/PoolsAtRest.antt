@@ -1,7 +1,7 @@
 -- A pool stays at rest while blocks alone are written, and comes to rest as the next one after a commit.
 use Rattle.std.specs.Prelude.{Result, Ok, Err, IfOk, OnErr}
-use Rattle.std.proofs.Common.{◌≡◌, ℕ, ◌+◌, ◌≤◌, ◌<◌, ◌^◌, Bool, false, Option, sym, ap, ◌∙◌, subst, arith}
-use Rattle.std.proofs.lemmas.List.Elements.{filter_passes}
+use Rattle.std.proofs.Common.{◌≡◌, ℕ, ◌+◌, ◌≤◌, ◌<◌, ◌^◌, Bool, false, true, List, filter, Option, refl, sym, ap, ◌∙◌, subst, arith}
+use Rattle.std.proofs.lemmas.List.Elements.{All-contains, filter_passes}
 use Rattle.zst_outside.specs.Images.{DiskState, Leaves, Leaves-weaker, OnlyReads-none}
 use Rattle.zst_space.specs.FreeSectors.{FreeSectors}
 use Rattle.zst_block.specs.Blocks.{FillsFree, FitsDisk, Has, Spared}
@@ -12,6 +12,7 @@ use Rattle.zst_image.specs.Bodies.{Body, behind_end, free_by}
 use Rattle.zst_model.specs.pools.KeptPool.{kept_of}
 use Rattle.zst_model.specs.pools.Limits.{last_guid, last_number}
 use Rattle.zst_model.specs.pools.Pool.{Pool, Partial, IsPool}
+use Rattle.zst_model.proofs.FilteredLists.{filter_all}
 use Rattle.zst_model.proofs.KeptPools.{all_stay}
 use Rattle.zst_tree.specs.Indices.{Blocks}
 use Rattle.zst_dir.specs.Rows.{Rows, IsLawful}
@@ -104,6 +105,7 @@ module _ {tight : Bool} (start now : DiskState) (space : FreeSectors) (kept : Po
   pub rests_on : IsAtRest tight now kept running
   rests_on = record {
     rows = way.rested.rows;
+    lasting = way.rested.lasting;
     rests = Rests-fills start now space kept.body way.rested.rows (kept_of running) way.fills way.rested.rests;
     runs_by =
         RunsBy-grows start.seen (free_by kept.body) now.seen (free_by kept.body) (λ ptr bytes has. Has-spared (free_by kept.body) start.seen now.seen ptr bytes way.fills.seen has) kept.dir running way.rested.runs_by;
@@ -131,6 +133,13 @@ kept_are {bound = bound} has rows running runs = record {
   bookmarks = runs.bookmarks;
   partials = filter-Match (PartialIs bound has) (λ row. row.keep) (λ partial. partial.keep) (λ x y is. sym is.named.keep) rows.partials running.partials runs.partials;
 }
+
+-- the rows that last are all that last of them
+pub kept_twice : (rows : Rows) → kept_rows (kept_rows rows) ≡ kept_rows rows
+kept_twice rows =
+    let left = filter (λ (row : Row). row.keep) rows.partials in
+    ap (λ (partials : List Row). record rows { partials = partials })
+    (filter_all (λ (row : Row). row.keep) left (λ row there. All-contains (λ (r : Row). r.keep ≡ true) left row (filter_passes (λ (r : Row). r.keep) rows.partials) there))
 
 -- and what is kept of that is all of it
 pub kept_again : (running : Pool) → kept_of (kept_of running) ≡ kept_of running
@@ -177,7 +186,7 @@ rests_next {tight = tight} start old new kept rows dir running next made commits
   where
     go : (r : Result PoolState CommitFault) → Commits tight start new.disk kept.body rows (kept_of running) (kept_of (next_of next).pool) r
         → IfOk r (λ kept. RunsBy (bound_of tight (next.number + 1)) (Has new.disk.seen (free_by kept.body)) kept.dir (next_of next).pool) → IfOk r (λ kept. IsAtRest tight new.disk kept (next_of next).pool)
-    go (Ok after) commits runs = record { rows = after.dir; rests = commits.answer; runs_by = runs; lawful = lawful }
+    go (Ok after) commits runs = record { rows = after.dir; lasting = refl; rests = commits.answer; runs_by = runs; lawful = lawful }
     go (Err fault) commits runs = tt
 
 -- and after a refusal that isn't the disk's the one before is
@@ -190,6 +199,7 @@ rests_unless start old new space less kept running (Err fault) way fills apart =
 pub rests_opened : {tight : Bool} (disk : DiskState) (kept : PoolState) (rows : Rows) (pool : Pool) → Rests tight disk kept.body rows pool → kept.dir ≡ kept_rows rows → IsAtRest tight disk kept pool
 rests_opened {tight = tight} disk kept rows pool rests same = record {
   rows = rows;
+  lasting = ap kept_rows same ∙ kept_twice rows;
   rests = subst (λ (p : Pool). Rests tight disk kept.body rows p) (sym (all_stay pool (images_keep kept.body rows pool disk.seen rests.reads))) rests;
   runs_by = subst (λ (r : Rows). RunsBy (bound_of tight pool.number) (Has disk.seen (free_by kept.body)) r pool) (sym same) rests.reads.described.rows_are;
   lawful = rests.reads.described.lawful;
@@ -199,6 +209,7 @@ rests_opened {tight = tight} disk kept rows pool rests same = record {
 pub rest_plain : {tight : Bool} (now : DiskState) (kept : PoolState) (running : Pool) → IsAtRest tight now kept running → IsAtRest false now kept running
 rest_plain now kept running rested = record {
   rows = rested.rows;
+  lasting = rested.lasting;
   rests = Rests-plain now kept.body rested.rows (kept_of running) rested.rests;
   runs_by = RunsBy-plain (Has now.seen (free_by kept.body)) kept.dir running rested.runs_by;
   lawful = rested.lawful;

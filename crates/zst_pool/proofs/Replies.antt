@@ -184,6 +184,7 @@ of_step now (commands.Redact snapshot bookmark redactions) pool commit = of_reda
 of_step now (commands.Rollback destroys snapshot) pool commit = of_rollback destroys snapshot pool
 of_step now (commands.Destroy name) pool commit = of_destroyed name pool
 of_step now (commands.Abort dataset) pool commit = of_aborted dataset pool
+of_step now commands.Reclaim pool commit = on_committed pool.number pool refl
 of_step now (commands.Read name k i) pool commit = absurd (cc)
 of_step now commands.List pool commit = absurd (cc)
 of_step now (commands.ListObjects name) pool commit = absurd (cc)

@@ -1,12 +1,15 @@
 -- What a step spends and spares, from what its run did.
 use Rattle.std.specs.Prelude.{Result, Ok, Err, OnErr}
 use Rattle.std.proofs.Common.{◌≡◌, ℕ, List, sym, ap, ◌∙◌, subst}
+use Rattle.zst_outside.specs.Images.{DiskState, OnlyReads}
 use Rattle.zst_space.specs.FreeSectors.{FreeSectors}
 use Rattle.zst_block.specs.Blocks.{Has, KeepsBlocks, SparesTaken}
-use Rattle.zst_block.proofs.BlocksLaws.{Has-spared}
+use Rattle.zst_block.proofs.BlocksLaws.{Has-spared, SparesTaken-same}
 use Rattle.zst_image.specs.Bodies.{free_by}
+use Rattle.zst_roots.specs.declared.held.HeldBlocks.{HeldBlocks}
 use Rattle.zst_pool.specs.Cost.{Spends}
 use Rattle.zst_pool.specs.CommandRuns.{as_kept}
+use Rattle.zst_pool.specs.Reclaims.{Reclaims, SparesReached}
 use Rattle.zst_pool.specs.declared.fault.PoolFault.{PoolFault}
 use Rattle.zst_pool.specs.declared.fault.PoolFault.TheVariants.{DiskFault, Full}
 use Rattle.zst_image.specs.declared.pool_state.PoolState.{PoolState}
@@ -42,3 +45,36 @@ pub blocks_err : {T : Type 0} (old new : List ℕ) (kept after : PoolState) (fau
     → (¬ (◌≡◌ {A = Result PoolState PoolFault} (Err fault) (Err DiskFault)) → SparesTaken (free_by kept.body) old new) → ¬ (r ≡ Err DiskFault) → KeepsBlocks old (free_by kept.body) new (free_by after.body)
 blocks_err old new kept after fault r same stays spares apart =
     blocks_spared old new kept after stays (spares (λ is. let disk : fault ≡ DiskFault = cc in apart (same ∙ ap (λ (f : PoolFault). Err f) disk)))
+
+-- so does what the rows reach, and what sessions hold
+pub spared_still : (held : List HeldBlocks) (old new : DiskState) (kept : PoolState) → SparesTaken (free_by kept.body) old.seen new.seen → SparesReached held old new kept kept
+spared_still held old new kept spares = record {
+  over = free_by kept.body;
+  more = λ sector free. free;
+  unreached = λ sector reached free. free;
+  blocks = λ ptr bytes has. Has-spared (free_by kept.body) old.seen new.seen ptr bytes spares has;
+}
+
+-- a reclaim that only read before it fell, and not for want of room
+pub reclaims_idle : {T : Type 0} (held : List HeldBlocks) (old new : DiskState) (before after : PoolState) (left : FreeSectors) (fault : PoolFault) (r : Result T PoolFault) → r ≡ Err fault → OnlyReads old new → ((need largest : ℕ) → ¬ (fault ≡ Full need largest))
+    → Reclaims held old new before after left r
+reclaims_idle {T = T} held old new before after left fault r same reads apart =
+    let fell : Reclaims {T = T} held old new before after left (Err fault) = record {
+      done = tt;
+      full = λ need largest is. absurd (apart need largest is);
+      spares = λ not space are. subst (λ (seen : List ℕ). SparesTaken space old.seen seen) (sym reads.seen) (SparesTaken-same space old.seen);
+    } in
+    subst (Reclaims held old new before after left) (sym same) fell
+
+-- one that answers its number, or falls as its run did
+pub reclaims_ok : {T U : Type 0} (held : List HeldBlocks) (old new : DiskState) (before after : PoolState) (left : FreeSectors) (value : T) (reply : U) → Reclaims held old new before after left (Ok value) → Reclaims held old new before after left (Ok reply)
+reclaims_ok held old new before after left value reply is = record { done = is.done; full = tt; spares = λ apart. tt }
+
+pub reclaims_err : {T U : Type 0} (held : List HeldBlocks) (old new : DiskState) (before after : PoolState) (left : FreeSectors) (fault : PoolFault) (r : Result U PoolFault) → r ≡ Err fault → Reclaims {T = T} held old new before after left (Err fault) → Reclaims held old new before after left r
+reclaims_err {T = T} {U = U} held old new before after left fault r same is =
+    let fell : Reclaims {T = U} held old new before after left (Err fault) = record {
+      done = tt;
+      full = is.full;
+      spares = λ apart. is.spares (λ of. let disk : fault ≡ DiskFault = cc in apart (ap (λ (f : PoolFault). Err f) disk));
+    } in
+    subst (Reclaims held old new before after left) (sym same) fell

@@ -13,7 +13,7 @@ use Rattle.zst_model.specs.pools.KeptPool.{kept_of}
 use Rattle.zst_model.specs.pools.Pool.{Pool, IsPool}
 use Rattle.zst_dir.specs.Rows.{Rows}
 use Rattle.zst_dir.specs.Spelling.{dir_bytes}
-use Rattle.zst_image.specs.Reads.{Reads, Rests, RunsBy, bound_of}
+use Rattle.zst_image.specs.Reads.{Reads, Rests, RunsBy, bound_of, kept_rows}
 use Rattle.zst_image.specs.Commits.{Ready, commit_sectors}
 use Rattle.zst_pool.specs.declared.fault.PoolFault.{PoolFault}
 use Rattle.zst_pool.specs.declared.fault.PoolFault.TheVariants.{Plan, CannotApply, Redacted, Full, Damaged, DiskFault, Failed, OutOfMemory}
@@ -31,9 +31,10 @@ pub record ListsAnew (running next : Pool) : Type 0 where
   pub number : next.number ≡ running.number
   pub guids : next.guids ≡ running.guids
 
--- between its events: the disk rests, by its rows, as what is kept of this pool, and the rows in memory stand for the lawful pool that runs, by tight sets where that is said
+-- between its events: the disk rests, by its rows, as what is kept of this pool, and the rows in memory, of which those that last are the disk's, stand for the lawful pool that runs, by tight sets where that is said
 pub record IsAtRest (tight : Bool) (now : DiskState) (kept : PoolState) (running : Pool) : Type 0 where
   pub rows : Rows
+  pub lasting : kept_rows kept.dir ≡ kept_rows rows
   pub rests : Rests tight now kept.body rows (kept_of running)
   pub runs_by : RunsBy (bound_of tight running.number) (Has now.seen (free_by kept.body)) kept.dir running
   pub lawful : IsPool running

@@ -89,6 +89,7 @@ cost_of (commands.Redact snapshot bookmark redactions) = redact_cost snapshot re
 cost_of (commands.Rollback destroys snapshot) = cells_only 0
 cost_of (commands.Destroy name) = cells_only 0
 cost_of (commands.Abort dataset) = cells_only 0
+cost_of commands.Reclaim = cells_only 0
 cost_of (commands.Read name k i) = cells_only 0
 cost_of commands.List = cells_only 0
 cost_of (commands.ListObjects name) = cells_only 0

@@ -11,6 +11,9 @@ use Rattle.zst_model.specs.declared.pools.command.Command.TheVariants as command
 use Rattle.zst_model.specs.declared.refusals.subjects.Name.{Name}
 use Rattle.zst_dir.specs.Rows.{Rows}
 use Rattle.zst_dir.specs.declared.rows.Dataset.{Dataset}
+use Rattle.zst_image.specs.Bodies.{Body, free_by}
+use Rattle.zst_roots.specs.RowDamage.{IsDamagedInPool}
+use Rattle.zst_roots.specs.declared.held.HeldBlocks.{HeldBlocks}
 use Rattle.zst_redact.specs.Damage.{IsDamagedAmong}
 use Rattle.zst_pool.specs.Lookups.{set_named}
 use Rattle.zst_pool.specs.Redactions.{rows_of, sets_of}
@@ -62,24 +65,29 @@ NoDamage sector stated found = ⊥
 abbrev pub redact_damage : DiskState → List (List ℕ) → Rows → DamageFact
 redact_damage disk names rows = IsDamagedAmong (IsSeen disk.seen) disk.size (sets_of (rows_of names rows))
 
--- what a command may tell: of the object set of its dataset or of its snapshots, as the disk had it when the command began, with these sectors free
-abbrev pub TellsDamage : Command → Rows → DiskState → FreeSectors → DamageFact
-TellsDamage (commands.Fs dataset) rows disk space = NoDamage
-TellsDamage (commands.Volume dataset) rows disk space = NoDamage
-TellsDamage (commands.Object dataset k head bonus spill) rows disk space = OfHead rows dataset (slots_damage disk space)
-TellsDamage (commands.Write dataset k i bytes) rows disk space = OfHead rows dataset (block_damage disk space)
-TellsDamage (commands.Punch dataset k first count) rows disk space = OfHead rows dataset (range_damage disk space)
-TellsDamage (commands.Free dataset first count) rows disk space = OfHead rows dataset (slots_damage disk space)
-TellsDamage (commands.Snapshot name) rows disk space = NoDamage
-TellsDamage (commands.Clone origin dataset) rows disk space = NoDamage
-TellsDamage (commands.Bookmark snapshot bookmark) rows disk space = NoDamage
-TellsDamage (commands.Redact snapshot bookmark redactions) rows disk space = redact_damage disk (snapshot ∷ redactions) rows
-TellsDamage (commands.Rollback destroys snapshot) rows disk space = NoDamage
-TellsDamage (commands.Destroy name) rows disk space = NoDamage
-TellsDamage (commands.Abort dataset) rows disk space = NoDamage
-TellsDamage (commands.Read name k i) rows disk space = OfSet rows name (read_damage disk)
-TellsDamage commands.List rows disk space = NoDamage
-TellsDamage (commands.ListObjects name) rows disk space = OfSet rows name (look_damage disk)
+-- what a reclaim may tell: of a walk over all that the rows reach and that sessions hold, and the texts of the directory and of the free extents
+abbrev pub reclaim_damage : List HeldBlocks → DiskState → Body → Rows → DamageFact
+reclaim_damage held disk body rows = IsDamagedInPool (IsSeen disk.seen) disk.size body.uber rows held
+
+-- what a command may tell: of the object set of its dataset or of its snapshots, as the disk had it when the command began, with the sectors free that this body leaves so; a reclaim may tell of all that the body and the rows reach, and of what these sessions hold
+abbrev pub TellsDamage : Command → List HeldBlocks → Body → Rows → DiskState → DamageFact
+TellsDamage (commands.Fs dataset) held body rows disk = NoDamage
+TellsDamage (commands.Volume dataset) held body rows disk = NoDamage
+TellsDamage (commands.Object dataset k head bonus spill) held body rows disk = OfHead rows dataset (slots_damage disk (free_by body))
+TellsDamage (commands.Write dataset k i bytes) held body rows disk = OfHead rows dataset (block_damage disk (free_by body))
+TellsDamage (commands.Punch dataset k first count) held body rows disk = OfHead rows dataset (range_damage disk (free_by body))
+TellsDamage (commands.Free dataset first count) held body rows disk = OfHead rows dataset (slots_damage disk (free_by body))
+TellsDamage (commands.Snapshot name) held body rows disk = NoDamage
+TellsDamage (commands.Clone origin dataset) held body rows disk = NoDamage
+TellsDamage (commands.Bookmark snapshot bookmark) held body rows disk = NoDamage
+TellsDamage (commands.Redact snapshot bookmark redactions) held body rows disk = redact_damage disk (snapshot ∷ redactions) rows
+TellsDamage (commands.Rollback destroys snapshot) held body rows disk = NoDamage
+TellsDamage (commands.Destroy name) held body rows disk = NoDamage
+TellsDamage (commands.Abort dataset) held body rows disk = NoDamage
+TellsDamage commands.Reclaim held body rows disk = reclaim_damage held disk body rows
+TellsDamage (commands.Read name k i) held body rows disk = OfSet rows name (read_damage disk)
+TellsDamage commands.List held body rows disk = NoDamage
+TellsDamage (commands.ListObjects name) held body rows disk = OfSet rows name (look_damage disk)
 
 -- E25 comes only of such a damage
 abbrev pub IsOf : DamageFact → PoolFault → Type 0

@@ -1,5 +1,5 @@
 -- What an event of a pool does: a step, a call of a receive, and what both commit.
-use Rattle.std.specs.Prelude.{◌≡◌, ◌||◌, ◌+◌, ◌<◌, ◌≤◌, ◌^◌, ℕ, Bool, true, false, [], List, length, Result, Err, IfErr, IfOk, OnErr, OnOk}
+use Rattle.std.specs.Prelude.{◌≡◌, ◌≢◌, ◌||◌, ◌+◌, ◌<◌, ◌≤◌, ◌^◌, ℕ, Bool, true, false, [], List, length, Result, Err, IfErr, IfOk, OnErr, OnOk}
 use Rattle.zst_outside.specs.Images.{Leaves, OnlyReads}
 use Rattle.zst_outside.specs.declared.disk.Disk.{Ghosts}
 use Rattle.zst_space.specs.FreeSectors.{FreeSectors}
@@ -8,12 +8,14 @@ use Rattle.zst_block.specs.IoCalls.{IsBlockLength, TakesAtMost, is_damage}
 use Rattle.zst_block.specs.IoStates.{IoState, IsHonest, blocks_of, disk_of}
 use Rattle.zst_block.specs.declared.io.Io.{Io}
 use Rattle.zst_model.specs.declared.pools.command.Command.{Command}
+use Rattle.zst_model.specs.declared.pools.command.Command.TheVariants as commands
 use Rattle.zst_model.specs.declared.refusals.refusal.Refusal.{Refusal}
 use Rattle.zst_model.specs.pools.Pool.{Partial as PlainPartial, Pool as Plain}
 use Rattle.zst_model.specs.pools.Step.{stepped}
 use Rattle.zst_dir.specs.Rows.{Rows}
 use Rattle.zst_dir.specs.Spelling.{dir_bytes}
 use Rattle.zst_dir.specs.declared.rows.Partial.{Partial}
+use Rattle.zst_roots.specs.declared.held.HeldBlocks.{HeldBlocks}
 use Rattle.zst_image.specs.Commits.{HasItsExtents, KeepsDisk, Ready, commit_sectors}
 use Rattle.zst_image.specs.Bodies.{free_by}
 use Rattle.zst_image.specs.Reads.{PartialIs, bound_of}
@@ -23,6 +25,7 @@ use Rattle.zst_pool.specs.Cost.{FindsLess, Spends, cost_of}
 use Rattle.zst_pool.specs.Damage.{IsOf, TellsDamage}
 use Rattle.zst_pool.specs.Faults.{HasDiskCause, is_disk_fault}
 use Rattle.zst_pool.specs.Queries.{stop_of}
+use Rattle.zst_pool.specs.Reclaims.{HeldStand, Reclaims, SparesReached}
 use Rattle.zst_pool.specs.StepAnswers.{BeforeOrAfter, StepAnswer}
 use Rattle.zst_pool.specs.declared.fault.PoolFault.{PoolFault}
 use Rattle.zst_pool.specs.declared.fault.PoolFault.TheVariants.{DiskFault, Failed, Full}
@@ -118,28 +121,33 @@ module _ {D : Type 0} {g : Ghosts D} where
     pub size : (disk_of new.io).size ≡ (disk_of old.io).size
 
   -- a step at this time: what it makes of a pool that was at rest, and what it takes and tells whatever the image is
-  pub record StepDid (now : ℕ) (command : Command) (old new : Pool D g) (result : Result (List (List ℕ)) PoolFault) : Type 0 where
+  pub record StepDid (now : ℕ) (command : Command) (held : List HeldBlocks) (old new : Pool D g) (result : Result (List (List ℕ)) PoolFault) : Type 0 where
     -- at every moment each image reads as what is kept of the pool before the command, or of what the command makes of it
     pub moments : (tight : Bool) (running : Plain) → IsHonest new.io → IsAtRest tight (disk_of old.io) old.kept running
         → Leaves (disk_of old.io) (disk_of new.io) (BeforeOrAfter tight running (stepped [] now command running))
     -- after its answer what the definition makes of the pool is at rest; after a refusal the pool as it was is
-    pub answer : (tight : Bool) (running : Plain) → IsHonest new.io → old.io.failed ≡ false → IsAtRest tight (disk_of old.io) old.kept running
+    pub answer : (tight : Bool) (running : Plain) → IsHonest new.io → old.io.failed ≡ false → IsAtRest tight (disk_of old.io) old.kept running → HeldStand (disk_of old.io) old.kept.body held
         → StepAnswer tight (disk_of new.io) new.kept running (stepped [] now command running) result
     pub open_still : old.io.failed ≡ false → ¬ (result ≡ Err Failed)
-    -- whatever the image is, no more is taken than the command costs at most, and E24 comes only where that isn't there
-    pub spends : old.io.failed ≡ false → (block : ℕ) × (block ≤ (cost_of command).most) × Spends (cost_of command).cells block (cost_of command).most_list old.kept new.io.space (λ reply. new.kept) result
-    -- where a pool was at rest, no more is taken than the command costs there
-    pub exact : (running : Plain) → IsHonest new.io → old.io.failed ≡ false → IsAtRest false (disk_of old.io) old.kept running
+    -- whatever the image is, a command but a reclaim takes no more than it costs at most, and E24 comes only where that isn't there
+    pub spends : command ≢ commands.Reclaim → old.io.failed ≡ false
+        → (block : ℕ) × (block ≤ (cost_of command).most) × Spends (cost_of command).cells block (cost_of command).most_list old.kept new.io.space (λ reply. new.kept) result
+    -- where a pool was at rest, it takes no more than it costs there
+    pub exact : command ≢ commands.Reclaim → (running : Plain) → IsHonest new.io → old.io.failed ≡ false → IsAtRest false (disk_of old.io) old.kept running
         → Spends (cost_of command).cells ((cost_of command).block running) ((cost_of command).list running) old.kept new.io.space (λ reply. new.kept) result
     -- and E24 comes there only where fewer sectors were free than it takes with the directory that it would leave
-    pub short : (running : Plain) → IsHonest new.io → old.io.failed ≡ false → IsAtRest false (disk_of old.io) old.kept running
+    pub short : command ≢ commands.Reclaim → (running : Plain) → IsHonest new.io → old.io.failed ≡ false → IsAtRest false (disk_of old.io) old.kept running
         → IfErr result (FindsLess (cost_of command).cells ((cost_of command).block running) ((cost_of command).list running) old.kept.body (stepped [] now command running))
-    -- what is refused wrote free sectors alone, unless the disk failed
-    pub spares : ¬ (result ≡ Err DiskFault) → OnErr result (SparesTaken (free_by old.kept.body) (disk_of old.io).seen (disk_of new.io).seen)
-    -- E25 tells a damage of the object set of the command's dataset, also where the image reads as no pool
-    pub damaged : IsHonest new.io → IfErr result (IsOf (TellsDamage command old.kept.dir (disk_of old.io) (free_by old.kept.body)))
-    -- unless the disk failed, the blocks that were there still are, over the sectors that the latest body then leaves free
-    pub blocks : ¬ (result ≡ Err DiskFault) → KeepsBlocks (disk_of old.io).seen (free_by old.kept.body) (disk_of new.io).seen (free_by new.kept.body)
+    -- where it is refused it wrote free sectors alone, unless the disk failed
+    pub spares : command ≢ commands.Reclaim → ¬ (result ≡ Err DiskFault) → OnErr result (SparesTaken (free_by old.kept.body) (disk_of old.io).seen (disk_of new.io).seen)
+    -- and the blocks that were there still are then, over the sectors that the latest body leaves free
+    pub blocks : command ≢ commands.Reclaim → ¬ (result ≡ Err DiskFault) → KeepsBlocks (disk_of old.io).seen (free_by old.kept.body) (disk_of new.io).seen (free_by new.kept.body)
+    -- a reclaim makes free what nothing reaches, and takes of that
+    pub reclaims : command ≡ commands.Reclaim → IsHonest new.io → old.io.failed ≡ false → Reclaims held (disk_of old.io) (disk_of new.io) old.kept new.kept new.io.space result
+    -- unless the disk failed, what the rows from before reach and what sessions hold still stands after each command
+    pub spared : IsHonest new.io → ¬ (result ≡ Err DiskFault) → SparesReached held (disk_of old.io) (disk_of new.io) old.kept new.kept
+    -- E25 tells a damage of the object set of the command's dataset, or of what a reclaim walks, also where the image reads as no pool
+    pub damaged : IsHonest new.io → IfErr result (IsOf (TellsDamage command held old.kept.body old.kept.dir (disk_of old.io)))
 
   -- a call that only answers reads the disk, and leaves what is kept
   pub record OnlyAnswers (old new : Pool D g) : Type 0 where

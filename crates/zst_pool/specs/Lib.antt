@@ -5,10 +5,12 @@ pub mod Damage
 pub mod Faults
 pub mod Lookups
 pub mod FinishedRows
+pub mod FoundCommits
 pub mod Heads
 pub mod Lineage
 pub mod Lists
 pub mod Redactions
+pub mod Reclaims
 pub mod RowChanges
 pub mod PartialRows
 pub mod Partials

@@ -18,6 +18,7 @@ mod partial_commits;
 mod partials;
 mod pool;
 mod queries;
+mod reclaims;
 mod redactions;
 mod redacts;
 mod reopened_pools;

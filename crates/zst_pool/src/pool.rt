@@ -1,15 +1,15 @@
-ghost use Rattle.std.specs.Prelude.{◌≡◌, ℕ, ◌∷◌, [], false, true, IfOk, OnOk, Err};
+ghost use Rattle.std.specs.Prelude.{◌≡◌, ◌≢◌, ℕ, ◌∷◌, List, [], false, true, IfOk, OnOk, Err};
 ghost use Rattle.zst_block.specs.IoStates.{disk_of, io_of};
 ghost use Rattle.zst_model.specs.pools.AnswerLines.{ok_line};
 ghost use Rattle.zst_model.specs.pools.Pool.{Pool as Plain};
 ghost use Rattle.zst_model.specs.pools.Soundness.{Sound};
 ghost use Rattle.zst_model.specs.pools.Step.{Stepped, commits, stepped, IsCommand};
 ghost use Rattle.zst_pool.specs.Plans.{Plans, indices_end, makes_list, numbers_end};
-ghost use Rattle.zst_image.specs.Bodies.{behind_end, free_by};
+ghost use Rattle.zst_image.specs.Bodies.{behind_end};
 ghost use Rattle.zst_pool.specs.Calls.{CanCommit, IsAtRest};
 ghost use Rattle.zst_pool.specs.Cost.{cost_of};
 ghost use Rattle.zst_pool.specs.Damage.{TellsDamage};
-ghost use Rattle.zst_pool.specs.CommandRuns.{Runs, CanBegin, RunsByPlan};
+ghost use Rattle.zst_pool.specs.CommandRuns.{CanBegin, CarriesOut, RunsByPlan};
 ghost use Rattle.zst_pool.specs.Events.{OnlyAnswers, Settles, StepDid};
 ghost use Rattle.zst_pool.specs.PartialRows.{rows_after};
 ghost use Rattle.zst_image.specs.Commits.{Ready};
@@ -20,6 +20,7 @@ use crate::fault::PoolFault;
 use crate::heads::{free_objects, punch, put_object, write_block};
 use crate::lineage_commands::{destroy, make_bookmark, make_clone, roll_back};
 use crate::queries::tell;
+use crate::reclaims::reclaim;
 use crate::redacts::make_redaction;
 use std::alloc::{AllocError, Global};
 use zst_block::Io;
@@ -27,6 +28,7 @@ use zst_image::PoolState;
 use zst_laws::steps_keep_sound;
 use zst_model::{Bytes, Command, Reply};
 use zst_outside::Disk;
+use zst_roots::HeldBlocks;
 use zst_space::Space;
 
 /// A pool on a disk.
@@ -68,14 +70,21 @@ impl<'d, D: Disk> Pool<'d, D> {
 
     /// Runs a command at this time on the pool that runs: it commits once where it changes that, and not
     /// at all where it is refused or only answers. It begins with all that the latest body leaves free: E32 where there
-    /// is no memory for that. After a refusal the sectors are those that were left then, until the next event begins.
+    /// is no memory for that. A reclaim takes of all that nothing reaches instead, and leaves what open sessions hold of
+    /// the pool. After a refusal the sectors are those that were left then, until the next event begins.
     ///
     /// After E28 the pool answers E31.
-    pub fn step(&mut self, alloc: Global, now: u64, command: Command) -> Result<Reply, PoolFault>
+    pub fn step(
+        &mut self,
+        alloc: Global,
+        now: u64,
+        command: Command,
+        held: &[HeldBlocks],
+    ) -> Result<Reply, PoolFault>
         requires command { IsCommand command }
         requires ready { self.old.io.failed ≡ false → Ready (disk_of self.old.io) self.old.kept.body }
 
-        ensures did { StepDid now command self.old self.new result }
+        ensures did { StepDid now command held.now self.old self.new result }
         // E3 to E6, E8, E14, E19 and E23 of datasets, snapshots, bookmarks and guids come exactly where the directory says so, whatever the object sets hold, unless no memory is left before; E23 of numbers only past them, and of runs only of a list that is made.
         ensures planned { self.old.io.failed ≡ false → ¬ (result ≡ Err PoolFault.OutOfMemory)
             → Plans (λ pool. stepped [] now command pool) (numbers_end command) (indices_end command) (makes_list command) self.old.kept result }
@@ -99,7 +108,7 @@ impl<'d, D: Disk> Pool<'d, D> {
             return tell(&mut self.io, alloc, &self.kept, command);
         }
         let reply = committed(alloc, self.kept.body.uber().number.saturating_add(1))?;
-        let ran = run(&mut self.io, alloc, &self.kept, now, command);
+        let ran = carry_out(&mut self.io, alloc, &self.kept, now, command, held);
         self.keep(ran)?;
         Ok(reply)
     }
@@ -115,7 +124,28 @@ fn committed(alloc: Global, number: u64) -> Result<Reply, AllocError>
     Ok(Reply::new(lines))
 }
 
-/// Runs a command that commits, over the sectors that are free by the latest body.
+/// Carries out a command that commits: a reclaim, or one over the sectors that are free by the latest body.
+#[tactic(auto, unfolding(zst_model::specs::pools::Step::stepped))]
+fn carry_out<D: Disk>(
+    io: &mut Io<'_, D>,
+    alloc: Global,
+    kept: &PoolState,
+    now: u64,
+    command: Command,
+    held: &[HeldBlocks],
+) -> Result<PoolState, PoolFault>
+    requires command { IsCommand command }
+    requires commits { commits command ≡ true }
+    requires begins { CanBegin (io_of io.old) kept.now }
+    ensures does { CarriesOut now command held.now kept.now (io_of io.old) (io_of io.new) result }
+{
+    match command {
+        Command::Reclaim => reclaim(io, alloc, kept, held),
+        command => run(io, alloc, kept, now, command),
+    }
+}
+
+/// Runs a command that commits and is no reclaim, over the sectors that are free by the latest body.
 #[tactic(auto, unfolding(zst_model::specs::pools::Step::stepped))]
 fn run<D: Disk>(
     io: &mut Io<'_, D>,
@@ -126,8 +156,9 @@ fn run<D: Disk>(
 ) -> Result<PoolState, PoolFault>
     requires command { IsCommand command }
     requires commits { commits command ≡ true }
+    requires other { command ≢ Command.Reclaim }
     requires begins { CanBegin (io_of io.old) kept.now }
-    ensures does { RunsByPlan (λ pool. stepped [] now command pool) (cost_of command) (TellsDamage command kept.now.dir (disk_of io.old) (free_by kept.now.body)) (numbers_end command) (indices_end command) (makes_list command) (rows_after command) kept.now (io_of io.old) (io_of io.new) result }
+    ensures does { (held : List HeldBlocks) → RunsByPlan (λ pool. stepped [] now command pool) (cost_of command) (TellsDamage command held kept.now.body kept.now.dir (disk_of io.old)) (numbers_end command) (indices_end command) (makes_list command) (rows_after command) kept.now (io_of io.old) (io_of io.new) result }
 {
     match command {
         Command::Fs { dataset } => make_dataset(io, alloc, kept, 2, &dataset),
@@ -171,6 +202,7 @@ fn run<D: Disk>(
         }
         Command::Destroy { name } => destroy(io, alloc, kept, name),
         Command::Abort { dataset } => abort(io, alloc, kept, &dataset),
-        Command::Read { .. } | Command::List | Command::ListObjects { .. } => unreachable!(),
+        Command::Reclaim | Command::Read { .. } | Command::List | Command::ListObjects { .. } =>
+            unreachable!(),
     }
 }

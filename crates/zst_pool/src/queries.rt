@@ -1,11 +1,11 @@
 // The commands that only answer.
-ghost use Rattle.std.specs.Prelude.{◌≡◌, ℕ, [], false};
+ghost use Rattle.std.specs.Prelude.{◌≡◌, ℕ, List, [], false};
 ghost use Rattle.zst_block.specs.IoStates.{disk_of, io_of};
-ghost use Rattle.zst_image.specs.Bodies.{free_by};
 ghost use Rattle.zst_model.specs.pools.Step.{IsCommand, commits, stepped};
 ghost use Rattle.zst_pool.specs.Damage.{OfSet, TellsDamage, look_damage};
 ghost use Rattle.zst_pool.specs.Plans.{indices_end, makes_list, numbers_end};
 ghost use Rattle.zst_pool.specs.Queries.{TellsByPlan};
+ghost use Rattle.zst_roots.specs.declared.held.HeldBlocks.{HeldBlocks};
 
 use crate::block_reads::{open_set, read_block};
 use crate::fault::PoolFault;
@@ -40,7 +40,7 @@ pub fn tell<D: Disk>(
 ) -> Result<Reply, PoolFault>
     requires command { IsCommand command }
     requires answers { commits command ≡ false }
-    ensures does { (now : ℕ) → TellsByPlan (λ pool. stepped [] now command pool) (TellsDamage command kept.now.dir (disk_of io.old) (free_by kept.now.body)) (numbers_end command) (indices_end command) (makes_list command) kept.now (io_of io.old) (io_of io.new) result }
+    ensures does { (now : ℕ) (held : List HeldBlocks) → TellsByPlan (λ pool. stepped [] now command pool) (TellsDamage command held kept.now.body kept.now.dir (disk_of io.old)) (numbers_end command) (indices_end command) (makes_list command) kept.now (io_of io.old) (io_of io.new) result }
 {
     match command {
         Command::Read {
@@ -62,6 +62,7 @@ pub fn tell<D: Disk>(
         | Command::Redact { .. }
         | Command::Rollback { .. }
         | Command::Destroy { .. }
-        | Command::Abort { .. } => unreachable!(),
+        | Command::Abort { .. }
+        | Command::Reclaim => unreachable!(),
     }
 }
