@@ -24,5 +24,6 @@ pub mod PlanRefusals
 mod KeptBlocks
 mod ListedRows
 mod KeptPartials
+mod OutlastedReclaims
 mod LeftRows
 mod PlannedSets

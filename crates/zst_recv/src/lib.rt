@@ -14,7 +14,9 @@ mod stage;
 mod tokens;
 
 pub use fault::RecvFault;
-pub use laws::{ends_leave_rows, listed_rows_fit, one_set_is_planned, receives_go_on};
+pub use laws::{
+    ends_leave_rows, listed_rows_fit, one_set_is_planned, receives_go_on, receives_outlast_reclaims,
+};
 pub use received_snapshot::ReceivedSnapshot;
 pub use recv::{FeedReport, Recv};
 pub use tokens::token;

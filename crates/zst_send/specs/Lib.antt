@@ -9,6 +9,7 @@ pub mod Openings
 pub mod PendingRecords
 pub mod Records
 pub mod Sends
+pub mod HeldPointers
 pub mod SendState
 pub mod Subjects
 pub mod Takes

@@ -31,6 +31,13 @@ impl BlockBuffer {
         Ok(BlockBuffer { bytes, holds: None })
     }
 
+    /// The pointer to the block that it has, where it has one.
+    pub(crate) fn holds(&self) -> Option<Ptr>
+        ensures { result ≡ self.now.holds }
+    {
+        self.holds
+    }
+
     /// Has the block that a pointer names, which is read where it has another.
     ///
     /// A block that is longer than any that a stream has isn't of its layout.

@@ -6,12 +6,14 @@ ghost use Rattle.zst_dir.specs.Rows.{Rows};
 ghost use Rattle.zst_image.specs.Reads.{RunsBy};
 ghost use Rattle.zst_model.specs.pools.Pool.{Pool};
 ghost use Rattle.zst_plan.specs.Receipts.{TellsDates};
+ghost use Rattle.zst_send.specs.HeldPointers.{HeldSendsStand, SendsOutlast};
 ghost use Rattle.zst_send.specs.Openings.{RowsStandForSends};
 ghost use Rattle.zst_send.specs.SentBytes.{RestsAreBytes, SentAreBytes};
 ghost use Rattle.zst_send.specs.Sends.{EqualViewsAreSentAlike, SameViewsSameRest, SendsGoOn};
 
 use zst_laws::plans_are_of_pool;
 use zst_objset::sets_hold_states;
+use zst_reach::unreached_sectors_may_be_free;
 use zst_stream::text_is_bytes;
 
 /// What others do between two takes doesn't matter, as long as the send's blocks stay.
@@ -19,6 +21,14 @@ pub fn sends_go_on()
     ensures { SendsGoOn }
 {
     sets_hold_states();
+}
+
+/// A send goes on whatever sectors become free that it doesn't hold (`Send::held`), and what it holds stands.
+pub fn sends_outlast_reclaims()
+    ensures outlast { SendsOutlast }
+    ensures stand { HeldSendsStand }
+{
+    unreached_sectors_may_be_free();
 }
 
 /// Sends of equal views give equal bytes, from the beginning and from each point.

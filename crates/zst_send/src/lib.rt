@@ -14,8 +14,8 @@ mod walk;
 mod walk_position;
 
 pub use laws::{
-    equal_views_are_sent_alike, rows_stand_for_sends, sends_go_on, sent_are_bytes,
-    tight_sets_tell_dates,
+    equal_views_are_sent_alike, rows_stand_for_sends, sends_go_on, sends_outlast_reclaims,
+    sent_are_bytes, tight_sets_tell_dates,
 };
 pub use rest::rest_plan;
 pub use send::Send;

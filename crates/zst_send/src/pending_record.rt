@@ -11,6 +11,7 @@ ghost use Rattle.zst_send.specs.BufferReads.{CopiesOf, GivesMore, IsPutOf, Reads
 ghost use Rattle.zst_send.specs.Costs.{reads_due};
 ghost use Rattle.zst_send.specs.Damage.{IsDamagedDue};
 ghost use Rattle.zst_send.specs.DueItems.{DueFits, IsFirst, head_in};
+ghost use Rattle.zst_send.specs.HeldPointers.{pointer_behind};
 ghost use Rattle.zst_send.specs.ItemHeads.{IsFollowed, IsLone};
 ghost use Rattle.zst_send.specs.Records.{IsOfItem};
 ghost use Rattle.zst_send.specs.PendingRecords.{BufferFits, CanGive, IsFresh, IsLoaded, IsPending, IsPut, PendingFits, payload_size};
@@ -58,6 +59,16 @@ impl Payload {
             Payload::Nothing => 0,
             Payload::Bonus { count, .. } => *count as usize,
             Payload::Block { ptr } => ptr.length as usize,
+        }
+    }
+
+    /// The pointer to the block that it is, where it is one.
+    pub(crate) fn pointer(&self) -> Option<Ptr>
+        ensures { result ≡ pointer_behind self.now }
+    {
+        match self {
+            Payload::Block { ptr } => Some(*ptr),
+            _ => None,
         }
     }
 }

@@ -14,6 +14,7 @@ use zst_model::{Header, Point, SendAsk};
 use zst_outside::Disk;
 use zst_plan::{SendPlan, send_plan};
 use zst_pool::{Pool, PoolFault};
+use zst_roots::HeldBlocks;
 
 /// A send: what it is of, where it stands, and a buffer for one block. It has no part of the pool.
 #[derive(Drop)]
@@ -47,6 +48,7 @@ impl Send {
     ghost use Rattle.zst_pool.specs.Queries.{stop_of};
     ghost use Rattle.zst_send.specs.Costs.{TakeCosts};
     ghost use Rattle.zst_send.specs.Damage.{IsDamagedSend};
+    ghost use Rattle.zst_send.specs.HeldPointers.{held_of};
     ghost use Rattle.zst_send.specs.KnownPointers.{IsAmong, Knows};
     ghost use Rattle.zst_send.specs.Openings.{IsDamagedOpening, IsDamagedPlan, IsPlanned, IsRedactedAt, IsUnlisted, Opens, ReadsLists, Resumes, StandsPlanned, StandsSent, Starts, runs_in, set_where, set_with};
     ghost use Rattle.zst_send.specs.PendingRecords.{BufferFits};
@@ -155,6 +157,20 @@ impl Send {
         let count = stand.fill(&mut self.buffer, &mut pool.io, &self.subject, into)?;
         self.stand = stand;
         Ok(count)
+    }
+
+    /// What it holds of its pool as long as it is open: a reclaim that is told of it leaves that.
+    pub fn held(&self) -> HeldBlocks
+        ensures { result ≡ held_of self.now }
+    {
+        HeldBlocks {
+            set: self.subject.set,
+            blocks: [
+                self.stand.walk.pointer_due(),
+                self.stand.pending.payload.pointer(),
+                self.buffer.holds(),
+            ],
+        }
     }
 
     // A send by this plan, from its beginning or from a point, over a disk that works, of which its lists are made and read.

@@ -6,6 +6,7 @@ ghost use Rattle.zst_model.specs.sends.View.{view_of};
 ghost use Rattle.zst_model.specs.states.DatedState.{DatedState};
 ghost use Rattle.zst_send.specs.Costs.{cells_due, cells_next, ended, looks_ahead};
 ghost use Rattle.zst_send.specs.DueItems.{DueFits, is_run};
+ghost use Rattle.zst_send.specs.HeldPointers.{pointer_due};
 ghost use Rattle.zst_send.specs.KnownPointers.{DueStands, IsAmong, WalkStands};
 ghost use Rattle.zst_send.specs.Subjects.{HoldsFor, IsTightFor, choice_for};
 ghost use Rattle.zst_send.specs.WalkPositions.{ComesFirst, Gives, IsPositionOf, IsWalk, WalkFits, items_left};
@@ -15,7 +16,7 @@ ghost use Rattle.zst_tree.specs.Indices.{Delivers};
 use crate::due_items::{DueItems, joined};
 use crate::subject::Subject;
 use crate::walk_position::WalkPosition;
-use zst_block::{BlockFault, Io};
+use zst_block::{BlockFault, Io, Ptr};
 use zst_laws::held_goes_on;
 use zst_model::Point;
 use zst_outside::Disk;
@@ -38,6 +39,20 @@ impl Walk {
         Walk {
             position: WalkPosition::start(point),
             held: None,
+        }
+    }
+
+    /// The pointer to the block that it found and hasn't given: an object's spill block, or one of its blocks.
+    pub(crate) fn pointer_due(&self) -> Option<Ptr>
+        ensures { result ≡ pointer_due self.now.held }
+    {
+        match self.held? {
+            DueItems::Object { dnode, .. } => Some(dnode.spill),
+            DueItems::Spill { ptr, .. } | DueItems::Block { ptr, .. } => Some(ptr),
+            DueItems::Absent { .. }
+            | DueItems::Tail { .. }
+            | DueItems::Holes { .. }
+            | DueItems::Redacted { .. } => None,
         }
     }
 
