@@ -98,8 +98,8 @@ module _ {D E : Type 0} {g : Ghosts D} {h : Ghosts E} (old : Engine D E g h) (id
     cause = λ is. absurd (cc);
     open_still = λ works also is. absurd (cc);
     works = λ alive. (λ works. works, λ works. works);
-    here_spares = none_spares (kept_pool old.here);
-    there_spares = none_spares (kept_pool old.there);
+    here_spares = λ no_reclaim. none_spares (kept_pool old.here);
+    there_spares = λ no_reclaim. none_spares (kept_pool old.there);
   })
 
   -- no send has the id

@@ -116,7 +116,7 @@ module _ (now id : ℕ) (here there new : Kept) (sends : List kept_sends.OpenSen
     pool_stands = record {
       mark = ends.failed ∙ old_stands.mark;
       rests = λ works. let worked = sym ends.failed ∙ works in ends.rests pool receive.text receive.stage (old_stands.rests worked) (matches.receives worked);
-      ready = ends.keeps.ready;
+      ready = ends.keeps.leaves.ready;
       lost = λ fell told. subst (λ (p : Pool). Reads true p new.disk.seen) (sym (kept_left receive.stage pool)) (subst (Reads true (kept_of pool)) (sym ends.seen) reads);
     }
 
@@ -184,7 +184,7 @@ cut_fit : (fitting : FittingReceive) (side : Side) (here there new : Kept) (send
     → place < length coded → get_or coded place one ≡ one → one.side ≡ side → EndsReceive (kept_at side here there) new one.recv → SessionsFit here there sends coded
     → SessionsFit (here_with side new here) (there_with side new there) sends (remove coded place)
 cut_fit fitting side here there new sends coded place one below is_there on ends fits =
-    sessions_fit_beside fitting side (λ target. target ≡ (ask_of one.recv).target) here there new sends (remove coded place) ends.keeps others (record {
+    sessions_fit_beside fitting side (λ target. target ≡ (ask_of one.recv).target) here there new sends (remove coded place) ends.keeps.leaves others (record {
       here_ready = fits.here_ready;
       there_ready = fits.there_ready;
       sends_fit = fits.sends_fit;
@@ -234,8 +234,8 @@ module _ {D E : Type 0} {g : Ghosts D} {h : Ghosts E} (old : Engine D E g h) (id
       cause = λ told. absurd (cc);
       open_still = λ works also told. absurd (cc);
       works = λ alive. (λ works. ends.failed ∙ works, λ works. works);
-      here_spares = kept_spares (λ target. target ≡ (ask_of one.recv).target) (kept_pool old.here) (kept_pool new.here) ends.keeps;
-      there_spares = none_spares (kept_pool old.there);
+      here_spares = λ no_reclaim. kept_spares (λ target. target ≡ (ask_of one.recv).target) (kept_pool old.here) (kept_pool new.here) ends.keeps;
+      there_spares = λ no_reclaim. none_spares (kept_pool old.there);
     })
 
     pub cut_there : new ≡ record old { there = new.there; receives = new.receives } → one.side ≡ There → EndsReceive (kept_pool old.there) (kept_pool new.there) one.recv → new.there.io ≡ old.there.io
@@ -255,6 +255,6 @@ module _ {D E : Type 0} {g : Ghosts D} {h : Ghosts E} (old : Engine D E g h) (id
       cause = λ told. absurd (cc);
       open_still = λ works also told. absurd (cc);
       works = λ alive. (λ works. works, λ works. ends.failed ∙ works);
-      here_spares = none_spares (kept_pool old.here);
-      there_spares = kept_spares (λ target. target ≡ (ask_of one.recv).target) (kept_pool old.there) (kept_pool new.there) ends.keeps;
+      here_spares = λ no_reclaim. none_spares (kept_pool old.here);
+      there_spares = λ no_reclaim. kept_spares (λ target. target ≡ (ask_of one.recv).target) (kept_pool old.there) (kept_pool new.there) ends.keeps;
     })

@@ -118,8 +118,8 @@ module _ {D E : Type 0} {g : Ghosts D} {h : Ghosts E} (old : Engine D E g h) (id
     cause = λ is. takes.cause (dropped_err result refusals.DiskFault is);
     open_still = λ works also is. takes.open_still works also (dropped_err result refusals.Failed is);
     works = λ alive. takes.works (λ is. alive (ap dropped is));
-    here_spares = read_spares (kept_pool old.here) (kept_pool new.here) takes.here_read;
-    there_spares = read_spares (kept_pool old.there) (kept_pool new.there) takes.there_read;
+    here_spares = λ no_reclaim. read_spares (kept_pool old.here) (kept_pool new.here) takes.here_read;
+    there_spares = λ no_reclaim. read_spares (kept_pool old.there) (kept_pool new.there) takes.there_read;
   }
 
   -- no send has the id

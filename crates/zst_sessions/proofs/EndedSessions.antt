@@ -77,7 +77,7 @@ other_pool Q There There failed world stays is = absurd (cc)
 -- ---- lists
 
 -- what stays of lists that match goes on to match
-stay_match : {A B : Type 0} (Is After : A → B → Type 0) (p : A → Bool) (q : B → Bool) → ((x : A) (y : B) → Is x y → p x ≡ q y) → ((x : A) (y : B) → q y ≡ true → Is x y → After x y)
+pub stay_match : {A B : Type 0} (Is After : A → B → Type 0) (p : A → Bool) (q : B → Bool) → ((x : A) (y : B) → Is x y → p x ≡ q y) → ((x : A) (y : B) → q y ≡ true → Is x y → After x y)
     → (xs : List A) (ys : List B) → Match Is xs ys → Match After (filter p xs) (filter q ys)
 stay_match Is After p q same make xs ys m = Match-each (λ y. q y ≡ true) Is After make (filter p xs) (filter q ys) (filter_passes q ys) (filter-Match Is p q same xs ys m)
 

@@ -255,8 +255,8 @@ module _ {D E : Type 0} {g : Ghosts D} {h : Ghosts E} where
     cause = λ is. absurd (no_fault (err_is refusal refusals.DiskFault is));
     open_still = λ works also is. still works also (err_is refusal refusals.Failed is);
     works = λ alive. (λ works. works, λ works. works);
-    here_spares = none_spares (kept_pool old.here);
-    there_spares = none_spares (kept_pool old.there);
+    here_spares = λ no_reclaim. none_spares (kept_pool old.here);
+    there_spares = λ no_reclaim. none_spares (kept_pool old.there);
   }
 
   -- ---- an event that opens a send
@@ -294,8 +294,8 @@ module _ {D E : Type 0} {g : Ghosts D} {h : Ghosts E} where
           cause = λ is. l.cause (ap err (fault_of_disk fault (err_is (pool_refusal fault) refusals.DiskFault is)));
           open_still = λ works other is. l.open_still (open_on side old works other) (ap err (fault_of_failed fault (err_is (pool_refusal fault) refusals.Failed is)));
           works = λ alive. l.works (λ is. alive (ap told_fault (pool_err_is fault faults.DiskFault is)));
-          here_spares = read_spares (kept_pool old.here) (kept_pool mid.here) l.here;
-          there_spares = read_spares (kept_pool old.there) (kept_pool mid.there) l.there;
+          here_spares = λ no_reclaim. read_spares (kept_pool old.here) (kept_pool mid.here) l.here;
+          there_spares = λ no_reclaim. read_spares (kept_pool old.there) (kept_pool mid.there) l.there;
         }
       where
         err : PoolFault → Result Begun PoolFault
@@ -371,8 +371,8 @@ module _ {D E : Type 0} {g : Ghosts D} {h : Ghosts E} where
             cause = λ is. absurd (no.0 is);
             open_still = λ works also is. no.1 is;
             works = λ alive. l.works (λ is. absurd (cc));
-            here_spares = read_spares (kept_pool old.here) (kept_pool mid.here) l.here;
-            there_spares = read_spares (kept_pool old.there) (kept_pool mid.there) l.there;
+            here_spares = λ no_reclaim. read_spares (kept_pool old.here) (kept_pool mid.here) l.here;
+            there_spares = λ no_reclaim. read_spares (kept_pool old.there) (kept_pool mid.there) l.there;
           } in made)
 
   -- ---- a send by names
@@ -506,8 +506,8 @@ module _ {D E : Type 0} {g : Ghosts D} {h : Ghosts E} where
             cause = λ is. absurd (cc);
             open_still = λ alive too is. absurd (cc);
             works = λ alive. l.works (λ is. absurd (cc));
-            here_spares = read_spares (kept_pool old.here) (kept_pool mid.here) l.here;
-            there_spares = read_spares (kept_pool old.there) (kept_pool mid.there) l.there;
+            here_spares = λ no_reclaim. read_spares (kept_pool old.here) (kept_pool mid.here) l.here;
+            there_spares = λ no_reclaim. read_spares (kept_pool old.there) (kept_pool mid.there) l.there;
           }
 
       pub receive_unbegun : (fault : PoolFault) → ((kept_on side old).failed ≡ false → fault ≡ faults.OutOfMemory) → LooksAtSide {T = Awaited} side old mid (Err fault) → StepsEngine (events.Receive side id ask) old mid (Err (pool_refusal fault))
@@ -585,6 +585,6 @@ module _ {D E : Type 0} {g : Ghosts D} {h : Ghosts E} where
               cause = λ is. absurd (no.0 is);
               open_still = λ alive too is. no.1 is;
               works = λ alive. look.works (λ is. absurd (cc));
-              here_spares = read_spares (kept_pool old.here) (kept_pool mid.here) look.here;
-              there_spares = read_spares (kept_pool old.there) (kept_pool mid.there) look.there;
+              here_spares = λ no_reclaim. read_spares (kept_pool old.here) (kept_pool mid.here) look.here;
+              there_spares = λ no_reclaim. read_spares (kept_pool old.there) (kept_pool mid.there) look.there;
             } in made)

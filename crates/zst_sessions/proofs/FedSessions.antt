@@ -44,7 +44,7 @@ module _ (fitting : FittingReceive) (here there new : Kept) (sends : List OpenSe
 
   -- so they fit on
   rest : SessionsFit (here_with one.side new here) (there_with one.side new there) sends (remove coded place)
-  rest = sessions_fit_beside fitting one.side (λ target. target ≡ (ask_of one.recv).target) here there new sends (remove coded place) feeds.keeps others (record {
+  rest = sessions_fit_beside fitting one.side (λ target. target ≡ (ask_of one.recv).target) here there new sends (remove coded place) feeds.keeps.leaves others (record {
     here_ready = fits.here_ready;
     there_ready = fits.there_ready;
     sends_fit = fits.sends_fit;

@@ -1,11 +1,14 @@
 -- What the engine keeps of a session goes on to stand.
-use Rattle.std.proofs.Common.{◌≡◌, ◌+◌, ℕ, not, List, ◌++◌, length, take, drop, min, find, sym, ap, ◌∙◌, subst, ◌==◌, cond, if◌then◌else◌, Bool}
+use Rattle.std.proofs.Common.{◌≡◌, ◌+◌, ℕ, false, not, List, ◌++◌, length, take, drop, min, find, sym, ap, ◌∙◌, subst, ◌==◌, cond, if◌then◌else◌, Bool}
 use Rattle.std.proofs.lemmas.List.{drop-drop, length-take, take_min}
 use Rattle.std.proofs.lemmas.Bool.{ne_eqb}
+use Rattle.zst_space.specs.FreeSectors.{FreeSectors}
 use Rattle.zst_block.specs.Blocks.{Has}
 use Rattle.zst_dir.proofs.Matches.{filter-Match}
-use Rattle.zst_dir.specs.Rows.{Rows, is_for}
+use Rattle.zst_dir.specs.Rows.{IsLawful, Rows, is_for}
+use Rattle.zst_image.specs.Reads.{bound_of}
 use Rattle.zst_recv.specs.GoingOn.{FittingReceive, IsRow, ReceivesGoOn}
+use Rattle.zst_recv.specs.Stages.{Receives}
 use Rattle.zst_recv.specs.declared.stage.Stage as coded_stages
 use Rattle.zst_recv.specs.declared.stage.Stage.TheVariants as stages
 use Rattle.zst_send.specs.Sends.{SendsFrom, SendsGoOn, begun_text}
@@ -17,15 +20,24 @@ use Rattle.zst_sessions.specs.World.{left_of, next_piece, OpenReceive, OpenSend,
 use Rattle.zst_sessions.specs.declared.open_sessions.OpenReceive as kept_receives
 use Rattle.zst_sessions.specs.declared.open_sessions.OpenSend as kept_sends
 
-pub sends_stand_on : SendsGoOn → SendsStandOn
-sends_stand_on go_on failed lost old new space less coded send keep stands = record {
+-- a send stands on where it goes on from what was there, or the disk has failed
+pub send_goes : (failed lost : Bool) (old new : List ℕ) (space less : FreeSectors) (coded : kept_sends.OpenSend) (send : OpenSend)
+    → (lost ≡ false → (failed ≡ false) × (SendsFrom (Has old space) coded.send send.sent send.start (take send.given (begun_text send.sent send.start)) (left_of send)
+    → SendsFrom (Has new less) coded.send send.sent send.start (take send.given (begun_text send.sent send.start)) (left_of send)))
+    → SendStands failed old space coded send → SendStands lost new less coded send
+send_goes failed lost old new space less coded send keep stands = record {
   id = stands.id;
   side = stands.side;
   holds = stands.holds;
   fits = stands.fits;
   within = stands.within;
-  sends = λ works. let both = keep works in go_on coded.send send.sent send.start (take send.given (begun_text send.sent send.start)) (left_of send) old new space less both.1 (stands.sends both.0);
+  sends = λ works. let both = keep works in both.1 (stands.sends both.0);
 }
+
+pub sends_stand_on : SendsGoOn → SendsStandOn
+sends_stand_on go_on failed lost old new space less coded send keep =
+    send_goes failed lost old new space less coded send
+    (λ works. let both = keep works in (both.0, go_on coded.send send.sent send.start (take send.given (begun_text send.sent send.start)) (left_of send) old new space less both.1))
 
 -- a row that is found as before is the stage's
 pub row_on : (rows others : Rows) (target : List ℕ) (stage : coded_stages.Stage) → find (is_for target) others.partials ≡ find (is_for target) rows.partials → IsRow rows target stage → IsRow others target stage
@@ -35,8 +47,12 @@ row_on rows others target (stages.Ends row) same is = is
 row_on rows others target (stages.Done received) same is = is
 row_on rows others target stages.Over same is = is
 
-pub receives_stand_on : ReceivesGoOn → FittingReceive → ReceivesStandOn
-receives_stand_on go_on fitting tight number later failed lost old new space less rows others coded receive le lawful same keep stands =
+-- a receive stands on where its row is found as before and it goes on from what was there, or the disk has failed
+pub receive_goes : FittingReceive → (tight : Bool) (number later : ℕ) (failed lost : Bool) (old new : List ℕ) (space less : FreeSectors) (rows others : Rows) (coded : kept_receives.OpenReceive) (receive : OpenReceive)
+    → IsLawful others → find (is_for coded.recv.ask.target) others.partials ≡ find (is_for coded.recv.ask.target) rows.partials
+    → (lost ≡ false → (failed ≡ false) × (Receives (bound_of tight number) (Has old space) coded.recv receive.text receive.stage → Receives (bound_of tight later) (Has new less) coded.recv receive.text receive.stage))
+    → ReceiveStands tight number failed old space rows coded receive → ReceiveStands tight later lost new less others coded receive
+receive_goes fitting tight number later failed lost old new space less rows others coded receive lawful same keep stands =
     let row = row_on rows others coded.recv.ask.target coded.recv.stage same stands.row in
     record {
       id = stands.id;
@@ -46,8 +62,13 @@ receives_stand_on go_on fitting tight number later failed lost old new space les
       fits = fitting rows others coded.recv lawful row stands.fits;
       row = row;
       fed = stands.fed;
-      receives = λ works. let both = keep works in go_on tight number later old new space less coded.recv receive.text receive.stage le both.1 (stands.receives both.0);
+      receives = λ works. let both = keep works in both.1 (stands.receives both.0);
     }
+
+pub receives_stand_on : ReceivesGoOn → FittingReceive → ReceivesStandOn
+receives_stand_on go_on fitting tight number later failed lost old new space less rows others coded receive le lawful same keep =
+    receive_goes fitting tight number later failed lost old new space less rows others coded receive lawful same
+    (λ works. let both = keep works in (both.0, go_on tight number later old new space less coded.recv receive.text receive.stage le both.1))
 
 pub takes_stand : TakesStand
 takes_stand old new into space less coded send after count stands fits takes =

@@ -116,6 +116,7 @@ others_free held pool (commands.Redact snapshot bookmark redactions) rolls destr
 others_free held pool (commands.Rollback also name) rolls destroys aborts = absurd (rolls also name refl)
 others_free held pool (commands.Destroy name) rolls destroys aborts = absurd (destroys name refl)
 others_free held pool (commands.Abort target) rolls destroys aborts = absurd (aborts target refl)
+others_free held pool commands.Reclaim rolls destroys aborts = refl
 others_free held pool (commands.Read name k i) rolls destroys aborts = refl
 others_free held pool commands.List rolls destroys aborts = refl
 others_free held pool (commands.ListObjects name) rolls destroys aborts = refl

@@ -38,6 +38,7 @@ pub mod ReceiveEnds
 pub mod CutReceives
 mod LeastSessions
 mod HeldThings
+mod HeldSends
 pub mod SparedBlocks
 mod SteppedPools
 mod SteppedWorlds

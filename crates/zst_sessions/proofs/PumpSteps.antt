@@ -274,8 +274,8 @@ module _ {D E : Type 0} {g : Ghosts D} {h : Ghosts E} where
           cause = λ e. had.cause (ap (λ (r : Refusal). Err r) (same_refusal refusal refusals.DiskFault e));
           open_still = λ here there e. had.open_still here there (ap (λ (r : Refusal). Err r) (same_refusal refusal refusals.Failed e));
           works = λ alive. had.works (λ e. alive (ap (λ (r : Refusal). Err r) (take_refusal refusal refusals.DiskFault e)));
-          here_spares = read_spares (kept_pool old.here) (kept_pool mid.here) had.here_read;
-          there_spares = read_spares (kept_pool old.there) (kept_pool mid.there) had.there_read;
+          here_spares = λ no_reclaim. read_spares (kept_pool old.here) (kept_pool mid.here) had.here_read;
+          there_spares = λ no_reclaim. read_spares (kept_pool old.there) (kept_pool mid.there) had.there_read;
         }
           where
             lost : (world : World) → StandsFor old world → Takes sends count world (kept_pool old.here) (kept_pool old.there) (kept_pool mid.here) (kept_pool mid.there) mid.sends.items mid.receives.items mid.room.items (Err refusal)
@@ -492,6 +492,6 @@ module _ {D E : Type 0} {g : Ghosts D} {h : Ghosts E} where
                 cause = λ e. rose its.side fed_side (feeds.cause.fault (ap (λ (r : Result FeedReport RecvFault). stop_of r) (is_fault taken settles.after settles.fed (sym settles.reply ∙ e))));
                 open_still = λ here there e. feeds.open_still (mid_works here there its.side) (is_failed taken settles.after settles.fed (sym settles.reply ∙ e));
                 works = λ alive. fed_works its.side fed_side (λ fell. alive (settles.reply ∙ fell_so taken settles.after settles.fed fell));
-                here_spares = here_spared its.side fed_side;
-                there_spares = there_spared its.side fed_side;
+                here_spares = λ no_reclaim. here_spared its.side fed_side;
+                there_spares = λ no_reclaim. there_spared its.side fed_side;
               }

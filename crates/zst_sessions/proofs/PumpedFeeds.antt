@@ -249,7 +249,7 @@ module _ (now : ℕ) (world : World) (sends receives count : ℕ) (send : OpenSe
     pool_stands next rested working = record {
       mark = working ∙ sym given_alive;
       rests = λ w. rested;
-      ready = feeds.keeps.ready;
+      ready = feeds.keeps.leaves.ready;
       lost = λ failed. absurd (let both : true ≡ false = sym failed ∙ working in cc);
     }
 

@@ -45,6 +45,7 @@ ready_read old new kept reads ready = ready_after old new (free_by kept.body) (f
 pub rests_read : (tight : Bool) (old new : DiskState) (kept : PoolState) (running : Pool) → OnlyReads old new → IsAtRest tight old kept running → IsAtRest tight new kept running
 rests_read tight old new kept running reads rest = record {
   rows = rest.rows;
+  lasting = rest.lasting;
   rests = record {
     reads = subst (ReadsAs tight kept.body rest.rows (kept_of running)) (sym reads.seen) rest.rests.reads;
     each = λ c image. rest.rests.each c (reads.crash c image);
@@ -87,12 +88,14 @@ moments_read tight old new opened read stands = go old.failed refl
 -- and it keeps all sessions
 pub read_keeps : (old new : Kept) → WasOnlyRead old new → (old.failed ≡ false → Ready old.disk old.state.body) → IsLawful old.state.dir → KeepsSessions (λ target. ⊥) old new
 read_keeps old new read ready lawful = record {
-  mark = read.mark;
-  ready = λ works. subst (λ (state : PoolState). Ready new.disk state.body) (sym read.state) (ready_read old.disk new.disk old.state read.reads (ready (read.mark works)));
+  leaves = record {
+    mark = read.mark;
+    ready = λ works. subst (λ (state : PoolState). Ready new.disk state.body) (sym read.state) (ready_read old.disk new.disk old.state read.reads (ready (read.mark works)));
+    lawful = subst (λ (state : PoolState). IsLawful state.dir) (sym read.state) lawful;
+    rows = λ target other. ap (λ (state : PoolState). find (is_for target) state.dir.partials) read.state;
+  };
   blocks = λ works. read_blocks old new read;
   extents = λ works. read_extents old new read;
-  lawful = subst (λ (state : PoolState). IsLawful state.dir) (sym read.state) lawful;
-  rows = λ target other. ap (λ (state : PoolState). find (is_for target) state.dir.partials) read.state;
 }
 
 -- a call found no memory before it did anything

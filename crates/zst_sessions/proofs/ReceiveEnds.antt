@@ -45,16 +45,18 @@ module _ {D : Type 0} {g : Ghosts D} (old new : pools.Pool D g) (io : new.io ≡
         subst (λ (i : Io D g). IsAtRest true (disk_of i) new.kept (left_by stage running)) (sym io)
         (rests true (bound_of true running.number) old.io.disk.now running (disk_of old.io).seen (free_by old.kept.body) stage text rested is);
     keeps = record {
-      mark = works_as;
-      ready = λ works.
-          subst (λ (i : Io D g). Ready (disk_of i) new.kept.body) (sym io) (subst (λ (b : Body). Ready (disk_of old.io) b) (sym body) (ready (works_as works)));
+      leaves = record {
+        mark = works_as;
+        ready = λ works.
+            subst (λ (i : Io D g). Ready (disk_of i) new.kept.body) (sym io) (subst (λ (b : Body). Ready (disk_of old.io) b) (sym body) (ready (works_as works)));
+        lawful = lawful;
+        rows = λ target other.
+            ap (λ (k : PoolState). find (is_for target) k.dir.partials) kept ∙ leave (has_partial (stage_of recv)) (ask_of recv).target target old.kept other;
+      };
       blocks = λ works.
           subst (λ (i : Io D g). KeepsBlocks (disk_of old.io).seen (free_by old.kept.body) (disk_of i).seen (free_by new.kept.body)) (sym io)
           (subst (λ (b : Body). KeepsBlocks (disk_of old.io).seen (free_by old.kept.body) (disk_of old.io).seen (free_by b)) (sym body) (λ ptr bytes has. has));
       extents = λ works has.
           subst (λ (i : Io D g). HasItsExtents (disk_of i) new.kept.body) (sym io) (subst (λ (b : Body). HasItsExtents (disk_of old.io) b) (sym body) has);
-      lawful = lawful;
-      rows = λ target other.
-          ap (λ (k : PoolState). find (is_for target) k.dir.partials) kept ∙ leave (has_partial (stage_of recv)) (ask_of recv).target target old.kept other;
     };
   }

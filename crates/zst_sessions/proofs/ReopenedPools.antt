@@ -175,8 +175,8 @@ module _ {D E : Type 0} {g : Ghosts D} {h : Ghosts E} (old new : Engine D E g h)
       cause = λ is. inl (cause (fault_is is));
       open_still = λ works also is. still (failed_is is);
       works = λ alive. (opens.works (λ is. alive (ap opened is)), λ works. ap (λ (p : pools.Pool E h). p.io.failed) other ∙ works);
-      here_spares = opens_spares (kept_pool old.here) (kept_pool new.here) refl opens.reads opens.body;
-      there_spares = subst (λ (p : pools.Pool E h). SparesBlocks (events.Reopen Here ≡ events.Reopen There) (kept_pool old.there) (kept_pool p)) (sym other) (none_spares (kept_pool old.there));
+      here_spares = λ no_reclaim. opens_spares (kept_pool old.here) (kept_pool new.here) refl opens.reads opens.body;
+      there_spares = λ no_reclaim. subst (λ (p : pools.Pool E h). SparesBlocks (events.Reopen Here ≡ events.Reopen There) (kept_pool old.there) (kept_pool p)) (sym other) (none_spares (kept_pool old.there));
     }
 
     pub reopens_there : Ends There → new.here ≡ old.here → OpensAgain (kept_pool old.there) (kept_pool new.there) result → IsLaterPool old.there new.there
@@ -201,6 +201,6 @@ module _ {D E : Type 0} {g : Ghosts D} {h : Ghosts E} (old new : Engine D E g h)
       cause = λ is. inr (cause (fault_is is));
       open_still = λ works also is. still (failed_is is);
       works = λ alive. (λ works. ap (λ (p : pools.Pool D g). p.io.failed) other ∙ works, opens.works (λ is. alive (ap opened is)));
-      here_spares = subst (λ (p : pools.Pool D g). SparesBlocks (events.Reopen There ≡ events.Reopen Here) (kept_pool old.here) (kept_pool p)) (sym other) (none_spares (kept_pool old.here));
-      there_spares = opens_spares (kept_pool old.there) (kept_pool new.there) refl opens.reads opens.body;
+      here_spares = λ no_reclaim. subst (λ (p : pools.Pool D g). SparesBlocks (events.Reopen There ≡ events.Reopen Here) (kept_pool old.here) (kept_pool p)) (sym other) (none_spares (kept_pool old.here));
+      there_spares = λ no_reclaim. opens_spares (kept_pool old.there) (kept_pool new.there) refl opens.reads opens.body;
     }

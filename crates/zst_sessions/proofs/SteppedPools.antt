@@ -27,13 +27,15 @@ use Rattle.zst_pool.specs.Events.{Settles, StepDid}
 use Rattle.zst_pool.specs.Cost.{Spends, cost_of}
 use Rattle.zst_pool.specs.Faults.{is_disk_fault}
 use Rattle.zst_pool.specs.PartialRows.{rows_after}
+use Rattle.zst_pool.specs.Reclaims.{HeldStand, Reclaims}
 use Rattle.zst_pool.specs.StepAnswers.{BeforeOrAfter, StepAnswer}
 use Rattle.zst_pool.specs.declared.fault.PoolFault.{PoolFault}
 use Rattle.zst_pool.specs.declared.fault.PoolFault.TheVariants as faults
 use Rattle.zst_pool.specs.declared.pool.Pool.{Pool}
+use Rattle.zst_roots.specs.declared.held.HeldBlocks.{HeldBlocks}
 use Rattle.zst_sessions.specs.BusySessions.{SessionsComeFirst, busy_for}
 use Rattle.zst_sessions.specs.CommandSteps.{GivesUp, StepEnds, Accepts, Refuses, LacksRoom, LacksMemory, Loses, StepsPool, made_of, pool_after, pool_told}
-use Rattle.zst_sessions.specs.EngineSteps.{KeepsSessions, kept_pool}
+use Rattle.zst_sessions.specs.EngineSteps.{KeepsHeld, KeepsSessions, LeavesRows, kept_pool}
 use Rattle.zst_sessions.specs.Engines.{Kept, PoolStands}
 use Rattle.zst_sessions.specs.LostDisks.{ReadsAsOne}
 use Rattle.zst_sessions.specs.Moves.{Answer}
@@ -89,6 +91,7 @@ rows_left holder free (commands.Bookmark snapshot bookmark) rows target stays = 
 rows_left holder free (commands.Redact snapshot bookmark redactions) rows target stays = refl
 rows_left holder free (commands.Rollback destroys name) rows target stays = refl
 rows_left holder free (commands.Destroy name) rows target stays = refl
+rows_left holder free commands.Reclaim rows target stays = refl
 rows_left holder free (commands.Read name k i) rows target stays = refl
 rows_left holder free commands.List rows target stays = refl
 rows_left holder free (commands.ListObjects name) rows target stays = refl
@@ -96,8 +99,18 @@ rows_left holder free (commands.ListObjects name) rows target stays = refl
 -- ---- a pool that nothing was made of
 
 -- its sessions are kept
-pub stays_kept : (own : List ℕ → Type 0) (kept : Kept) → (kept.failed ≡ false → Ready kept.disk kept.state.body) → IsLawful kept.state.dir → KeepsSessions own kept kept
-stays_kept own kept ready lawful = record { mark = λ works. works; ready = ready; blocks = λ works ptr bytes has. has; extents = λ works has. has; lawful = lawful; rows = λ target other. refl }
+module _ (own : List ℕ → Type 0) (kept : Kept) (ready : kept.failed ≡ false → Ready kept.disk kept.state.body) (lawful : IsLawful kept.state.dir) where
+  stays_left : LeavesRows own kept kept
+  stays_left = record { mark = λ works. works; ready = ready; lawful = lawful; rows = λ target other. refl }
+
+  pub stays_kept : KeepsSessions own kept kept
+  stays_kept = record { leaves = stays_left; blocks = λ works ptr bytes has. has; extents = λ works has. has }
+
+  pub stays_held : (held : List HeldBlocks) → KeepsHeld own held kept kept
+  stays_held held = record {
+    leaves = stays_left;
+    blocks = λ honest works. record { over = free_by kept.state.body; more = λ sector free. free; unreached = λ sector reached free. free; blocks = λ ptr bytes has. has };
+  }
 
 -- a command that ended so and left the pool as it was
 pub stays_stepped : (command : Command) (definition : Result Stepped Refusal) (opened : OpenPool) (kept : Kept) (answer : Answer) → PoolStands true kept opened → StepEnds command definition opened answer opened → StepsPool command definition opened kept kept answer
@@ -115,6 +128,11 @@ busy_stepped first now command held opened kept session works stands is =
     let refused_is : stepped held now command opened.pool ≡ Err (busy_session session) =
     first held now command opened.pool ∙ ap (λ (o : Option ℕ). unless_busy o (stepped [] now command opened.pool)) (sym is) in
     stays_stepped command (stepped held now command opened.pool) opened kept (Err (busy_session session)) stands (Refuses works (busy_session session) refused_is refl refl)
+
+-- a command is a reclaim, or another
+is_reclaim : (command : Command) → (command ≡ commands.Reclaim) ⊎ (command ≢ commands.Reclaim)
+is_reclaim commands.Reclaim = inl refl
+is_reclaim command = inr (λ is. absurd (cc is))
 
 -- a step in which the disk failed answers so
 pub fell_told : (told : Result (List (List ℕ)) PoolFault) → is_disk_fault told ≡ true → pool_told told ≡ Err refusals.DiskFault
@@ -143,31 +161,37 @@ module _ {D : Type 0} {g : Ghosts D} (old new : Pool D g) where
       second true b is also = cc is
       second false b is also = cc (is, also)
 
-  -- the sessions of a pool are kept, but for the one whose partial state a step gives up
-  pub step_keeps : (now : ℕ) (command : Command) (holder : Option ℕ) (told : Result (List (List ℕ)) PoolFault) → StepDid now command old new told → Settles old new told → holder ≡ None → IsLawful new.kept.dir
-      → OnOk told (new.kept.dir.partials ≡ rows_after command old.kept.dir.partials) → KeepsSessions (GivesUp holder command old.kept.dir) (kept_pool old) (kept_pool new)
-  step_keeps now command holder told did settles free lawful partials = record {
-    mark = λ works. (worked told settles.failed works).0;
-    ready = settles.ready;
-    blocks = λ works. did.blocks (worked told settles.failed works).1;
-    extents = λ works. extents_by told settles.extents settles.stays (did.blocks (worked told settles.failed works).1);
-    lawful = lawful;
-    rows = rows_by told partials settles.stays;
-  }
-    where
-      -- after a refusal what is kept is as it was, and so are the blocks in which its extents stand
-      extents_by : (answer : Result (List (List ℕ)) PoolFault) → OnOk answer (HasItsExtents (disk_of old.io) old.kept.body → HasItsExtents (disk_of new.io) new.kept.body) → OnErr answer (new.kept ≡ old.kept)
-          → KeepsBlocks (disk_of old.io).seen (free_by old.kept.body) (disk_of new.io).seen (free_by new.kept.body) → HasItsExtents (disk_of old.io) old.kept.body → HasItsExtents (disk_of new.io) new.kept.body
-      extents_by (Ok reply) hands stays blocks has = hands has
-      extents_by (Err fault) hands stays blocks has =
-          subst (λ (kept : PoolState). HasItsExtents (disk_of new.io) kept.body) (sym stays)
-          (HasItsExtents-kept (disk_of old.io) (disk_of new.io) old.kept.body
-          (subst (λ (kept : PoolState). KeepsBlocks (disk_of old.io).seen (free_by old.kept.body) (disk_of new.io).seen (free_by kept.body)) stays blocks) has)
+  module _ (now : ℕ) (command : Command) (held : List HeldBlocks) (holder : Option ℕ) (told : Result (List (List ℕ)) PoolFault) (did : StepDid now command held old new told) (settles : Settles old new told)
+      (free : holder ≡ None) (lawful : IsLawful new.kept.dir) (partials : OnOk told (new.kept.dir.partials ≡ rows_after command old.kept.dir.partials)) where
+    -- the rows stay, but for that of the partial state that a step gives up
+    step_leaves : LeavesRows (GivesUp holder command old.kept.dir) (kept_pool old) (kept_pool new)
+    step_leaves = record { mark = λ works. (worked told settles.failed works).0; ready = settles.ready; lawful = lawful; rows = rows_by told partials settles.stays }
+      where
+        rows_by : (answer : Result (List (List ℕ)) PoolFault) → OnOk answer (new.kept.dir.partials ≡ rows_after command old.kept.dir.partials) → OnErr answer (new.kept ≡ old.kept)
+            → (target : List ℕ) → ¬ (GivesUp holder command old.kept.dir target) → find (is_for target) new.kept.dir.partials ≡ find (is_for target) old.kept.dir.partials
+        rows_by (Ok reply) left stays target other = ap (λ (rows : List Partial). find (is_for target) rows) left ∙ rows_left holder free command old.kept.dir target other
+        rows_by (Err fault) left stays target other = ap (λ (kept : PoolState). find (is_for target) kept.dir.partials) stays
 
-      rows_by : (answer : Result (List (List ℕ)) PoolFault) → OnOk answer (new.kept.dir.partials ≡ rows_after command old.kept.dir.partials) → OnErr answer (new.kept ≡ old.kept)
-          → (target : List ℕ) → ¬ (GivesUp holder command old.kept.dir target) → find (is_for target) new.kept.dir.partials ≡ find (is_for target) old.kept.dir.partials
-      rows_by (Ok reply) left stays target other = ap (λ (rows : List Partial). find (is_for target) rows) left ∙ rows_left holder free command old.kept.dir target other
-      rows_by (Err fault) left stays target other = ap (λ (kept : PoolState). find (is_for target) kept.dir.partials) stays
+    -- so all sessions of a pool are kept by a command that is no reclaim
+    pub step_keeps : command ≢ commands.Reclaim → KeepsSessions (GivesUp holder command old.kept.dir) (kept_pool old) (kept_pool new)
+    step_keeps other = record {
+      leaves = step_leaves;
+      blocks = λ works. did.blocks other (worked told settles.failed works).1;
+      extents = λ works. extents_by told settles.extents settles.stays (did.blocks other (worked told settles.failed works).1);
+    }
+      where
+        -- after a refusal what is kept is as it was, and so are the blocks in which its extents stand
+        extents_by : (answer : Result (List (List ℕ)) PoolFault) → OnOk answer (HasItsExtents (disk_of old.io) old.kept.body → HasItsExtents (disk_of new.io) new.kept.body) → OnErr answer (new.kept ≡ old.kept)
+            → KeepsBlocks (disk_of old.io).seen (free_by old.kept.body) (disk_of new.io).seen (free_by new.kept.body) → HasItsExtents (disk_of old.io) old.kept.body → HasItsExtents (disk_of new.io) new.kept.body
+        extents_by (Ok reply) hands stays blocks has = hands has
+        extents_by (Err fault) hands stays blocks has =
+            subst (λ (kept : PoolState). HasItsExtents (disk_of new.io) kept.body) (sym stays)
+            (HasItsExtents-kept (disk_of old.io) (disk_of new.io) old.kept.body
+            (subst (λ (kept : PoolState). KeepsBlocks (disk_of old.io).seen (free_by old.kept.body) (disk_of new.io).seen (free_by kept.body)) stays blocks) has)
+
+    -- and by each those that are told to it
+    pub step_held : KeepsHeld (GivesUp holder command old.kept.dir) held (kept_pool old) (kept_pool new)
+    step_held = record { leaves = step_leaves; blocks = λ honest works. did.spared honest (worked told settles.failed works).1 }
 
   -- ---- by its answer
   module _ (command : Command) (definition : Result Stepped Refusal) (opened : OpenPool) (works : old.io.failed ≡ false) (is_open : opened.failed ≡ false) (ready : new.io.failed ≡ false → Ready (disk_of new.io) new.kept.body)
@@ -242,19 +266,21 @@ module _ {D : Type 0} {g : Ghosts D} (old new : Pool D g) where
   -- What a step made of a pool, where no session is in the command's way: beside what is held it is what the definition makes.
   pub step_stepped : SessionsComeFirst
       → ((tight : Bool) (before after : Plain) (was is : D) → Leaves (g.state was) (g.state is) (ReadsAsOne tight before after) → ((c : List ℕ) → (g.state was).images c → Reads tight before c) → IsTrue g.tells_images → ReadsAsOne tight before after (g.state is).seen)
-      → (now : ℕ) (command : Command) (told : Result (List (List ℕ)) PoolFault) → StepDid now command old new told → Settles old new told
-      → ((need largest : ℕ) → told ≡ Err (faults.Full need largest) → commits command ≡ true) → old.io.failed ≡ false
+      → (now : ℕ) (command : Command) (blocks : List HeldBlocks) (told : Result (List (List ℕ)) PoolFault) → StepDid now command blocks old new told → Settles old new told
+      → ((need largest : ℕ) → told ≡ Err (faults.Full need largest) → commits command ≡ true) → old.io.failed ≡ false → HeldStand (disk_of old.io) old.kept.body blocks
       → (held : List Held) (opened : OpenPool) → IsHonest new.io → IsTrue g.tells_images → PoolStands true (kept_pool old) opened → None ≡ busy_for held command opened.pool
       → StepsPool command (stepped held now command opened.pool) opened (kept_pool old) (kept_pool new) (pool_told told)
-  step_stepped first lost now command told did settles room works held opened honest tells stands free =
+  step_stepped first lost now command blocks told did settles room works stand held opened honest tells stands free =
       let alone = stepped [] now command opened.pool in
       let rested = stands.rests works in
       let moments = did.moments true opened.pool honest rested in
       let beside : stepped held now command opened.pool ≡ alone = first held now command opened.pool ∙ ap (λ (o : Option ℕ). unless_busy o alone) (sym free) in
       let seen = lost true (kept_of opened.pool) (kept_of (pool_after opened.pool alone)) old.io.disk.now new.io.disk.now (as_one opened alone moments) (λ c image. (old.kept.body, rested.rows, rested.rests.each c image)) tells in
       subst (λ (definition : Result Stepped Refusal). StepsPool command definition opened (kept_pool old) (kept_pool new) (pool_told told)) (sym beside)
-      (by_answer command alone opened works (sym stands.mark ∙ works) settles.ready moments told settles.failed (did.answer true opened.pool honest works rested)
-      (λ need largest is. (shorter told (did.spends works) need largest is, room need largest is)) (did.open_still works) seen)
+      (by_answer command alone opened works (sym stands.mark ∙ works) settles.ready moments told settles.failed (did.answer true opened.pool honest works rested stand)
+      (λ need largest is.
+      (⊎_elim (λ one. starved told (did.reclaims one honest works) need largest is) (λ other. shorter told (did.spends other works) need largest is) (is_reclaim command), room need largest is))
+      (did.open_still works) seen)
     where
       as_one : (opened : OpenPool) (alone : Result Stepped Refusal) → Leaves (disk_of old.io) (disk_of new.io) (BeforeOrAfter true opened.pool alone)
           → Leaves (disk_of old.io) (disk_of new.io) (ReadsAsOne true (kept_of opened.pool) (kept_of (pool_after opened.pool alone)))
@@ -268,3 +294,8 @@ module _ {D : Type 0} {g : Ghosts D} (old new : Pool D g) where
           → (need largest : ℕ) → answer ≡ Err (faults.Full need largest) → largest < need
       shorter (Ok reply) spends need largest is = absurd (cc is)
       shorter (Err fault) spends need largest is = let fell : fault ≡ faults.Full need largest = cc is in let room_is = spends.2.full need largest fell in room_is.shorter
+
+      starved : (answer : Result (List (List ℕ)) PoolFault) → Reclaims blocks (disk_of old.io) (disk_of new.io) old.kept new.kept new.io.space answer
+          → (need largest : ℕ) → answer ≡ Err (faults.Full need largest) → largest < need
+      starved (Ok reply) reclaims need largest is = absurd (cc is)
+      starved (Err fault) reclaims need largest is = let fell : fault ≡ faults.Full need largest = cc is in let room_is = reclaims.full need largest fell in room_is.shorter

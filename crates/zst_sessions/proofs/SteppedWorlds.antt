@@ -1,5 +1,5 @@
 -- What a command of a pool makes of a world, and of what the engine keeps.
-use Rattle.std.specs.Prelude.{◌⊎◌, IsTrue, All}
+use Rattle.std.specs.Prelude.{◌≢◌, ◌⊎◌, IsTrue, All}
 use Rattle.std.proofs.Common.{◌≡◌, inl, inr, ℕ, Bool, true, false, cond, List, [], ◌∷◌, ◌++◌, map, filter, Option, None, Result, Ok, Err, refl, sym, ap, ◌∙◌, subst, ⊎_elim, arith}
 use Rattle.std.proofs.lemmas.List.Elements.{All-cons, All-head, All-nil, All-tail}
 use Rattle.zst_outside.specs.Causes.{Rose}
@@ -12,6 +12,7 @@ use Rattle.zst_dir.specs.RowNames.{AreNamed, Match}
 use Rattle.zst_image.specs.Bodies.{free_by}
 use Rattle.zst_image.specs.Reads.{Reads}
 use Rattle.zst_model.specs.declared.pools.command.Command.{Command}
+use Rattle.zst_model.specs.declared.pools.command.Command.TheVariants as commands
 use Rattle.zst_model.specs.declared.refusals.refusal.Refusal.{Refusal}
 use Rattle.zst_model.specs.declared.refusals.refusal.Refusal.TheVariants as refusals
 use Rattle.zst_model.specs.pools.KeptPool.{kept_of}
@@ -20,17 +21,20 @@ use Rattle.zst_model.specs.pools.Sessions.{Held, Holds, Claims}
 use Rattle.zst_model.specs.pools.Step.{Stepped, stepped}
 use Rattle.zst_plan.specs.declared.receive.RecvAsk.{RecvAsk}
 use Rattle.zst_pool.proofs.NamedPools.{rows_named}
+use Rattle.zst_pool.specs.Reclaims.{HeldStand}
 use Rattle.zst_pool.specs.declared.pool.Pool.{Pool}
-use Rattle.zst_recv.specs.GoingOn.{FittingReceive, ReceivesGoOn}
+use Rattle.zst_recv.specs.GoingOn.{FittingReceive, ReceivesGoOn, ReceivesOutlast}
 use Rattle.zst_script.specs.declared.event.Event.TheVariants as events
 use Rattle.zst_script.specs.declared.event.Side.{Side}
 use Rattle.zst_script.specs.declared.event.Side.TheVariants.{Here, There}
+use Rattle.zst_send.specs.HeldPointers.{HeldSendsStand, SendsOutlast}
 use Rattle.zst_send.specs.Sends.{SendsGoOn}
-use Rattle.zst_sessions.proofs.Beside.{receives_beside, sends_beside, sessions_fit_beside}
+use Rattle.zst_sessions.proofs.Beside.{receives_beside_held, sends_beside_held, sessions_fit_beside}
+use Rattle.zst_sessions.proofs.HeldSends.{held_stand}
 use Rattle.zst_sessions.proofs.SparedBlocks.{kept_spares, none_spares}
 use Rattle.zst_sessions.specs.BusySessions.{busy_for}
 use Rattle.zst_sessions.specs.CommandSteps.{GivesUp, StepEnds, HadFailed, Accepts, Refuses, LacksRoom, LacksMemory, Loses, IsUnclaimed, StepsPool, made_of, pool_after}
-use Rattle.zst_sessions.specs.EngineSteps.{EngineFits, IsLaterPool, KeepsSessions, StepsEngine, coded_claim, coded_held, coded_hold, here_with, kept_pool, target_of, there_with}
+use Rattle.zst_sessions.specs.EngineSteps.{EngineFits, IsLaterPool, KeepsHeld, KeepsSessions, StepsEngine, coded_claim, coded_held, coded_hold, held_blocks, here_with, kept_pool, target_of, there_with}
 use Rattle.zst_sessions.specs.Engines.{BeforeOrAfter, Kept, PoolStands, ReceiveStandsOn, SendStandsOn, Stands, Steps, kept_at}
 use Rattle.zst_sessions.specs.EventReplies.{answer_of}
 use Rattle.zst_sessions.specs.Lawfulness.{MovesKeepWorlds}
@@ -182,13 +186,16 @@ module _ (now : ℕ) (command : Command) where
 -- The laws by which sessions stand on beside a command, and by which worlds go on.
 pub record Laws : Type 0 where
   pub sends : SendsGoOn
+  pub sends_outlast : SendsOutlast
+  pub stand : HeldSendsStand
   pub receives : ReceivesGoOn
+  pub receives_outlast : ReceivesOutlast
   pub fit : FittingReceive
   pub worlds : MovesKeepWorlds
   pub numbers : NumbersRise
 
 module _ (laws : Laws) (side : Side) (now : ℕ) (command : Command) (holder : Option ℕ) (answer : Answer) (here there new : Kept) (sends : List kept_sends.OpenSend) (receives : List kept_receives.OpenReceive)
-    (keeps : KeepsSessions (GivesUp holder command (kept_at side here there).state.dir) (kept_at side here there) new)
+    (keeps : KeepsHeld (GivesUp holder command (kept_at side here there).state.dir) (held_blocks side sends) (kept_at side here there) new)
     (claimed : holder ≡ None → IsUnclaimed side command (kept_at side here there).state.dir receives) where
   -- no receive is into what is given up
   pub others_stay : All (λ one. one.side ≡ side → ¬ (GivesUp holder command (kept_at side here there).state.dir (target_of one))) receives
@@ -198,9 +205,9 @@ module _ (laws : Laws) (side : Side) (now : ℕ) (command : Command) (holder : O
   own = GivesUp holder command (kept_at side here there).state.dir
 
   -- what a command made of one pool makes of a world
-  stepped_world : (world : World) → Stands true here there sends receives world → StepsPool command (definition_at now command side world) (at_side side world) (kept_at side here there) new answer
+  stepped_world : (world : World) → new.disk.honest → Stands true here there sends receives world → StepsPool command (definition_at now command side world) (at_side side world) (kept_at side here there) new answer
       → Steps true now world (events.Step side command) here there (here_with side new here) (there_with side new there) sends receives answer
-  stepped_world world stands steps =
+  stepped_world world honest stands steps =
       let next = put_side side steps.next world in
       let moves = step_moves now command side world answer steps.next steps.ends in
       record {
@@ -211,11 +218,11 @@ module _ (laws : Laws) (side : Side) (now : ℕ) (command : Command) (holder : O
           there_stands = there_stands side there new steps.next world stands.there_stands steps.stands;
           send_stands =
               subst (λ (all : List OpenSend). Match (λ one send. SendStandsOn (kept_at send.side (here_with side new here) (there_with side new there)) one send) sends all) (sym (sends_stay side steps.next world))
-              (sends_beside laws.sends side own here there new sends world.sends keeps stands.send_stands);
+              (sends_beside_held laws.sends laws.sends_outlast side own here there new sends world.sends keeps honest stands.send_stands);
           receive_stands =
               subst (λ (all : List OpenReceive). Match (λ one receive. ReceiveStandsOn true (kept_at receive.side (here_with side new here) (there_with side new there)) (at_side receive.side next).pool one receive) receives all)
               (sym (receives_stay side steps.next world))
-              (receives_beside laws.receives laws.fit side own here there new world next receives world.receives keeps
+              (receives_beside_held laws.receives laws.fit laws.receives_outlast side own (held_blocks side sends) here there new world next receives world.receives keeps honest
               (λ of. laws.numbers now world next (events.Step side command) answer of moves) (others_are here there sends receives world stands side own others_stay) stands.receive_stands);
           lawful = laws.worlds now world next (events.Step side command) answer moves stands.lawful;
         };
@@ -225,15 +232,18 @@ module _ (laws : Laws) (side : Side) (now : ℕ) (command : Command) (holder : O
 
   -- and so does one that the session in its way was looked for
   pub command_steps : ((running : Plain) → AreNamed (kept_at side here there).state.dir running → holder ≡ busy_for (coded_held side sends receives) command running)
-      → ((held : List Held) (opened : OpenPool) → PoolStands true (kept_at side here there) opened → (opened.failed ≡ false → holder ≡ busy_for held command opened.pool)
+      → ((held : List Held) (opened : OpenPool) → PoolStands true (kept_at side here there) opened
+      → ((kept_at side here there).failed ≡ false → HeldStand (kept_at side here there).disk (kept_at side here there).state.body (held_blocks side sends))
+      → (opened.failed ≡ false → holder ≡ busy_for held command opened.pool)
       → StepsPool command (stepped held now command opened.pool) opened (kept_at side here there) new answer)
-      → (world : World) → Stands true here there sends receives world → Steps true now world (events.Step side command) here there (here_with side new here) (there_with side new there) sends receives answer
-  command_steps busy steps world stands =
+      → (world : World) → new.disk.honest → Stands true here there sends receives world
+      → Steps true now world (events.Step side command) here there (here_with side new here) (there_with side new there) sends receives answer
+  command_steps busy steps world honest stands =
       let kept = kept_at side here there in
       let opened = at_side side world in
       let at = stands_at side here there world stands.here_stands stands.there_stands in
-      stepped_world world stands
-      (steps (held_at side world) opened at
+      stepped_world world honest stands
+      (steps (held_at side world) opened at (held_stand side here there laws.stand sends world.sends stands.send_stands)
       (λ works. let rested = at.rests (at.mark ∙ works) in
       busy opened.pool (rows_named (Has kept.disk.seen (free_by kept.state.body)) kept.state.dir opened.pool rested.runs_by)
       ∙ ap (λ (held : List Held). busy_for held command opened.pool) (sym (held_is here there sends receives world stands side))))
@@ -260,22 +270,24 @@ module _ {D E : Type 0} {g : Ghosts D} {h : Ghosts E} (laws : Laws) (old : Engin
   pub step_here : (side : Side) → side ≡ Here → (pool : Pool D g)
       → ((running : Plain) → AreNamed (kept_at side first second).state.dir running → holder ≡ busy_for (coded_held side old.sends.items old.receives.items) command running)
       → (holder ≡ None → IsUnclaimed side command (kept_at side first second).state.dir old.receives.items)
-      → ((held : List Held) (opened : OpenPool) → IsHonest pool.io → IsTrue g.tells_images → PoolStands true first opened → (opened.failed ≡ false → holder ≡ busy_for held command opened.pool)
+      → ((held : List Held) (opened : OpenPool) → IsHonest pool.io → IsTrue g.tells_images → PoolStands true first opened
+      → (old.here.io.failed ≡ false → HeldStand (disk_of old.here.io) old.here.kept.body (held_blocks side old.sends.items)) → (opened.failed ≡ false → holder ≡ busy_for held command opened.pool)
       → StepsPool command (stepped held old.now command opened.pool) opened first (kept_pool {g = g} pool) answer)
-      → KeepsSessions (GivesUp holder command old.here.kept.dir) first (kept_pool {g = g} pool) → IsLaterPool old.here pool
+      → KeepsHeld (GivesUp holder command old.here.kept.dir) (held_blocks side old.sends.items) first (kept_pool {g = g} pool)
+      → (command ≢ commands.Reclaim → KeepsSessions (GivesUp holder command old.here.kept.dir) first (kept_pool {g = g} pool)) → IsLaterPool old.here pool
       → (answer ≡ Err refusals.DiskFault → Rose (disk_of old.here.io).faults (disk_of pool.io).faults) → (old.here.io.failed ≡ false → ¬ (answer ≡ Err refusals.Failed))
       → (¬ (answer ≡ Err refusals.DiskFault) → old.here.io.failed ≡ false → pool.io.failed ≡ false) → StepsEngine (events.Step side command) old (record old { here = pool }) result
-  step_here There is pool busy claimed steps keeps later cause open_still still = absurd (cc is)
-  step_here Here is pool busy claimed steps keeps later cause open_still still =
+  step_here There is pool busy claimed steps held keeps later cause open_still still = absurd (cc is)
+  step_here Here is pool busy claimed steps held keeps later cause open_still still =
       let new = kept_pool {g = g} pool in
       let own = GivesUp holder command old.here.kept.dir in
       record {
         steps = λ world honest also tells and stands.
             subst (λ (a : Answer). Steps true old.now world (events.Step Here command) first second new second old.sends.items old.receives.items a) (sym told)
-            (command_steps laws Here old.now command holder answer first second new old.sends.items old.receives.items keeps claimed busy (λ held opened. steps held opened honest tells) world stands);
+            (command_steps laws Here old.now command holder answer first second new old.sends.items old.receives.items held claimed busy (λ others opened. steps others opened honest tells) world honest stands);
         fits = record {
-          sessions = sessions_fit_beside laws.fit Here own first second new old.sends.items old.receives.items keeps
-              (others_stay laws Here old.now command holder answer first second new old.sends.items old.receives.items keeps claimed) fits.sessions;
+          sessions = sessions_fit_beside laws.fit Here own first second new old.sends.items old.receives.items held.leaves
+              (others_stay laws Here old.now command holder answer first second new old.sends.items old.receives.items held claimed) fits.sessions;
           room = fits.room;
         };
         here_later = later;
@@ -284,29 +296,31 @@ module _ {D E : Type 0} {g : Ghosts D} {h : Ghosts E} (laws : Laws) (old : Engin
         cause = λ is. inl (cause (sym told ∙ ap answer_of is));
         open_still = λ works also is. open_still works (sym told ∙ ap answer_of is);
         works = λ alive. (still (λ is. alive (lost_as result (told ∙ is))), λ works. works);
-        here_spares = kept_spares own first new keeps;
-        there_spares = none_spares second;
+        here_spares = λ no_reclaim. kept_spares own first new (keeps (λ one. no_reclaim (ap (λ (other : Command). events.Step Here other) one)));
+        there_spares = λ no_reclaim. none_spares second;
       }
 
   pub step_there : (side : Side) → side ≡ There → (pool : Pool E h)
       → ((running : Plain) → AreNamed (kept_at side first second).state.dir running → holder ≡ busy_for (coded_held side old.sends.items old.receives.items) command running)
       → (holder ≡ None → IsUnclaimed side command (kept_at side first second).state.dir old.receives.items)
-      → ((held : List Held) (opened : OpenPool) → IsHonest pool.io → IsTrue h.tells_images → PoolStands true second opened → (opened.failed ≡ false → holder ≡ busy_for held command opened.pool)
+      → ((held : List Held) (opened : OpenPool) → IsHonest pool.io → IsTrue h.tells_images → PoolStands true second opened
+      → (old.there.io.failed ≡ false → HeldStand (disk_of old.there.io) old.there.kept.body (held_blocks side old.sends.items)) → (opened.failed ≡ false → holder ≡ busy_for held command opened.pool)
       → StepsPool command (stepped held old.now command opened.pool) opened second (kept_pool {g = h} pool) answer)
-      → KeepsSessions (GivesUp holder command old.there.kept.dir) second (kept_pool {g = h} pool) → IsLaterPool old.there pool
+      → KeepsHeld (GivesUp holder command old.there.kept.dir) (held_blocks side old.sends.items) second (kept_pool {g = h} pool)
+      → (command ≢ commands.Reclaim → KeepsSessions (GivesUp holder command old.there.kept.dir) second (kept_pool {g = h} pool)) → IsLaterPool old.there pool
       → (answer ≡ Err refusals.DiskFault → Rose (disk_of old.there.io).faults (disk_of pool.io).faults) → (old.there.io.failed ≡ false → ¬ (answer ≡ Err refusals.Failed))
       → (¬ (answer ≡ Err refusals.DiskFault) → old.there.io.failed ≡ false → pool.io.failed ≡ false) → StepsEngine (events.Step side command) old (record old { there = pool }) result
-  step_there Here is pool busy claimed steps keeps later cause open_still still = absurd (cc is)
-  step_there There is pool busy claimed steps keeps later cause open_still still =
+  step_there Here is pool busy claimed steps held keeps later cause open_still still = absurd (cc is)
+  step_there There is pool busy claimed steps held keeps later cause open_still still =
       let new = kept_pool {g = h} pool in
       let own = GivesUp holder command old.there.kept.dir in
       record {
         steps = λ world honest also tells and stands.
             subst (λ (a : Answer). Steps true old.now world (events.Step There command) first second first new old.sends.items old.receives.items a) (sym told)
-            (command_steps laws There old.now command holder answer first second new old.sends.items old.receives.items keeps claimed busy (λ held opened. steps held opened also and) world stands);
+            (command_steps laws There old.now command holder answer first second new old.sends.items old.receives.items held claimed busy (λ others opened. steps others opened also and) world also stands);
         fits = record {
-          sessions = sessions_fit_beside laws.fit There own first second new old.sends.items old.receives.items keeps
-              (others_stay laws There old.now command holder answer first second new old.sends.items old.receives.items keeps claimed) fits.sessions;
+          sessions = sessions_fit_beside laws.fit There own first second new old.sends.items old.receives.items held.leaves
+              (others_stay laws There old.now command holder answer first second new old.sends.items old.receives.items held claimed) fits.sessions;
           room = fits.room;
         };
         here_later = same_later old.here;
@@ -315,6 +329,6 @@ module _ {D E : Type 0} {g : Ghosts D} {h : Ghosts E} (laws : Laws) (old : Engin
         cause = λ is. inr (cause (sym told ∙ ap answer_of is));
         open_still = λ also works is. open_still works (sym told ∙ ap answer_of is);
         works = λ alive. (λ works. works, still (λ is. alive (lost_as result (told ∙ is))));
-        here_spares = none_spares first;
-        there_spares = kept_spares own second new keeps;
+        here_spares = λ no_reclaim. none_spares first;
+        there_spares = λ no_reclaim. kept_spares own second new (keeps (λ one. no_reclaim (ap (λ (other : Command). events.Step There other) one)));
       }

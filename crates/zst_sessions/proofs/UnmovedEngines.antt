@@ -49,6 +49,6 @@ module _ {D E : Type 0} {g : Ghosts D} {h : Ghosts E} (event : Event) (old : Eng
     cause = λ is. absurd (no_fault is);
     open_still = open_still;
     works = λ alive. (λ works. works, λ works. works);
-    here_spares = none_spares (kept_pool old.here);
-    there_spares = none_spares (kept_pool old.there);
+    here_spares = λ no_reclaim. none_spares (kept_pool old.here);
+    there_spares = λ no_reclaim. none_spares (kept_pool old.there);
   }

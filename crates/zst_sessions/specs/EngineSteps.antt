@@ -10,7 +10,9 @@ use Rattle.zst_image.specs.Commits.{HasItsExtents, Ready}
 use Rattle.zst_image.specs.Bodies.{free_by}
 use Rattle.zst_model.specs.declared.refusals.refusal.Refusal.{Refusal}
 use Rattle.zst_model.specs.declared.refusals.refusal.Refusal.TheVariants as refusals
+use Rattle.zst_model.specs.declared.pools.command.Command.TheVariants as commands
 use Rattle.zst_model.specs.pools.Sessions.{Held, Holds, Claims}
+use Rattle.zst_pool.specs.Reclaims.{SparesReached}
 use Rattle.zst_pool.specs.declared.pool.Pool.{Pool}
 use Rattle.zst_recv.specs.GoingOn.{IsRow}
 use Rattle.zst_recv.specs.Stages.{RecvFits, ask_of, is_live, stage_of}
@@ -18,6 +20,8 @@ use Rattle.zst_script.specs.declared.event.Event.{Event}
 use Rattle.zst_script.specs.declared.event.Event.TheVariants as events
 use Rattle.zst_script.specs.declared.event.Side.{Side}
 use Rattle.zst_script.specs.declared.event.Side.TheVariants.{Here, There}
+use Rattle.zst_roots.specs.declared.held.HeldBlocks.{HeldBlocks}
+use Rattle.zst_send.specs.HeldPointers.{held_of}
 use Rattle.zst_send.specs.Sends.{SendFits}
 use Rattle.zst_sessions.specs.Engines.{Kept, ReceiveStandsOn, SendStandsOn, Stands, Steps, kept_at}
 use Rattle.zst_sessions.specs.EventReplies.{answer_of}
@@ -81,15 +85,28 @@ coded_held side sends receives = map coded_hold (filter (λ one. is_side one.sid
 
 -- ---- what an event of one session or one command leaves to the others
 
--- What an event made of one pool, as far as its other sessions see it: unless the disk has failed, the next commit can be made and the blocks that were there
--- still are; the directory is lawful, and has the rows of partial states that it had, but for those that are the event's own.
-pub record KeepsSessions (own : List ℕ → Type 0) (old new : Kept) : Type 0 where
+-- what sends of a pool hold of it
+abbrev pub held_blocks : Side → List kept_sends.OpenSend → List HeldBlocks
+held_blocks side sends = map (λ one. held_of one.send) (filter (λ one. is_side one.side side) sends)
+
+-- What an event made of one pool, as far as its other sessions see it, but for its blocks: unless the disk has failed, the next commit can be made; the directory is
+-- lawful, and has the rows of partial states that it had, but for those that are the event's own.
+pub record LeavesRows (own : List ℕ → Type 0) (old new : Kept) : Type 0 where
   pub mark : new.failed ≡ false → old.failed ≡ false
   pub ready : new.failed ≡ false → Ready new.disk new.state.body
-  pub blocks : new.failed ≡ false → KeepsBlocks old.disk.seen (free_by old.state.body) new.disk.seen (free_by new.state.body)
-  pub extents : new.failed ≡ false → HasItsExtents old.disk old.state.body → HasItsExtents new.disk new.state.body
   pub lawful : IsLawful new.state.dir
   pub rows : (target : List ℕ) → ¬ (own target) → find (is_for target) new.state.dir.partials ≡ find (is_for target) old.state.dir.partials
+
+-- And the blocks that were there still are, unless the disk has failed.
+pub record KeepsSessions (own : List ℕ → Type 0) (old new : Kept) : Type 0 where
+  pub leaves : LeavesRows own old new
+  pub blocks : new.failed ≡ false → KeepsBlocks old.disk.seen (free_by old.state.body) new.disk.seen (free_by new.state.body)
+  pub extents : new.failed ≡ false → HasItsExtents old.disk old.state.body → HasItsExtents new.disk new.state.body
+
+-- So it is with a command, also with a reclaim: that makes none of the blocks free that the rows reach or these sessions hold, where no read gave other bytes.
+pub record KeepsHeld (own : List ℕ → Type 0) (held : List HeldBlocks) (old new : Kept) : Type 0 where
+  pub leaves : LeavesRows own old new
+  pub blocks : new.disk.honest → new.failed ≡ false → SparesReached held old.disk new.disk old.state new.state
 
 -- What an event leaves of the blocks of one pool, whatever the image is, unless the disk has failed by then. Each block still stands that stood in sectors which the
 -- latest body from before left not free. And each block that was there still is, over the sectors that the latest body then leaves free, and so do that body's own free extents
@@ -118,11 +135,28 @@ ReceivesStandBeside =
     → Match (λ one receive. ReceiveStandsOn true (kept_at receive.side here there) (at_side receive.side world).pool one receive) coded receives
     → Match (λ one receive. ReceiveStandsOn true (kept_at receive.side (here_with side new here) (there_with side new there)) (at_side receive.side next).pool one receive) coded receives
 
+-- And so they do behind a command that leaves what the sends of its pool hold, and what the rows reach.
+abbrev pub SendsStandHeld : Type 1
+SendsStandHeld =
+    (side : Side) (own : List ℕ → Type 0) (here there new : Kept) (coded : List kept_sends.OpenSend) (sends : List OpenSend)
+    → KeepsHeld own (held_blocks side coded) (kept_at side here there) new → new.disk.honest
+    → Match (λ one send. SendStandsOn (kept_at send.side here there) one send) coded sends
+    → Match (λ one send. SendStandsOn (kept_at send.side (here_with side new here) (there_with side new there)) one send) coded sends
+
+abbrev pub ReceivesStandHeld : Type 1
+ReceivesStandHeld =
+    (side : Side) (own : List ℕ → Type 0) (held : List HeldBlocks) (here there new : Kept) (world next : World) (coded : List kept_receives.OpenReceive) (receives : List OpenReceive)
+    → KeepsHeld own held (kept_at side here there) new → new.disk.honest
+    → ((of : Side) → (at_side of world).pool.number ≤ (at_side of next).pool.number)
+    → All (λ receive. receive.side ≡ side → ¬ (own receive.ask.target)) receives
+    → Match (λ one receive. ReceiveStandsOn true (kept_at receive.side here there) (at_side receive.side world).pool one receive) coded receives
+    → Match (λ one receive. ReceiveStandsOn true (kept_at receive.side (here_with side new here) (there_with side new there)) (at_side receive.side next).pool one receive) coded receives
+
 -- And what is kept stays in its ranges.
 abbrev pub SessionsFitBeside : Type 1
 SessionsFitBeside =
     (side : Side) (own : List ℕ → Type 0) (here there new : Kept) (sends : List kept_sends.OpenSend) (receives : List kept_receives.OpenReceive)
-    → KeepsSessions own (kept_at side here there) new
+    → LeavesRows own (kept_at side here there) new
     → All (λ one. one.side ≡ side → ¬ (own (target_of one))) receives
     → SessionsFit here there sends receives → SessionsFit (here_with side new here) (there_with side new there) sends receives
 
@@ -177,7 +211,7 @@ module _ {D E : Type 0} {g : Ghosts D} {h : Ghosts E} where
     -- E28 comes only where the count of faults of a disk rose in this event, and E31 only where a disk had failed before
     pub cause : result ≡ Err refusals.DiskFault → Rose (disk_of old.here.io).faults (disk_of new.here.io).faults ⊎ Rose (disk_of old.there.io).faults (disk_of new.there.io).faults
     pub open_still : old.here.io.failed ≡ false → old.there.io.failed ≡ false → ¬ (result ≡ Err refusals.Failed)
-    -- unless it answers E28 no disk fails in it, and what stands of the blocks of both pools
+    -- unless it answers E28 no disk fails in it; and what stands of the blocks of both pools, of each where the event is no reclaim of it
     pub works : ¬ (result ≡ Err refusals.DiskFault) → NoneFailed old new
-    pub here_spares : SparesBlocks (event ≡ events.Reopen Here) (kept_pool old.here) (kept_pool new.here)
-    pub there_spares : SparesBlocks (event ≡ events.Reopen There) (kept_pool old.there) (kept_pool new.there)
+    pub here_spares : event ≢ events.Step Here commands.Reclaim → SparesBlocks (event ≡ events.Reopen Here) (kept_pool old.here) (kept_pool new.here)
+    pub there_spares : event ≢ events.Step There commands.Reclaim → SparesBlocks (event ≡ events.Reopen There) (kept_pool old.there) (kept_pool new.there)

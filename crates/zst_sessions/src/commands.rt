@@ -1,5 +1,5 @@
 // The events that run a command of a pool or tell a token.
-ghost use Rattle.std.specs.Prelude.{◌≡◌, List, IsTrue, Err, None, false, true};
+ghost use Rattle.std.specs.Prelude.{◌≡◌, ◌≢◌, List, IsTrue, Err, None, false, true};
 ghost use Rattle.zst_outside.specs.Causes.{Rose};
 ghost use Rattle.zst_block.specs.IoStates.{IsHonest, disk_of};
 ghost use Rattle.zst_dir.specs.RowNames.{AreNamed};
@@ -7,20 +7,25 @@ ghost use Rattle.zst_image.specs.Commits.{Ready};
 ghost use Rattle.zst_model.specs.pools.Pool.{Pool as Plain};
 ghost use Rattle.zst_model.specs.pools.Sessions.{Held, busy_session};
 ghost use Rattle.zst_model.specs.pools.Step.{IsCommand, stepped};
+ghost use Rattle.zst_pool.specs.Reclaims.{HeldStand};
 ghost use Rattle.zst_recv.specs.Tokens.{token_told};
 ghost use Rattle.zst_script.specs.declared.event.Event.TheVariants as events;
 ghost use Rattle.zst_sessions.specs.BusySessions.{busy_for};
 ghost use Rattle.zst_sessions.specs.CommandSteps.{GivesUp, IsUnclaimed, StepsPool, pool_told, told_as, token_answer};
-ghost use Rattle.zst_sessions.specs.EngineSteps.{EngineFits, IsLaterPool, KeepsSessions, StepsEngine, coded_held, kept_pool};
+ghost use Rattle.zst_sessions.specs.EngineSteps.{EngineFits, IsLaterPool, KeepsHeld, KeepsSessions, StepsEngine, coded_held, held_blocks, kept_pool};
 ghost use Rattle.zst_sessions.specs.Engines.{PoolStands, kept_at};
 ghost use Rattle.zst_sessions.specs.EventReplies.{answer_of};
 ghost use Rattle.zst_sessions.specs.World.{OpenPool};
 
 use crate::engine::Engine;
 use crate::event_reply::EventReply;
-use crate::holders::holder_for;
-use crate::laws::{moves_keep_worlds, numbers_rise, sessions_come_first, sessions_stand_beside};
+use crate::holders::{held_blocks, holder_for};
+use crate::laws::{
+    moves_keep_worlds, numbers_rise, sessions_come_first, sessions_outlast_reclaims,
+    sessions_stand_beside,
+};
 use crate::lost::lost_disks_read;
+use crate::open_sessions::OpenSend;
 use std::alloc::Global;
 use zst_model::{Command, Holder, PlanFault, Refusal, Reply};
 use zst_names::DatasetName;
@@ -73,16 +78,20 @@ fn step_unless_busy<D: Disk>(
     alloc: Global,
     now: u64,
     holder: Option<u32>,
+    side: Side,
+    sends: &[OpenSend],
     command: Command,
 ) -> Result<Reply, Refusal>
     requires command { IsCommand command }
     requires ready { pool.old.io.failed ≡ false → Ready (disk_of pool.old.io) pool.old.kept.body }
     // Where the holder is the session that the definition finds in the way: what the command makes of the pool beside what is held.
     ensures steps { (held : List Held) (opened : OpenPool) → IsHonest pool.new.io → IsTrue D.tells_images → PoolStands true (kept_pool pool.old) opened
+        → (pool.old.io.failed ≡ false → HeldStand (disk_of pool.old.io) pool.old.kept.body (held_blocks side sends.now))
         → (opened.failed ≡ false → holder ≡ busy_for held command opened.pool)
         → StepsPool command (stepped held now command opened.pool) opened (kept_pool pool.old) (kept_pool pool.new) result }
     // Whatever the image is.
-    ensures keeps { KeepsSessions (GivesUp holder command pool.old.kept.dir) (kept_pool pool.old) (kept_pool pool.new) }
+    ensures held { KeepsHeld (GivesUp holder command pool.old.kept.dir) (held_blocks side sends.now) (kept_pool pool.old) (kept_pool pool.new) }
+    ensures keeps { command ≢ Command.Reclaim → KeepsSessions (GivesUp holder command pool.old.kept.dir) (kept_pool pool.old) (kept_pool pool.new) }
     ensures later { IsLaterPool pool.old pool.new }
     ensures cause { result ≡ Err Refusal.DiskFault → Rose (disk_of pool.old.io).faults (disk_of pool.new.io).faults }
     ensures open_still { pool.old.io.failed ≡ false → ¬ (result ≡ Err Refusal.Failed) }
@@ -97,7 +106,10 @@ fn step_unless_busy<D: Disk>(
     if let Some(session) = holder {
         return Err(busy(session));
     }
-    let answer = pool.step(alloc, now, command);
+    let Ok(held) = held_blocks(alloc, sends, side) else {
+        return Err(Refusal::OutOfMemory);
+    };
+    let answer = pool.step(alloc, now, command, held.as_slice());
     let _lawful_still = pool.kept.dir.datasets();
     told(answer)
 }
@@ -145,15 +157,20 @@ impl<'a, 'b, D: Disk, E: Disk> Engine<'a, 'b, D, E> {
         ensures { StepsEngine (events.Step side command) self.old self.new result }
     {
         sessions_stand_beside();
+        sessions_outlast_reclaims();
         moves_keep_worlds();
         numbers_rise();
         let holder = self.holder_of(side, &command);
         match side {
             Side::Here => {
-                lines(step_unless_busy(&mut self.here, alloc, self.now, holder, command))
+                let sends = self.sends.as_slice();
+                let pool = &mut self.here;
+                lines(step_unless_busy(pool, alloc, self.now, holder, side, sends, command))
             }
             Side::There => {
-                lines(step_unless_busy(&mut self.there, alloc, self.now, holder, command))
+                let sends = self.sends.as_slice();
+                let pool = &mut self.there;
+                lines(step_unless_busy(pool, alloc, self.now, holder, side, sends, command))
             }
         }
     }

@@ -1,5 +1,5 @@
 // Which session is in the way of a command, of another session, or has an id.
-ghost use Rattle.std.specs.Prelude.{◌≡◌, ◌≢◌, ◌==◌, ◌&&◌, ◌||◌, All, List, None, bytes_eq, find};
+ghost use Rattle.std.specs.Prelude.{◌≡◌, ◌≢◌, ◌==◌, ◌&&◌, ◌||◌, All, IfOk, List, None, bytes_eq, find};
 ghost use Rattle.std.specs.List.{list_any};
 ghost use Rattle.zst_dir.specs.Removal.{takes_snapshot};
 ghost use Rattle.zst_dir.specs.RowNames.{AreNamed};
@@ -8,16 +8,18 @@ ghost use Rattle.zst_model.specs.pools.Pool.{Pool as Plain};
 ghost use Rattle.zst_model.specs.pools.Sessions.{has_claimed, has_named, least_id, lesser, session_into as claiming, session_with};
 ghost use Rattle.zst_sessions.specs.BusySessions.{busy_for};
 ghost use Rattle.zst_sessions.specs.CommandSteps.{IsUnclaimed};
-ghost use Rattle.zst_sessions.specs.EngineSteps.{coded_claim, coded_held, coded_hold, target_of};
+ghost use Rattle.zst_sessions.specs.EngineSteps.{coded_claim, coded_held, coded_hold, held_blocks, target_of};
 ghost use Rattle.zst_sessions.specs.SessionHolders.{coded_holds, has_going, lesser_of, may_be_had};
 ghost use Rattle.zst_sessions.specs.World.{is_side};
 ghost use Rattle.zst_sessions.specs.declared.open_sessions.OpenReceive.{OpenReceive as OpenReceives};
 ghost use Rattle.zst_sessions.specs.declared.open_sessions.OpenSend.{OpenSend as OpenSends};
 
 use crate::open_sessions::{OpenReceive, OpenSend};
+use std::alloc::{AllocError, Global};
 use zst_dir::{Dir, Removal};
 use zst_model::{Command, Name};
 use zst_names::{DatasetName, SnapName};
+use zst_roots::HeldBlocks;
 use zst_script::Side;
 
 // Whether two sides are one.
@@ -28,6 +30,23 @@ fn is_side(one: Side, other: Side) -> bool
         (Side::Here, Side::Here) | (Side::There, Side::There) => true,
         (Side::Here, Side::There) | (Side::There, Side::Here) => false,
     }
+}
+
+/// What the sends of a pool hold of it.
+pub(crate) fn held_blocks(
+    alloc: Global,
+    sends: &[OpenSend],
+    side: Side,
+) -> Result<Vec<HeldBlocks>, AllocError>
+    ensures { IfOk result (λ held. held.items ≡ held_blocks side sends.now) }
+{
+    let mut held = Vec::new(alloc);
+    for one in sends {
+        if is_side(one.side, side) {
+            held.push(one.send.held())?;
+        }
+    }
+    Ok(held)
 }
 
 // The lesser of an id and another, where there is another.

@@ -49,12 +49,9 @@ returns-clause-fed g c =
       open_still = pool.open_still;
       lost = λ one other moments images tells. c.lost_disks_read.ensures true one other c.args.pool.now.io.disk.now c.feed-fed.new.pool.io.disk.now moments images tells;
       keeps = record {
-        mark = λ works. (worked_so works).0;
-        ready = pool.ready;
+        leaves = record { mark = λ works. (worked_so works).0; ready = pool.ready; lawful = c.datasets-lawful.ensures.lawful; rows = rows.others };
         blocks = λ works. pool.blocks (no_fault result (worked_so works).1);
         extents = λ works. pool.extents (no_fault result (worked_so works).1);
-        lawful = c.datasets-lawful.ensures.lawful;
-        rows = rows.others;
       };
       own = λ on row. rows.own row on;
       receive = c.feed-fed.ensures.leaves.receive;
