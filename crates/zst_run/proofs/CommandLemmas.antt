@@ -21,7 +21,8 @@ use Rattle.zst_tree.specs.Damage.{IsSeen, NamesNode, SumsUp}
 use Rattle.zst_objset.specs.Damage.{IsDamagedBlock, IsDamagedObject, IsDamagedSet}
 use Rattle.zst_redact.specs.Damage.{IsDamagedAmong}
 use Rattle.zst_dir.specs.Rows.{Rows}
-use Rattle.zst_pool.proofs.PoolsAtRest.{rest_plain}
+use Rattle.zst_roots.specs.RowDamage.{IsDamagedInPool}
+use Rattle.zst_pool.proofs.PoolsAtRest.{kept_twice, rest_plain}
 use Rattle.zst_image.specs.Faults.{open_refusal}
 use Rattle.zst_uber.specs.DiskCalls as disk_calls
 use Rattle.zst_image.specs.OpenAnswers.{GivesPool, OpenAnswers}
@@ -34,11 +35,13 @@ use Rattle.zst_pool.specs.Cost.{FindsLess, FindsNoRoom, Grows, HasNoRoom, cost_o
 use Rattle.zst_pool.specs.Damage.{IsOf, OfHead, OfSet, TellsDamage}
 use Rattle.zst_pool.specs.Faults.{HasDiskCause, StepFault, pool_refusal}
 use Rattle.zst_pool.specs.Plans.{Plans, indices_end, makes_list, numbers_end}
+use Rattle.zst_pool.specs.Reclaims.{AreUnreached, FindsAllReached, Reclaimed, Reclaims}
 use Rattle.zst_pool.specs.Redactions.{rows_of, sets_of}
 use Rattle.zst_pool.specs.StepAnswers.{BeforeOrAfter, StepAnswer}
 use Rattle.zst_pool.specs.declared.fault.PoolFault.{PoolFault}
 use Rattle.zst_pool.specs.declared.fault.PoolFault.TheVariants as faults
-use Rattle.zst_run.specs.Commands.{OldOrReads, IsPoolRefusal, OfStepping, Answers, Opened, Opens, Planned, Ran, Stepping}
+use Rattle.zst_run.specs.Commands.{OldOrReads, IsPoolRefusal, OfStepping, Answers, Opened, Opens, Planned, Ran, RefusesReclaim, Stepping, as_kept}
+use Rattle.zst_run.proofs.ReclaimedRows.{ReadsOne, rows_stay}
 
 -- ---- plans' faults as refusals
 
@@ -176,40 +179,43 @@ moments_then {tight = tight} here mid here' pool after reads step whole =
 -- ---- answers
 
 -- where the pool reads, opening is refused by the disk or by want of memory alone
-pub answers_unopened : {tight : Bool} (command : Command) (mid : DiskState) (pool : Pool) (after : Result Stepped Refusal) (body : Body) (rows : Rows) (fault : OpenFault)
-    → (fault ≢ opens.DiskFault → Rests tight mid body rows pool) → GivesPool body rows (Err fault) → Answers tight command body rows pool mid after (Err (open_refusal fault))
-answers_unopened command mid pool after body rows (opens.Damaged sector stated found) rests gives = absurd gives
-answers_unopened command mid pool after body rows opens.NoPool rests gives = absurd gives
-answers_unopened command mid pool after body rows (opens.BadVersion version) rests gives = absurd gives
-answers_unopened command mid pool after body rows opens.DiskFault rests gives = tt
-answers_unopened command mid pool after body rows opens.OutOfMemory rests gives = rests (λ is. absurd (cc is))
+pub answers_unopened : {tight : Bool} (command : Command) (here mid : DiskState) (pool : Pool) (after : Result Stepped Refusal) (body : Body) (rows : Rows) (fault : OpenFault)
+    → (fault ≢ opens.DiskFault → Rests tight mid body rows pool) → GivesPool body rows (Err fault) → Answers tight command body rows pool here mid after (Err (open_refusal fault))
+answers_unopened command here mid pool after body rows (opens.Damaged sector stated found) rests gives = absurd gives
+answers_unopened command here mid pool after body rows opens.NoPool rests gives = absurd gives
+answers_unopened command here mid pool after body rows (opens.BadVersion version) rests gives = absurd gives
+answers_unopened command here mid pool after body rows opens.DiskFault rests gives = tt
+answers_unopened command here mid pool after body rows opens.OutOfMemory rests gives = rests (λ is. absurd (cc is))
 
 -- rows in memory that last, and what they tell of room
 with_rows : (P : Rows → Type 0) (kept : PoolState) (rows : Rows) → kept.dir ≡ kept_rows rows → P kept.dir → P (kept_rows rows)
 with_rows P kept rows same is = subst P same is
 
--- what a refused command leaves
-pub answers_refused : {tight : Bool} (command : Command) (here' : DiskState) (kept : PoolState) (rows : Rows) (pool : Pool) (after : Result Stepped Refusal) (fault : PoolFault) → kept.dir ≡ kept_rows rows
-    → ((left : FreeSectors) × FindsNoRoom (cost_of command).cells ((cost_of command).block pool) ((cost_of command).list pool) kept left fault) → FindsLess (cost_of command).cells ((cost_of command).block pool) ((cost_of command).list pool) kept.body after fault → (fault ≢ faults.DiskFault → IsAtRest tight here' kept pool → Rests tight here' kept.body rows pool) → StepFault (IsAtRest tight here' kept pool) after fault
-    → Answers tight command kept.body rows pool here' after (Err (pool_refusal fault))
-answers_refused {tight = tight} command here' kept rows pool after (faults.Plan fault) same room less still is =
+-- what a refused command leaves; a reclaim is refused for want of room otherwise
+pub answers_refused : {tight : Bool} (command : Command) (here here' : DiskState) (kept : PoolState) (rows : Rows) (pool : Pool) (after : Result Stepped Refusal) (fault : PoolFault) → kept.dir ≡ kept_rows rows
+    → (command ≢ commands.Reclaim → (left : FreeSectors) × FindsNoRoom (cost_of command).cells ((cost_of command).block pool) ((cost_of command).list pool) kept left fault)
+    → (command ≢ commands.Reclaim → FindsLess (cost_of command).cells ((cost_of command).block pool) ((cost_of command).list pool) kept.body after fault) → (fault ≢ faults.DiskFault → IsAtRest tight here' kept pool → Rests tight here' kept.body rows pool) → StepFault (IsAtRest tight here' kept pool) after fault
+    → Answers tight command kept.body rows pool here here' after (Err (pool_refusal fault))
+answers_refused {tight = tight} command here here' kept rows pool after (faults.Plan fault) same room less still is =
     let rests = still (λ e. absurd (cc e)) is.1 in
-    plan_cases (λ f r. after ≡ Err r → Answers tight command kept.body rows pool here' after (Err r)) (λ f e. (e, rests)) (λ w n e. (e, rests)) fault is.0
-answers_refused {tight = tight} command here' kept rows pool after (faults.CannotApply fault) same room less still is = (is.0, still (λ e. absurd (cc e)) is.1)
-answers_refused {tight = tight} command here' kept rows pool after (faults.Redacted object block) same room less still is = (is.0, still (λ e. absurd (cc e)) is.1)
-answers_refused {tight = tight} command here' kept rows pool after (faults.Full need largest) same room less still is = (
+    plan_cases (λ f r. after ≡ Err r → Answers tight command kept.body rows pool here here' after (Err r)) (λ f e. (e, rests)) (λ w n e. (e, rests)) fault is.0
+answers_refused {tight = tight} command here here' kept rows pool after (faults.CannotApply fault) same room less still is = (is.0, still (λ e. absurd (cc e)) is.1)
+answers_refused {tight = tight} command here here' kept rows pool after (faults.Redacted object block) same room less still is = (is.0, still (λ e. absurd (cc e)) is.1)
+answers_refused {tight = tight} command here here' kept rows pool after (faults.Full need largest) same room less still is = (
   record {
     done = is.0.0;
     accepts = is.0.1;
-    short = (room.0, with_rows (λ r. HasNoRoom (cost_of command).cells ((cost_of command).block pool) ((cost_of command).list pool) kept.body r room.0 need largest) kept rows same (room.1 need largest refl));
-    costs = less need largest refl;
+    short = λ other.
+        let found = room other in
+        (found.0, with_rows (λ r. HasNoRoom (cost_of command).cells ((cost_of command).block pool) ((cost_of command).list pool) kept.body r found.0 need largest) kept rows same (found.1 need largest refl));
+    costs = λ other. less other need largest refl;
   },
   still (λ e. absurd (cc e)) is.1,
 )
-answers_refused {tight = tight} command here' kept rows pool after (faults.Damaged sector stated found) same room less still is = absurd is
-answers_refused {tight = tight} command here' kept rows pool after faults.DiskFault same room less still is = tt
-answers_refused {tight = tight} command here' kept rows pool after faults.Failed same room less still is = absurd is
-answers_refused {tight = tight} command here' kept rows pool after faults.OutOfMemory same room less still is = still (λ e. absurd (cc e)) is
+answers_refused {tight = tight} command here here' kept rows pool after (faults.Damaged sector stated found) same room less still is = absurd is
+answers_refused {tight = tight} command here here' kept rows pool after faults.DiskFault same room less still is = tt
+answers_refused {tight = tight} command here here' kept rows pool after faults.Failed same room less still is = absurd is
+answers_refused {tight = tight} command here here' kept rows pool after faults.OutOfMemory same room less still is = still (λ e. absurd (cc e)) is
 
 -- ---- what answers say of any image
 
@@ -225,31 +231,32 @@ opened_refused now command here here' opens.OutOfMemory reads is = inl reads
 pub told_before : (here mid : DiskState) (P : List ℕ → ℕ → Type 0) → OnlyReads here mid → P mid.seen mid.size → P here.seen here.size
 told_before here mid P reads is = subst (λ (n : ℕ). P here.seen n) reads.size (subst (λ (bytes : List ℕ). P bytes mid.size) reads.seen is)
 
-pub told_of_start : (here mid : DiskState) (rows : Rows) (space : FreeSectors) (sector : ℕ) (stated found : List ℕ) (command : Command) → OnlyReads here mid
-    → TellsDamage command rows mid space sector stated found → TellsDamage command rows here space sector stated found
-told_of_start here mid rows space sector stated found (commands.Fs dataset) reads is = is
-told_of_start here mid rows space sector stated found (commands.Volume dataset) reads is = is
-told_of_start here mid rows space sector stated found (commands.Object dataset k head bonus spill) reads is =
-    told_before here mid (λ seen size. OfHead rows dataset (IsDamagedSet (SparesTaken space seen) size) sector stated found) reads is
-told_of_start here mid rows space sector stated found (commands.Write dataset k i bytes) reads is =
+pub told_of_start : (here mid : DiskState) (body : Body) (rows : Rows) (sector : ℕ) (stated found : List ℕ) (command : Command) → OnlyReads here mid
+    → TellsDamage command [] body rows mid sector stated found → TellsDamage command [] body rows here sector stated found
+told_of_start here mid body rows sector stated found (commands.Fs dataset) reads is = is
+told_of_start here mid body rows sector stated found (commands.Volume dataset) reads is = is
+told_of_start here mid body rows sector stated found (commands.Object dataset k head bonus spill) reads is =
+    told_before here mid (λ seen size. OfHead rows dataset (IsDamagedSet (SparesTaken (free_by body) seen) size) sector stated found) reads is
+told_of_start here mid body rows sector stated found (commands.Write dataset k i bytes) reads is =
     told_before here mid (λ seen size. OfHead rows dataset (λ set at s f. IsDamagedSet (IsSeen seen) size set at s f
-    ⊎ IsDamagedObject (SparesTaken space seen) size NamesNode set at s f) sector stated found) reads is
-told_of_start here mid rows space sector stated found (commands.Punch dataset k first count) reads is =
-    told_before here mid (λ seen size. OfHead rows dataset (IsDamagedObject (SparesTaken space seen) size (SumsUp (SparesTaken space seen))) sector stated found) reads is
-told_of_start here mid rows space sector stated found (commands.Free dataset first count) reads is =
-    told_before here mid (λ seen size. OfHead rows dataset (IsDamagedSet (SparesTaken space seen) size) sector stated found) reads is
-told_of_start here mid rows space sector stated found (commands.Snapshot name) reads is = is
-told_of_start here mid rows space sector stated found (commands.Clone origin dataset) reads is = is
-told_of_start here mid rows space sector stated found (commands.Bookmark snapshot bookmark) reads is = is
-told_of_start here mid rows space sector stated found (commands.Redact snapshot bookmark redactions) reads is =
+    ⊎ IsDamagedObject (SparesTaken (free_by body) seen) size NamesNode set at s f) sector stated found) reads is
+told_of_start here mid body rows sector stated found (commands.Punch dataset k first count) reads is =
+    told_before here mid (λ seen size. OfHead rows dataset (IsDamagedObject (SparesTaken (free_by body) seen) size (SumsUp (SparesTaken (free_by body) seen))) sector stated found) reads is
+told_of_start here mid body rows sector stated found (commands.Free dataset first count) reads is =
+    told_before here mid (λ seen size. OfHead rows dataset (IsDamagedSet (SparesTaken (free_by body) seen) size) sector stated found) reads is
+told_of_start here mid body rows sector stated found (commands.Snapshot name) reads is = is
+told_of_start here mid body rows sector stated found (commands.Clone origin dataset) reads is = is
+told_of_start here mid body rows sector stated found (commands.Bookmark snapshot bookmark) reads is = is
+told_of_start here mid body rows sector stated found (commands.Redact snapshot bookmark redactions) reads is =
     told_before here mid (λ seen size. IsDamagedAmong (IsSeen seen) size (sets_of (rows_of (snapshot ∷ redactions) rows)) sector stated found) reads is
-told_of_start here mid rows space sector stated found (commands.Rollback destroys snapshot) reads is = is
-told_of_start here mid rows space sector stated found (commands.Destroy name) reads is = is
-told_of_start here mid rows space sector stated found (commands.Abort dataset) reads is = is
-told_of_start here mid rows space sector stated found (commands.Read name k i) reads is =
+told_of_start here mid body rows sector stated found (commands.Rollback destroys snapshot) reads is = is
+told_of_start here mid body rows sector stated found (commands.Destroy name) reads is = is
+told_of_start here mid body rows sector stated found (commands.Abort dataset) reads is = is
+told_of_start here mid body rows sector stated found commands.Reclaim reads is = told_before here mid (λ seen size. IsDamagedInPool (IsSeen seen) size body.uber rows [] sector stated found) reads is
+told_of_start here mid body rows sector stated found (commands.Read name k i) reads is =
     told_before here mid (λ seen size. OfSet rows name (λ set at s f. (count : ℕ) × IsDamagedBlock (IsSeen seen) size count set at s f) sector stated found) reads is
-told_of_start here mid rows space sector stated found commands.List reads is = is
-told_of_start here mid rows space sector stated found (commands.ListObjects name) reads is =
+told_of_start here mid body rows sector stated found commands.List reads is = is
+told_of_start here mid body rows sector stated found (commands.ListObjects name) reads is =
     told_before here mid (λ seen size. OfSet rows name (IsDamagedSet (IsSeen seen) size) sector stated found) reads is
 
 -- what a plan refuses, as a refusal of the whole
@@ -276,23 +283,42 @@ planned_done now command kept rows lines same is = record {
   limits = λ plan was. absurd (cc was);
 }
 
--- a command that was refused on what was opened
+-- a reclaim that was refused on what was opened
+reclaim_refused : (here mid here' : DiskState) (kept kept' : PoolState) (rows : Rows) (left : FreeSectors) (fault : PoolFault) → kept.dir ≡ kept_rows rows → OnlyReads here mid → fault ≢ faults.DiskFault
+    → Reclaims {T = List (List ℕ)} [] mid here' kept kept' left (Err fault) → RefusesReclaim here here' (as_kept kept.body rows) (Err (pool_refusal fault))
+reclaim_refused here mid here' kept kept' rows left fault same reads not is = record {
+  full = λ need largest told. (
+    left,
+    subst (λ (seen : List ℕ). FindsAllReached seen (as_kept kept.body rows) [] left need largest) reads.seen
+        (with_rows (λ r. FindsAllReached mid.seen (record { body = kept.body; dir = r }) [] left need largest) kept rows same (is.full need largest (full_only fault need largest (cc told)))),
+  );
+  spares = λ space are.
+      let before = subst (λ (seen : List ℕ). AreUnreached seen (as_kept kept.body rows) [] space) (sym reads.seen) are in
+      subst (λ (seen : List ℕ). SparesTaken space seen here'.seen) reads.seen
+      (is.spares (λ e. not (cc e)) space (subst (λ (r : Rows). AreUnreached mid.seen (record { body = kept.body; dir = r }) [] space) (sym same) before));
+}
+
+-- a command that was
 ran_refused : (now : ℕ) (command : Command) (here mid here' : DiskState) (kept : PoolState) (rows : Rows) (fault : PoolFault) → kept.dir ≡ kept_rows rows → Opens here kept.body rows → OnlyReads here mid
-    → SparesTaken (free_by kept.body) here.seen here'.seen → ((left : FreeSectors) × (block : ℕ) × (block ≤ (cost_of command).most) × FindsNoRoom (cost_of command).cells block (cost_of command).most_list kept left fault)
-    → IsOf (TellsDamage command kept.dir mid (free_by kept.body)) fault
+    → (command ≢ commands.Reclaim → SparesTaken (free_by kept.body) here.seen here'.seen)
+    → (command ≢ commands.Reclaim → (left : FreeSectors) × (block : ℕ) × (block ≤ (cost_of command).most) × FindsNoRoom (cost_of command).cells block (cost_of command).most_list kept left fault)
+    → (command ≡ commands.Reclaim → RefusesReclaim here here' (as_kept kept.body rows) (Err (pool_refusal fault)))
+    → IsOf (TellsDamage command [] kept.body kept.dir mid) fault
     → (fault ≢ faults.OutOfMemory → Plans {T = List (List ℕ)} (λ pool. stepped [] now command pool) (numbers_end command) (indices_end command) (makes_list command) kept (Err fault))
     → Ran now command here here' (Err (pool_refusal fault)) kept.body rows
-ran_refused now command here mid here' kept rows fault same opens reads spares room damaged plan = record {
+ran_refused now command here mid here' kept rows fault same opens reads spares room reclaims damaged plan = record {
   opens = opens;
   spares = spares;
-  full = λ need largest is. (
-    room.1,
-    room.2,
-    (room.0, with_rows (λ r. HasNoRoom (cost_of command).cells room.1 (cost_of command).most_list kept.body r room.0 need largest) kept rows same (room.3 need largest (full_only fault need largest (cc is)))),
-  );
+  full = λ other need largest is.
+      let found = room other in (
+        found.1,
+        found.2,
+        (found.0, with_rows (λ r. HasNoRoom (cost_of command).cells found.1 (cost_of command).most_list kept.body r found.0 need largest) kept rows same (found.3 need largest (full_only fault need largest (cc is)))),
+      );
+  reclaims = reclaims;
   damaged = λ sector stated found is.
-      told_of_start here mid (kept_rows rows) (free_by kept.body) sector stated found command reads
-      (with_rows (λ r. TellsDamage command r mid (free_by kept.body) sector stated found) kept rows same (damaged sector stated found (damaged_only fault sector stated found (cc is))));
+      told_of_start here mid kept.body (kept_rows rows) sector stated found command reads
+      (with_rows (λ r. TellsDamage command [] kept.body r mid sector stated found) kept rows same (damaged sector stated found (damaged_only fault sector stated found (cc is))));
   planned = λ memory. planned_refused now command kept rows fault same (plan (λ is. memory (ap (λ f. Err (pool_refusal f)) is)));
 }
 
@@ -301,8 +327,9 @@ ran_done : (now : ℕ) (command : Command) (here here' : DiskState) (kept : Pool
     → Ran now command here here' (Ok lines) kept.body rows
 ran_done now command here here' kept rows lines same opens plan = record {
   opens = opens;
-  spares = tt;
-  full = λ need largest is. absurd (cc is);
+  spares = λ other. tt;
+  full = λ other need largest is. absurd (cc is);
+  reclaims = λ one. record { full = λ need largest is. absurd (cc is); spares = tt };
   damaged = λ sector stated found is. absurd (cc is);
   planned = λ memory. planned_done now command kept rows lines same plan;
 }
@@ -337,7 +364,7 @@ pub stepping_unopened : (now : ℕ) (command : Command) (here here' : DiskState)
 stepping_unopened now command here here' fault there answer reads synced cause = record {
   moments = λ tight pool told is. moments_read here here' pool (stepped [] now command pool) reads;
   images = λ tight pool told is c image. inl (reads.crash c image);
-  answers = λ tight body rows pool told is. answers_unopened command here' pool (stepped [] now command pool) body rows fault
+  answers = λ tight body rows pool told is. answers_unopened command here here' pool (stepped [] now command pool) body rows fault
       (λ alive. rests_read here here' body rows pool is reads (synced alive)) (there tight body rows pool told is);
   opened = λ told. opened_refused now command here here' fault reads (answer told);
   refused = refused_open here here' fault cause;
@@ -345,12 +372,34 @@ stepping_unopened now command here here' fault there answer reads synced cause =
   later = cause.later;
 }
 
--- by one image one pool is read, by one body and by rows that are one
-abbrev pub ReadsOne : Type 0
-ReadsOne = (tight : Bool) (body other : Body) (rows others : Rows) (pool another : Pool) (image : List ℕ) → ReadsAs tight body rows pool image → ReadsAs tight other others another image → rows ≡ others
-
+-- an image reads as it did where free sectors alone were written
 abbrev pub ReadsStay : Type 0
 ReadsStay = (tight : Bool) (body : Body) (rows : Rows) (pool : Pool) (old new : List ℕ) → SparesTaken (free_by body) old new → ReadsAs tight body rows pool old → ReadsAs tight body rows pool new
+
+-- a command is a reclaim, or another one
+pub reclaim_or_not : (command : Command) → (command ≡ commands.Reclaim) ⊎ (command ≢ commands.Reclaim)
+reclaim_or_not commands.Reclaim = inl refl
+reclaim_or_not command = inr (λ is. absurd (cc is))
+
+-- what a reclaim made of what was opened, by the rows that last
+reclaimed_kept : (here mid : DiskState) (kept next : PoolState) (rows directory : Rows) → kept.dir ≡ kept_rows rows → kept_rows next.dir ≡ kept_rows directory → OnlyReads here mid
+    → Reclaimed mid.seen [] kept next → Reclaimed here.seen [] (as_kept kept.body rows) (as_kept next.body directory)
+reclaimed_kept here mid kept next rows directory same lasting reads is =
+    let was : Reclaimed here.seen [] (as_kept kept.body rows) next =
+    subst (λ (seen : List ℕ). Reclaimed seen [] (as_kept kept.body rows) next) reads.seen (with_rows (λ r. Reclaimed mid.seen [] (record { body = kept.body; dir = r }) next) kept rows same is) in
+    record {
+      rows = sym lasting ∙ ap kept_rows was.rows ∙ kept_twice rows;
+      number = was.number;
+      sectors = was.sectors;
+      writable = was.writable;
+      unreached = was.unreached;
+      count = was.count;
+      may_be_left = was.may_be_left;
+      left = was.left;
+      takes = was.takes;
+      end = was.end;
+      exact = was.exact;
+    }
 
 -- the command ran on what was opened
 module _ (laws : KeepLaws) (one : ReadsOne) (stay : ReadsStay) (now : ℕ) (command : Command) (here mid here' : DiskState) (kept kept' : PoolState)
@@ -373,29 +422,33 @@ module _ (laws : KeepLaws) (one : ReadsOne) (stay : ReadsStay) (now : ℕ) (comm
   images tight pool told is = images_after here here' (OldOrReads tight here pool (stepped [] now command pool)) (moments tight pool told is) (λ c image. inl image) only now_left
 
   done : (tight : Bool) (body : Body) (rows : Rows) (pool : Pool) (lines : List (List ℕ)) → GivesPool body rows (Ok kept) → KeepsAll pool
-      → Grows (most_sectors (cost_of command).cells ((cost_of command).block pool) ((cost_of command).list pool) kept.dir (length kept.body.free)) ((cost_of command).block pool) kept.body kept'.body → StepAnswer tight here' kept' pool (stepped [] now command pool) (Ok lines)
-      → Answers tight command body rows pool here' (stepped [] now command pool) (Ok lines)
-  done tight body rows pool lines same all grows is = for_kept (λ u. Answers tight command u rows pool here' (stepped [] now command pool) (Ok lines)) kept body rows same (record {
+      → (command ≢ commands.Reclaim → Grows (most_sectors (cost_of command).cells ((cost_of command).block pool) ((cost_of command).list pool) kept.dir (length kept.body.free)) ((cost_of command).block pool) kept.body kept'.body)
+      → (command ≡ commands.Reclaim → Reclaimed mid.seen [] kept kept') → StepAnswer tight here' kept' pool (stepped [] now command pool) (Ok lines)
+      → Answers tight command body rows pool here here' (stepped [] now command pool) (Ok lines)
+  done tight body rows pool lines same all grows reclaimed is = for_kept (λ u. Answers tight command u rows pool here here' (stepped [] now command pool) (Ok lines)) kept body rows same (record {
     done = is.0;
     accepts = is.1;
     reply = is.2;
     next = kept'.body;
     directory = is.3.rows;
     rests = subst (λ (p : Pool). Rests tight here' kept'.body is.3.rows p) (kept_done laws now command pool is.0 all is.1) is.3.rests;
-    grows = with_rows (λ r. Grows (most_sectors (cost_of command).cells ((cost_of command).block pool) ((cost_of command).list pool) r (length kept.body.free)) ((cost_of command).block pool) kept.body kept'.body) kept rows same.1 grows;
+    reclaims = λ one. reclaimed_kept here mid kept kept' rows is.3.rows same.1 is.3.lasting reads (reclaimed one);
+    grows = λ other. with_rows (λ r. Grows (most_sectors (cost_of command).cells ((cost_of command).block pool) ((cost_of command).list pool) r (length kept.body.free)) ((cost_of command).block pool) kept.body kept'.body) kept rows same.1 (grows other);
   })
 
   pub stepping_done : (lines : List (List ℕ)) → mid.faults ≤ here'.faults
       → Plans {T = List (List ℕ)} (λ pool. stepped [] now command pool) (numbers_end command) (indices_end command) (makes_list command) kept (Ok lines)
-      → ((pool : Pool) → here'.honest → IsAtRest false mid kept pool → Grows (most_sectors (cost_of command).cells ((cost_of command).block pool) ((cost_of command).list pool) kept.dir (length kept.body.free)) ((cost_of command).block pool) kept.body kept'.body)
+      → (command ≢ commands.Reclaim → (pool : Pool) → here'.honest → IsAtRest false mid kept pool → Grows (most_sectors (cost_of command).cells ((cost_of command).block pool) ((cost_of command).list pool) kept.dir (length kept.body.free)) ((cost_of command).block pool) kept.body kept'.body)
+      → (command ≡ commands.Reclaim → here'.honest → Reclaimed mid.seen [] kept kept')
       → ((tight : Bool) (pool : Pool) → here'.honest → IsAtRest tight mid kept pool → StepAnswer tight here' kept' pool (stepped [] now command pool) (Ok lines))
       → Stepping now command here here' (Ok lines)
-  stepping_done lines after plan grows did = record {
+  stepping_done lines after plan grows reclaimed did = record {
     moments = moments;
     images = images;
     answers = λ tight body rows pool told is.
         let before = rests tight body rows pool told is in
-        done tight body rows pool lines (there tight body rows pool (falls told) is) (laws.2 tight body rows pool here.seen is) (grows pool told (rest_plain mid kept pool before)) (did tight pool told before);
+        done tight body rows pool lines (there tight body rows pool (falls told) is) (laws.2 tight body rows pool here.seen is) (λ other. grows other pool told (rest_plain mid kept pool before)) (λ one. reclaimed one told)
+        (did tight pool told before);
     opened = λ told. let was = answer (falls told) in (kept.body, was.1, ran_done now command here here' kept was.1 lines was.4 (was.0, was.2, was.3) plan);
     refused = tt;
     idle = λ not. OnlyReads-then here mid here' reads (looks not);
@@ -406,36 +459,45 @@ module _ (laws : KeepLaws) (one : ReadsOne) (stay : ReadsStay) (now : ℕ) (comm
       → StepFault (IsAtRest tight here' kept pool) (stepped [] now command pool) fault
   left_as tight fault pool same is = subst (λ (k : PoolState). StepFault (IsAtRest tight here' k pool) (stepped [] now command pool) fault) same is
 
-  -- where free sectors alone were written the pool rests by the rows that it had
-  still_rests : (tight : Bool) (body : Body) (rows : Rows) (pool : Pool) → here'.honest → ReadsAs tight body rows pool here.seen → SparesTaken (free_by kept.body) mid.seen here'.seen → IsAtRest tight here' kept pool → Rests tight here' kept.body rows pool
-  still_rests tight body rows pool told is spares at_rest =
+  -- the pool rests by the rows that it had: no sector was written, but for those that were free, or of a reclaim those that nothing reached
+  still_rests : (tight : Bool) (body : Body) (rows : Rows) (pool : Pool) → here'.honest → ReadsAs tight body rows pool here.seen → kept.dir ≡ kept_rows rows
+      → (command ≢ commands.Reclaim → SparesTaken (free_by kept.body) mid.seen here'.seen) → (command ≡ commands.Reclaim → (space : FreeSectors) → AreUnreached mid.seen kept [] space → SparesTaken space mid.seen here'.seen)
+      → IsAtRest tight here' kept pool → Rests tight here' kept.body rows pool
+  still_rests tight body rows pool told is same spares unreached at_rest =
       let before = stands tight body rows pool (falls told) is in
-      let read = stay tight kept.body rows pool mid.seen here'.seen spares before.reads in
-      let rows_are = one tight kept.body kept.body at_rest.rows rows (kept_of pool) pool here'.seen at_rest.rests.reads read in
-      subst (λ (r : Rows). Rests tight here' kept.body r pool) rows_are
-      (subst (λ (p : Pool). Rests tight here' kept.body at_rest.rows p) (laws.0 pool (laws.2 tight body rows pool here.seen is)) at_rest.rests)
+      let ends = subst (λ (p : Pool). Rests tight here' kept.body at_rest.rows p) (laws.0 pool (laws.2 tight body rows pool here.seen is)) at_rest.rests in
+      let rows_are = ⊎_elim
+      (λ one_is. rows_stay one tight kept rows at_rest.rows pool mid.seen here'.seen (sym at_rest.lasting ∙ ap kept_rows same ∙ kept_twice rows) (unreached one_is) before.reads ends.reads)
+      (λ other. one tight kept.body kept.body at_rest.rows rows pool pool here'.seen ends.reads (stay tight kept.body rows pool mid.seen here'.seen (spares other) before.reads))
+      (reclaim_or_not command) in
+      subst (λ (r : Rows). Rests tight here' kept.body r pool) rows_are ends
 
   pub stepping_refused : (fault : PoolFault) → kept' ≡ kept → HasDiskCause {T = List (List ℕ)} mid.faults here'.faults (Err fault) → fault ≢ faults.Failed
-      → (fault ≢ faults.DiskFault → SparesTaken (free_by kept.body) mid.seen here'.seen)
-      → ((left : FreeSectors) × (block : ℕ) × (block ≤ (cost_of command).most) × FindsNoRoom (cost_of command).cells block (cost_of command).most_list kept left fault)
-      → (here'.honest → IsOf (TellsDamage command kept.dir mid (free_by kept.body)) fault)
+      → (command ≢ commands.Reclaim → fault ≢ faults.DiskFault → SparesTaken (free_by kept.body) mid.seen here'.seen)
+      → (command ≢ commands.Reclaim → (left : FreeSectors) × (block : ℕ) × (block ≤ (cost_of command).most) × FindsNoRoom (cost_of command).cells block (cost_of command).most_list kept left fault)
+      → (command ≡ commands.Reclaim → here'.honest → (left : FreeSectors) × Reclaims {T = List (List ℕ)} [] mid here' kept kept' left (Err fault))
+      → (here'.honest → IsOf (TellsDamage command [] kept.body kept.dir mid) fault)
       → (fault ≢ faults.OutOfMemory → Plans {T = List (List ℕ)} (λ pool. stepped [] now command pool) (numbers_end command) (indices_end command) (makes_list command) kept (Err fault))
-      → ((pool : Pool) → here'.honest → IsAtRest false mid kept pool → (left : FreeSectors) × FindsNoRoom (cost_of command).cells ((cost_of command).block pool) ((cost_of command).list pool) kept left fault)
-      → ((pool : Pool) → here'.honest → IsAtRest false mid kept pool → FindsLess (cost_of command).cells ((cost_of command).block pool) ((cost_of command).list pool) kept.body (stepped [] now command pool) fault)
+      → (command ≢ commands.Reclaim → (pool : Pool) → here'.honest → IsAtRest false mid kept pool
+      → (left : FreeSectors) × FindsNoRoom (cost_of command).cells ((cost_of command).block pool) ((cost_of command).list pool) kept left fault)
+      → (command ≢ commands.Reclaim → (pool : Pool) → here'.honest → IsAtRest false mid kept pool
+      → FindsLess (cost_of command).cells ((cost_of command).block pool) ((cost_of command).list pool) kept.body (stepped [] now command pool) fault)
       → ((tight : Bool) (pool : Pool) → here'.honest → IsAtRest tight mid kept pool → StepAnswer tight here' kept' pool (stepped [] now command pool) (Err fault))
       → Stepping now command here here' (Err (pool_refusal fault))
-  stepping_refused fault same cause alive spares bounded damaged plan room less did = record {
+  stepping_refused fault same cause alive spares bounded reclaims damaged plan room less did = record {
     moments = moments;
     images = images;
     answers = λ tight body rows pool told is.
         let before = rests tight body rows pool told is in
         let gives = there tight body rows pool (falls told) is in
-        for_kept (λ u. Answers tight command u rows pool here' (stepped [] now command pool) (Err (pool_refusal fault))) kept body rows gives
-        (answers_refused command here' kept rows pool (stepped [] now command pool) fault gives.1 (room pool told (rest_plain mid kept pool before)) (less pool told (rest_plain mid kept pool before))
-        (λ not at_rest. still_rests tight body rows pool told is (spares not) at_rest) (left_as tight fault pool same (did tight pool told before)));
+        for_kept (λ u. Answers tight command u rows pool here here' (stepped [] now command pool) (Err (pool_refusal fault))) kept body rows gives
+        (answers_refused command here here' kept rows pool (stepped [] now command pool) fault gives.1
+        (λ other. room other pool told (rest_plain mid kept pool before)) (λ other. less other pool told (rest_plain mid kept pool before))
+        (λ not at_rest. still_rests tight body rows pool told is gives.1 (λ other. spares other not) (λ one_is. (reclaims one_is told).1.spares (λ e. not (cc e))) at_rest) (left_as tight fault pool same (did tight pool told before)));
     opened = λ told. let was = answer (falls told) in opened_then now command here here' kept was.1 fault alive
         (λ not. ran_refused now command here mid here' kept was.1 fault was.4 (was.0, was.2, was.3) reads
-        (subst (λ (bytes : List ℕ). SparesTaken (free_by kept.body) bytes here'.seen) reads.seen (spares not)) bounded (damaged told) plan);
+        (λ other. subst (λ (bytes : List ℕ). SparesTaken (free_by kept.body) bytes here'.seen) reads.seen (spares other not)) bounded
+        (λ one_is. let found = reclaims one_is told in reclaim_refused here mid here' kept kept' was.1 found.0 fault was.4 reads not found.1) (damaged told) plan);
     refused = refused_step here mid here' fault later cause alive;
     idle = λ not. OnlyReads-then here mid here' reads (looks not);
     later = omega (arith, later, cause.later);

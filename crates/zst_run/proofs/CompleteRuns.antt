@@ -9,6 +9,7 @@ use Rattle.zst_outside.specs.States.{SourceState, SinkState, Gave}
 use Rattle.zst_uber.specs.Slots.{latest}
 use Rattle.zst_image.specs.Bodies.{Body}
 use Rattle.zst_model.specs.declared.pools.command.Command.{Command}
+use Rattle.zst_model.specs.declared.pools.command.Command.TheVariants as commands
 use Rattle.zst_model.specs.declared.refusals.faults.Quantity.TheVariants as quantities
 use Rattle.zst_model.specs.declared.refusals.plan_fault.PlanFault.{PlanFault}
 use Rattle.zst_model.specs.declared.refusals.refusal.Refusal.{Refusal}
@@ -29,14 +30,15 @@ use Rattle.zst_stream.specs.Laws.{FrontsAgree}
 use Rattle.zst_stream.specs.Reading.{complete, faulty, reading, waiting}
 use Rattle.zst_token.specs.Spelling.{token_text}
 use Rattle.zst_token.specs.declared.token.Token.{Token}
-use Rattle.zst_run.specs.Commands.{Answers, IsPoolRefusal, Makes, OfMaking, OfStepping}
-use Rattle.zst_run.specs.Completeness.{AreOfFront, DoneIsTold, DoneOrNoMemory, HasRoomFor, HasText, NoneCounted, ReceivesComplete, SendsComplete, StepsComplete, CreatesComplete, TokensComplete, DumpsComplete}
+use Rattle.zst_run.specs.Commands.{Answers, IsFull, IsPoolRefusal, Makes, OfMaking, OfStepping, Opened}
+use Rattle.zst_run.specs.Completeness.{AreOfFront, DoneIsTold, DoneOrNoMemory, HasRoomFor, HasRoomToReclaim, HasText, NoneCounted, ReceivesComplete, SendsComplete, StepsComplete, CreatesComplete, TokensComplete, DumpsComplete}
 use Rattle.zst_run.specs.Dumps.{Ends}
 use Rattle.zst_run.specs.Receives.{ArePieces, IsReceiveRefusal, ReceiveEnds, Refused}
 use Rattle.zst_run.specs.Replies.{Replied}
 use Rattle.zst_run.specs.Runs.{status_of}
 use Rattle.zst_run.specs.Sends.{SendEnds, TextEnds, start_of}
 use Rattle.zst_run.specs.Tokens.{AnswersBy, OfToken}
+use Rattle.zst_run.proofs.CommandLemmas.{reclaim_or_not}
 use Rattle.zst_run.proofs.ImageTokens.{as_answer}
 
 pub done_is_told : DoneIsTold
@@ -129,22 +131,37 @@ receives_complete here here' tight ask body rows pool text input input' out out'
 
 -- ---- the other lines
 
-step_refusal : (tight : Bool) (command : Command) (body : Body) (rows : Rows) (pool : Pool) (done : Stepped) (here here' : DiskState) (after : Result Stepped Refusal) (refusal : Refusal)
-    → after ≡ Ok done → HasRoomFor command body rows pool after → NoneCounted here.faults here'.faults → IsPoolRefusal OfStepping here here' refusal
-    → Answers tight command body rows pool here' after (Err refusal) → refusal ≡ refusals.OutOfMemory
-step_refusal tight command body rows pool done here here' after refusals.DiskFault is room disk refused answers = absurd (disk (refused.cause refl))
-step_refusal tight command body rows pool done here here' after (refusals.Full need largest) is room disk refused answers =
-    absurd (⊎_elim (λ most. let short = answers.0.short.1.room in omega (arith, short, most)) (λ less. less answers.0.costs) room)
-step_refusal tight command body rows pool done here here' after refusals.OutOfMemory is room disk refused answers = refl
-step_refusal tight command body rows pool done here here' after refusal is room disk refused answers =
+-- E24 doesn't come where there is room
+never_full : (command : Command) (body : Body) (rows : Rows) (pool : Pool) (now : ℕ) (here here' : DiskState) (after : Result Stepped Refusal) (need largest : ℕ)
+    → (command ≢ commands.Reclaim → HasRoomFor command body rows pool after) → (command ≡ commands.Reclaim → HasRoomToReclaim here)
+    → Opened now command here here' (Err (refusals.Full need largest)) → IsFull command body rows pool after need largest → ⊥
+never_full command body rows pool now here here' after need largest room unreached opened full =
+    ⊎_elim
+    (λ one.
+    let found = (opened.2.reclaims one).full need largest refl in
+    let enough = unreached one opened.0 opened.1 found.1.writable found.1.count opened.2.opens found.1.unreached found.1.may_be_left in
+    let before = found.1.before in
+    omega (arith, before, enough))
+    (λ other. ⊎_elim (λ most. let short = (full.short other).1.room in omega (arith, short, most)) (λ less. less (full.costs other)) (room other))
+    (reclaim_or_not command)
+
+step_refusal : (tight : Bool) (command : Command) (body : Body) (rows : Rows) (pool : Pool) (done : Stepped) (now : ℕ) (here here' : DiskState) (after : Result Stepped Refusal) (refusal : Refusal)
+    → after ≡ Ok done → (command ≢ commands.Reclaim → HasRoomFor command body rows pool after) → (command ≡ commands.Reclaim → HasRoomToReclaim here) → NoneCounted here.faults here'.faults
+    → IsPoolRefusal OfStepping here here' refusal → Opened now command here here' (Err refusal) → Answers tight command body rows pool here here' after (Err refusal) → refusal ≡ refusals.OutOfMemory
+step_refusal tight command body rows pool done now here here' after refusals.DiskFault is room unreached disk refused opened answers = absurd (disk (refused.cause refl))
+step_refusal tight command body rows pool done now here here' after (refusals.Full need largest) is room unreached disk refused opened answers =
+    absurd (never_full command body rows pool now here here' after need largest room unreached opened answers.0)
+step_refusal tight command body rows pool done now here here' after refusals.OutOfMemory is room unreached disk refused opened answers = refl
+step_refusal tight command body rows pool done now here here' after refusal is room unreached disk refused opened answers =
     absurd (let both : Ok done ≡ Err refusal = sym is ∙ answers.0 in cc)
 
 pub steps_complete : (here here' : DiskState) → StepsComplete here here'
-steps_complete here here' tight now command body rows pool done out out' result honest reads is room disk sink steps =
+steps_complete here here' tight now command body rows pool done out out' result honest reads is room unreached disk sink steps =
     answer_done out out' steps.answer result sink
-    (λ refusal e. step_refusal tight command body rows pool done here here' (stepped [] now command pool) refusal is room disk
+    (λ refusal e. step_refusal tight command body rows pool done now here here' (stepped [] now command pool) refusal is room unreached disk
     (subst (λ (answer : Result (List (List ℕ)) Refusal). IfErr answer (IsPoolRefusal OfStepping here here')) e steps.does.refused)
-    (subst (λ (answer : Result (List (List ℕ)) Refusal). Answers tight command body rows pool here' (stepped [] now command pool) answer) e (steps.does.answers tight body rows pool honest reads)))
+    (subst (λ (answer : Result (List (List ℕ)) Refusal). Opened now command here here' answer) e (steps.does.opened honest))
+    (subst (λ (answer : Result (List (List ℕ)) Refusal). Answers tight command body rows pool here here' (stepped [] now command pool) answer) e (steps.does.answers tight body rows pool honest reads)))
     steps.replied
 
 create_refusal : (sectors id : ℕ) (here here' : DiskState) (refusal : Refusal) → latest here.seen ≡ None → 512 * sectors ≤ here.size → NoneCounted here.faults here'.faults

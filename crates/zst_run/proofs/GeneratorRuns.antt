@@ -1,21 +1,24 @@
 -- The commands that make content, one after another on a pool that runs.
 use Rattle.std.specs.Prelude.{Some, Result, Ok, Err}
-use Rattle.std.specs.List.{slice_get}
-use Rattle.std.proofs.Common.{◌≡◌, ◌≢◌, inl, inr, ℕ, zero, suc, ◌+◌, ◌<◌, ◌≤◌, Bool, false, ◌||◌, List, [], ◌∷◌, length, take, refl, sym, ap, subst, ◌∙◌, arith}
+use Rattle.std.specs.List.{range_with_len, slice_get}
+use Rattle.std.proofs.Common.{◌≡◌, ◌≢◌, inl, inr, ℕ, zero, suc, ◌+◌, ◌<◌, ◌≤◌, Bool, false, ◌||◌, List, [], ◌∷◌, ◌++◌, All, flat_map, length, map, take, refl, sym, ap, subst, ◌∙◌, arith}
 use Rattle.std.proofs.lemmas.List.{take_all}
+use Rattle.std.proofs.lemmas.List.Elements.{All-append, All-cons, All-map, All-nil, All-push}
+use Rattle.std.proofs.lemmas.Option.{get_or_from_slice_get, slice_get_within}
 use Rattle.zst_outside.specs.Causes.{Rose-earlier}
 use Rattle.zst_outside.specs.Images.{DiskState, Leaves, Leaves-none, Leaves-then, Leaves-weaker}
 use Rattle.zst_outside.specs.declared.disk.Disk.{Ghosts}
 use Rattle.zst_space.specs.FreeSectors.{FreeSectors}
 use Rattle.zst_block.specs.IoStates.{IsHonest, disk_of, io_of}
 use Rattle.zst_model.specs.declared.pools.command.Command.{Command}
+use Rattle.zst_model.specs.declared.pools.command.Command.TheVariants as commands
 use Rattle.zst_model.specs.declared.refusals.refusal.Refusal.{Refusal}
 use Rattle.zst_model.specs.declared.refusals.refusal.Refusal.TheVariants as refusals
 use Rattle.zst_model.specs.pools.Pool.{Pool}
 use Rattle.zst_model.specs.pools.Step.{Stepped, stepped}
 use Rattle.zst_model.specs.states.AppliedItems.{◌>>=◌}
 use Rattle.zst_model.proofs.PlanFaults.{plan_cases}
-use Rattle.zst_gen.specs.Generated.{generated}
+use Rattle.zst_gen.specs.Generated.{fs_name, generated, object_command, object_commands, snapshot_name, write_command, written_blocks}
 use Rattle.zst_image.specs.Commits.{Ready}
 use Rattle.zst_image.specs.declared.pool_state.PoolState.{PoolState}
 use Rattle.zst_pool.specs.Calls.{IsAtRest}
@@ -38,8 +41,8 @@ use Rattle.zst_run.proofs.LaterDisks.{later_none, later_then}
 abbrev pool_after : Result Stepped Refusal → Result Pool Refusal
 pool_after after = after >>= λ done. Ok done.pool
 
-more_run : (now : ℕ) (commands : List Command) (n : ℕ) (command : Command) (pool running : Pool) → slice_get commands n ≡ Some command → stepped_all now (take n commands) pool ≡ Ok running
-    → stepped_all now (take (suc n) commands) pool ≡ pool_after (stepped [] now command running)
+more_run : (now : ℕ) (made : List Command) (n : ℕ) (command : Command) (pool running : Pool) → slice_get made n ≡ Some command → stepped_all now (take n made) pool ≡ Ok running
+    → stepped_all now (take (suc n) made) pool ≡ pool_after (stepped [] now command running)
 unfolding stepped_all
 more_run now [] n command pool running at is = absurd (cc at)
 more_run now (first ∷ rest) zero command pool running at is =
@@ -122,6 +125,28 @@ next_unmade {tight = tight} now steps number pool running here kept less is rest
   stands = stopped now steps number pool running here kept less is rests;
 }
 
+-- ---- none of them is a reclaim
+
+abbrev IsOther : Command → Type 0
+IsOther command = command ≢ commands.Reclaim
+
+objects_are : (n : ℕ) (numbers : List ℕ) → All IsOther (flat_map (object_commands n) numbers)
+objects_are n [] = All-nil IsOther
+objects_are n (k ∷ numbers) =
+    All-append IsOther (object_commands n k) (flat_map (object_commands n) numbers)
+    (All-cons IsOther (object_command n k) (map (write_command n k) written_blocks) (λ is. absurd (cc is)) (All-map IsOther (write_command n k) written_blocks (λ i block less is. absurd (cc is))))
+    (objects_are n numbers)
+
+all_are : (n : ℕ) → All IsOther (generated n)
+all_are n =
+    let objects = flat_map (object_commands n) (range_with_len 1 n) in
+    All-cons IsOther (commands.Fs (fs_name n)) (objects ++ commands.Snapshot (snapshot_name n) ∷ []) (λ is. absurd (cc is))
+    (All-push IsOther objects (commands.Snapshot (snapshot_name n)) (objects_are n (range_with_len 1 n)) (λ is. absurd (cc is)))
+
+is_other : (steps number : ℕ) (command : Command) → slice_get (generated steps) number ≡ Some command → command ≢ commands.Reclaim
+is_other steps number command at =
+    subst IsOther (get_or_from_slice_get (generated steps) number command command at) (all_are steps number command (slice_get_within (generated steps) number command at))
+
 -- ---- why it is refused
 
 pub step_refused : {T : Type 0} → (old new : DiskState) (fault : PoolFault) → HasDiskCause {T = T} old.faults new.faults (Err fault) → fault ≢ faults.Failed
@@ -151,32 +176,33 @@ module _ {D : Type 0} {g : Ghosts D} (now steps number : ℕ) (command : Command
       (left, subst (λ (k : PoolState). HasNoRoom (cost_of command).cells ((cost_of command).block running) ((cost_of command).list running) k.body k.dir left need largest) (sym same) short)
 
   -- a step that went well
-  pub step_done : (reply : List (List ℕ)) → StepDid now command old new (Ok reply) → Settles {T = List (List ℕ)} old new (Ok reply) → RunsNext now steps number old new (Ok tt)
+  pub step_done : (reply : List (List ℕ)) → StepDid now command [] old new (Ok reply) → Settles {T = List (List ℕ)} old new (Ok reply) → RunsNext now steps number old new (Ok tt)
   step_done reply did settles =
       let still : new.io.failed ≡ false = settles.failed ∙ ap (λ (failed : Bool). failed || false) works in
       record {
         says = λ tight pool running told is rests.
-            next_done now steps number command pool running at is tight (disk_of old.io) (disk_of new.io) new.kept (did.moments tight running told rests) reply (did.answer tight running told works rests);
+            next_done now steps number command pool running at is tight (disk_of old.io) (disk_of new.io) new.kept (did.moments tight running told rests) reply (did.answer tight running told works rests (All-nil _));
         works = still;
         ready = settles.ready still;
-        blocks = λ apart. did.blocks (λ is. absurd (cc is));
+        blocks = λ apart. did.blocks (is_other steps number command at) (λ is. absurd (cc is));
         why = tt;
         later = record { faults = settles.cause.later; honest = settles.honest; same = settles.same };
       }
 
   -- and one that was refused
-  pub step_fails : (fault : PoolFault) → StepDid now command old new (Err fault) → Settles {T = List (List ℕ)} old new (Err fault) → RunsNext now steps number old new (Err fault)
+  pub step_fails : (fault : PoolFault) → StepDid now command [] old new (Err fault) → Settles {T = List (List ℕ)} old new (Err fault) → RunsNext now steps number old new (Err fault)
   step_fails fault did settles =
-      let short : (need largest : ℕ) → fault ≡ faults.Full need largest → largest < need = λ need largest is. ((did.spends works).2.full need largest is).shorter in
+      let other = is_other steps number command at in
+      let short : (need largest : ℕ) → fault ≡ faults.Full need largest → largest < need = λ need largest is. ((did.spends other works).2.full need largest is).shorter in
       let room = λ (tight : Bool) (running : Pool) (told : IsHonest new.io) (rests : IsAtRest tight (disk_of old.io) old.kept running) (need largest : ℕ) (is : fault ≡ faults.Full need largest).
-      left_then old.kept new.kept running new.io.space need largest settles.stays ((did.exact running told works (rest_plain (disk_of old.io) old.kept running rests)).full need largest is) in
+      left_then old.kept new.kept running new.io.space need largest settles.stays ((did.exact other running told works (rest_plain (disk_of old.io) old.kept running rests)).full need largest is) in
       record {
         says = λ tight pool running told is rests.
             next_refused now steps number command pool running at is tight (disk_of old.io) (disk_of new.io) new.kept (did.moments tight running told rests) less fault (room tight running told rests)
-            (did.answer tight running told works rests);
+            (did.answer tight running told works rests (All-nil _));
         works = tt;
         ready = tt;
-        blocks = λ apart. did.blocks (λ is. let same : fault ≡ faults.DiskFault = cc is in apart (ap (λ (f : PoolFault). Err f) same));
+        blocks = λ apart. did.blocks other (λ is. let same : fault ≡ faults.DiskFault = cc is in apart (ap (λ (f : PoolFault). Err f) same));
         why = step_refused (disk_of old.io) (disk_of new.io) fault settles.cause (λ is. did.open_still works (ap (λ (f : PoolFault). Err f) is)) short;
         later = record { faults = settles.cause.later; honest = settles.honest; same = settles.same };
       }

@@ -1,6 +1,7 @@
 pub mod DumpLemmas
 pub mod DumpCounts
 pub mod DumpAnswers
+pub mod ReclaimedRows
 pub mod CommandLemmas
 pub mod LineRanges
 pub mod NewPools

@@ -3,7 +3,7 @@ use Rattle.std.proofs.Common.{◌≡◌, ℕ, Bool, List, Some, Result, sym, sub
 use Rattle.zst_outside.specs.Images.{DiskState}
 use Rattle.zst_model.specs.declared.refusals.refusal.Refusal.{Refusal}
 use Rattle.zst_line.specs.declared.line.Line.{Line}
-use Rattle.zst_line.specs.declared.line.Line.TheVariants.{Dump, Create, Step, Send, Resume, Receive, Token, Check, Gen, Reclaim, Replay}
+use Rattle.zst_line.specs.declared.line.Line.TheVariants.{Dump, Create, Step, Send, Resume, Receive, Token, Check, Gen, Replay}
 use Rattle.zst_run.specs.Devices.{Devices}
 use Rattle.zst_plan.specs.declared.receive.RecvAsk.{RecvAsk}
 use Rattle.zst_script.specs.Asks.{ask_of, receipt_of}
@@ -30,7 +30,6 @@ does_send state tells other others now (Receive image keeps forces origin target
 does_send state tells other others now (Token image dataset) ask old new result is sends input there = absurd (cc is)
 does_send state tells other others now (Check image) ask old new result is sends input there = absurd (cc is)
 does_send state tells other others now (Gen image steps) ask old new result is sends input there = absurd (cc is)
-does_send state tells other others now (Reclaim image) ask old new result is sends input there = absurd (cc is)
 does_send state tells other others now (Replay first second) ask old new result is sends input there = absurd (cc is)
 
 pub does_receive : {D E : Type 0} → (state : D → DiskState) (tells : Bool) (other : E → DiskState) (others : Bool) (now : ℕ) (line : Line) (ask : RecvAsk) (old new : Devices D E) (result : Result (Unit {0}) Refusal) → receive_of line ≡ Some ask
@@ -46,7 +45,6 @@ does_receive state tells other others now (Resume image token) ask old new resul
 does_receive state tells other others now (Token image dataset) ask old new result is receives there = absurd (cc is)
 does_receive state tells other others now (Check image) ask old new result is receives there = absurd (cc is)
 does_receive state tells other others now (Gen image steps) ask old new result is receives there = absurd (cc is)
-does_receive state tells other others now (Reclaim image) ask old new result is receives there = absurd (cc is)
 does_receive state tells other others now (Replay first second) ask old new result is receives there = absurd (cc is)
 
 pub does_tell : {D E : Type 0} → (state : D → DiskState) (tells : Bool) (other : E → DiskState) (others : Bool) (now : ℕ) (line : Line) (dataset : List ℕ) (old new : Devices D E) (result : Result (Unit {0}) Refusal) → token_dataset_of line ≡ Some dataset
@@ -62,5 +60,4 @@ does_tell state tells other others now (Resume image token) dataset old new resu
 does_tell state tells other others now (Receive image keeps forces origin target) dataset old new result is gives input there = absurd (cc is)
 does_tell state tells other others now (Check image) dataset old new result is gives input there = absurd (cc is)
 does_tell state tells other others now (Gen image steps) dataset old new result is gives input there = absurd (cc is)
-does_tell state tells other others now (Reclaim image) dataset old new result is gives input there = absurd (cc is)
 does_tell state tells other others now (Replay first second) dataset old new result is gives input there = absurd (cc is)

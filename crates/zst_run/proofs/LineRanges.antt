@@ -3,7 +3,7 @@ use Rattle.std.proofs.Common.{ℕ, List}
 use Rattle.zst_line.specs.WordFaults.{IsLine}
 use Rattle.zst_line.specs.Line.{LineIs}
 use Rattle.zst_line.specs.declared.line.Line.{Line}
-use Rattle.zst_line.specs.declared.line.Line.TheVariants.{Dump, Create, Step, Send, Resume, Receive, Token, Check, Gen, Reclaim, Replay}
+use Rattle.zst_line.specs.declared.line.Line.TheVariants.{Dump, Create, Step, Send, Resume, Receive, Token, Check, Gen, Replay}
 use Rattle.zst_script.proofs.LineNames.{names_fit}
 use Rattle.zst_run.specs.LineEffects.{IsInRange}
 
@@ -17,5 +17,4 @@ in_range (Receive image keeps forces origin target) words said is = names_fit (R
 in_range (Token image dataset) words said is = tt
 in_range (Check image) words said is = tt
 in_range (Gen image steps) words said is = (is.1, is.2)
-in_range (Reclaim image) words said is = tt
 in_range (Replay here there) words said is = tt

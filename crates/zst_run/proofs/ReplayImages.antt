@@ -141,8 +141,8 @@ left_of kept pool stands tells = record {
 -- and what stood in sectors that the body which was opened left not free
 all_stood : (side : Side) (start : DiskState) (old new : Kept) (events : List Event) (answers : List Answer) → old.disk.seen ≡ start.seen → old.failed ≡ false → SparesAll side old new events answers
     → Stood start new.disk old.state.body side events answers
-all_stood side start old new events answers same works spares honest none finds ptr bytes has =
-    let is = (spares none (λ there. HasItsExtents-kept start old.disk old.state.body still (finds there)) honest works).1 ptr bytes (still ptr bytes has) in
+all_stood side start old new events answers same works spares honest none never finds ptr bytes has =
+    let is = (spares none never (λ there. HasItsExtents-kept start old.disk old.state.body still (finds there)) honest works).1 ptr bytes (still ptr bytes has) in
     record { block = is.block; behind = has.behind; taken = has.taken }
   where
     still : KeepsBlocks start.seen (free_by old.state.body) old.disk.seen (free_by old.state.body)

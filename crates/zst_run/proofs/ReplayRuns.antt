@@ -1,11 +1,12 @@
 -- Runs of events of the engine, one after another.
 use Rattle.std.specs.Prelude.{Contains, Result, Ok, Err}
-use Rattle.std.proofs.Common.{sym, ◌≡◌, ◌≤◌, inl, inr, ℕ, true, false, All, List, [], ◌∷◌, ◌++◌, refl, ap, ◌∙◌, subst, arith, ◌+◌, length, length-append}
+use Rattle.std.proofs.Common.{sym, ◌≡◌, ◌≢◌, ◌≤◌, inl, inr, ℕ, true, false, All, List, [], ◌∷◌, ◌++◌, refl, ap, ◌∙◌, subst, arith, ◌+◌, length, length-append}
 use Rattle.std.proofs.lemmas.List.Elements.{All-append, All-cons, All-head, All-nil, All-tail, All-weaker, Contains-append_left, Contains-append_right, Contains-push}
 use Rattle.zst_outside.specs.Causes.{Rose, Rose-earlier}
 use Rattle.zst_outside.specs.Images.{DiskState, Leaves, Leaves-none, Leaves-then, Leaves-weaker}
 use Rattle.zst_outside.specs.declared.disk.Disk.{Ghosts}
 use Rattle.zst_block.specs.IoStates.{disk_of}
+use Rattle.zst_model.specs.declared.pools.command.Command.TheVariants as commands
 use Rattle.zst_model.specs.declared.refusals.refusal.Refusal.{Refusal}
 use Rattle.zst_model.specs.declared.refusals.refusal.Refusal.TheVariants as refusals
 use Rattle.zst_script.specs.declared.event.Event.{Event}
@@ -138,22 +139,25 @@ module _ {X : Type 0} (P : X → Type 0) where
   all_rest (x ∷ xs) ys all = all_rest xs ys (All-tail P x (xs ++ ys) all)
 
 none_spare : (side : Side) (kept : Kept) → SparesAll side kept kept [] []
-none_spare side kept none finds honest works = (works, (λ ptr bytes has. has), λ has. has)
+none_spare side kept none never finds honest works = (works, (λ ptr bytes has. has), λ has. has)
 
-one_spares : (side : Side) (event : Event) (old new : Kept) (answer : Answer) → (¬ (answer ≡ Err refusals.DiskFault) → old.failed ≡ false → new.failed ≡ false) → SparesBlocks (event ≡ events.Reopen side) old new → SparesAll side old new (event ∷ []) (answer ∷ [])
-one_spares side event old new answer still spares none finds honest works =
+one_spares : (side : Side) (event : Event) (old new : Kept) (answer : Answer) → (¬ (answer ≡ Err refusals.DiskFault) → old.failed ≡ false → new.failed ≡ false) → (event ≢ events.Step side commands.Reclaim → SparesBlocks (event ≡ events.Reopen side) old new)
+    → SparesAll side old new (event ∷ []) (answer ∷ [])
+one_spares side event old new answer still spares none never finds honest works =
     let alive = still (All-head (λ answer. ¬ (answer ≡ Err refusals.DiskFault)) answer [] none) works in
-    (alive, spares.blocks (λ is. (works, honest, finds (contained is))) alive, spares.extents (λ is. (works, honest)) alive)
+    let spared = spares (λ is. never (contained (events.Step side commands.Reclaim) is)) in
+    (alive, spared.blocks (λ is. (works, honest, finds (contained (events.Reopen side) is))) alive, spared.extents (λ is. (works, honest)) alive)
   where
-    contained : event ≡ events.Reopen side → Contains (event ∷ []) (events.Reopen side)
-    contained is = subst (λ (e : Event). Contains (event ∷ []) e) is (Contains-push [] event)
+    contained : (other : Event) → event ≡ other → Contains (event ∷ []) other
+    contained other is = subst (λ (e : Event). Contains (event ∷ []) e) is (Contains-push [] event)
 
 spares_then : (side : Side) (old mid new : Kept) (first_events more : List Event) (answers told : List Answer) → (new.disk.honest → mid.disk.honest) → SparesAll side old mid first_events answers → SparesAll side mid new more told
     → SparesAll side old new (first_events ++ more) (answers ++ told)
-spares_then side old mid new first_events more answers told truth first second none finds honest works =
+spares_then side old mid new first_events more answers told truth first second none never finds honest works =
     let Fails : Answer → Type 0 = λ answer. ¬ (answer ≡ Err refusals.DiskFault) in
-    let before = first (all_front Fails answers told none) (λ there. finds (Contains-append_left first_events more (events.Reopen side) there)) (truth honest) works in
-    let behind = second (all_rest Fails answers told none) (λ there. before.2 (finds (Contains-append_right first_events more (events.Reopen side) there))) honest before.0 in
+    let reclaim : Event = events.Step side commands.Reclaim in
+    let before = first (all_front Fails answers told none) (λ there. never (Contains-append_left first_events more reclaim there)) (λ there. finds (Contains-append_left first_events more (events.Reopen side) there)) (truth honest) works in
+    let behind = second (all_rest Fails answers told none) (λ there. never (Contains-append_right first_events more reclaim there)) (λ there. before.2 (finds (Contains-append_right first_events more (events.Reopen side) there))) honest before.0 in
     (behind.0, (λ ptr bytes has. behind.1 ptr bytes (before.1 ptr bytes has)), λ has. behind.2 (before.2 has))
 
 -- what rose before a later count rose by then

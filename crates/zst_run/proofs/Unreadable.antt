@@ -109,9 +109,9 @@ there_by_name old new target component origin header state more =
     ∙ find-inserted_row (λ (s : Snapshot). bytes_eq s.name name) snapshot_is_before more.snapshot old.snapshots
     (none_passes (λ (s : Snapshot). bytes_eq s.name name) old.snapshots more.name_is_new) (bytes_same more.snapshot.name name more.name)
 
-module _ (tight : Bool) (command : Command) (body : Body) (rows : Rows) (pool : Pool) (later : DiskState) (k i : ℕ) where
+module _ (tight : Bool) (command : Command) (body : Body) (rows : Rows) (pool : Pool) (here later : DiskState) (k i : ℕ) where
   -- what the definition refuses so is refused so, unless the disk or the memory failed
-  refused_so : (after : Result Stepped Refusal) (answer : Result (List (List ℕ)) Refusal) → after ≡ Err (refusals.Redacted k i) → Answers tight command body rows pool later after answer → IsUnreadable k i answer
+  refused_so : (after : Result Stepped Refusal) (answer : Result (List (List ℕ)) Refusal) → after ≡ Err (refusals.Redacted k i) → Answers tight command body rows pool here later after answer → IsUnreadable k i answer
   refused_so after (Ok lines) is answers = absurd (let both : Ok answers.done ≡ Err (refusals.Redacted k i) = sym answers.accepts ∙ is in cc both)
   refused_so after (Err refusals.DiskFault) is answers = inr (inl refl)
   refused_so after (Err (refusals.Full need largest)) is answers = absurd (let both : Ok answers.0.done ≡ Err (refusals.Redacted k i) = sym answers.0.accepts ∙ is in cc both)
@@ -120,8 +120,8 @@ module _ (tight : Bool) (command : Command) (body : Body) (rows : Rows) (pool : 
       let same : refusal ≡ refusals.Redacted k i = let told = answers.0 in cc (told, is) in inl (ap (λ (r : Refusal). Err r) same)
 
   -- and what is refused so the definition refuses so
-  because_so : (after : Result Stepped Refusal) (answer : Result (List (List ℕ)) Refusal) → answer ≡ Err (refusals.Redacted k i) → Answers tight command body rows pool later after answer → after ≡ Err (refusals.Redacted k i)
-  because_so after answer is answers = (subst (λ (a : Result (List (List ℕ)) Refusal). Answers tight command body rows pool later after a) is answers).0
+  because_so : (after : Result Stepped Refusal) (answer : Result (List (List ℕ)) Refusal) → answer ≡ Err (refusals.Redacted k i) → Answers tight command body rows pool here later after answer → after ≡ Err (refusals.Redacted k i)
+  because_so after answer is answers = (subst (λ (a : Result (List (List ℕ)) Refusal). Answers tight command body rows pool here later after a) is answers).0
 
 pub redacted_is_unreadable : (there' later : DiskState) → RedactedIsUnreadable there' later
 redacted_is_unreadable there' later tight receive into sent done now k i answer honest step =
@@ -134,7 +134,7 @@ redacted_is_unreadable there' later tight receive into sent done now k i answer 
     let answers = step.answers tight body rows pool honest done.keeps.2.reads in
     let reads : stepped [] now command pool ≡ read_of pool (sent_state sent) k i =
     read_named now pool name k i done.more.snapshot there ∙ ap (λ (state : State). read_of pool state k i) done.more.state_is in (
-      λ is. refused_so tight command body rows pool later k i (stepped [] now command pool) answer (reads ∙ read_redacted pool (sent_state sent) k i (of_withheld sent k i is)) answers,
-      λ is. let refused = because_so tight command body rows pool later k i (stepped [] now command pool) answer is answers in
+      λ is. refused_so tight command body rows pool there' later k i (stepped [] now command pool) answer (reads ∙ read_redacted pool (sent_state sent) k i (of_withheld sent k i is)) answers,
+      λ is. let refused = because_so tight command body rows pool there' later k i (stepped [] now command pool) answer is answers in
           (redacted_exactly sent k i).0 (only_redacted pool (sent_state sent) k i (sym reads ∙ refused)),
     )

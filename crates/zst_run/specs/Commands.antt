@@ -13,6 +13,7 @@ use Rattle.zst_model.specs.pools.Pool.{Pool}
 use Rattle.zst_model.specs.pools.Step.{Stepped, commits, stepped}
 use Rattle.zst_model.specs.refusals.Refusal.{refusal_of}
 use Rattle.zst_model.specs.declared.pools.command.Command.{Command}
+use Rattle.zst_model.specs.declared.pools.command.Command.TheVariants as commands
 use Rattle.zst_model.specs.declared.refusals.faults.Quantity.TheVariants as quantities
 use Rattle.zst_model.specs.declared.refusals.subjects.PresentSubject.TheVariants as present
 use Rattle.zst_model.specs.declared.refusals.plan_fault.PlanFault.{PlanFault}
@@ -31,6 +32,7 @@ use Rattle.zst_pool.specs.Cost.{CostsMore, Grows, HasNoRoom, cost_of, most_secto
 use Rattle.zst_pool.specs.Damage.{TellsDamage}
 use Rattle.zst_pool.specs.Faults.{pool_refusal}
 use Rattle.zst_pool.specs.Plans.{IsLimitOf, indices_end, is_by_rows, makes_list, numbers_end}
+use Rattle.zst_pool.specs.Reclaims.{AreUnreached, FindsAllReached, Reclaimed}
 use Rattle.zst_pool.specs.declared.fault.PoolFault.{PoolFault}
 
 -- an image that stood before a command, or one that reads as the pool before it or as the pool after it
@@ -56,35 +58,40 @@ pub record IsPoolRefusal (Is : Refusal → Type 0) (here here' : DiskState) (ref
 abbrev pub most_of : Command → Body → Rows → Pool → ℕ
 most_of command body rows pool = most_sectors (cost_of command).cells ((cost_of command).block pool) ((cost_of command).list pool) (kept_rows rows) (length body.free)
 
--- The command was done: the lines and the pool are the definition's, and no more sectors are taken than it costs.
-pub record IsDone (tight : Bool) (command : Command) (body : Body) (rows : Rows) (pool : Pool) (here' : DiskState) (after : Result Stepped Refusal) (lines : List (List ℕ)) : Type 0 where
+-- what is kept of a pool with this body and these rows
+abbrev pub as_kept : Body → Rows → PoolState
+as_kept body rows = record { body = body; dir = kept_rows rows }
+
+-- The command was done: the lines and the pool are the definition's, and no more sectors are taken than it costs; of a reclaim those are free then that nothing reached, but for what it wrote itself.
+pub record IsDone (tight : Bool) (command : Command) (body : Body) (rows : Rows) (pool : Pool) (here here' : DiskState) (after : Result Stepped Refusal) (lines : List (List ℕ)) : Type 0 where
   pub done : Stepped
   pub accepts : after ≡ Ok done
   pub reply : lines ≡ done.reply
   pub next : Body
   pub directory : Rows
   pub rests : Rests tight here' next directory done.pool
-  pub grows : Grows (most_of command body rows pool) ((cost_of command).block pool) body next
+  pub reclaims : command ≡ commands.Reclaim → Reclaimed here.seen [] (as_kept body rows) (as_kept next directory)
+  pub grows : command ≢ commands.Reclaim → Grows (most_of command body rows pool) ((cost_of command).block pool) body next
 
 -- there was no room for the sectors that are needed, by a command that costs so many cells and so many sectors of data and of a list
 abbrev pub IsShort : (cells block list : ℕ) → Body → Rows → (need largest : ℕ) → Type 0
 IsShort cells block list body rows need largest = (left : FreeSectors) × HasNoRoom cells block list body (kept_rows rows) left need largest
 
--- E24: the definition accepts, and there was less room than the command takes at most, and than it takes with the directory that it would leave
+-- E24: the definition accepts; and but for a reclaim, of which Ran tells, there was less room than the command takes at most, and than it takes with the directory that it would leave
 pub record IsFull (command : Command) (body : Body) (rows : Rows) (pool : Pool) (after : Result Stepped Refusal) (need largest : ℕ) : Type 0 where
   pub done : Stepped
   pub accepts : after ≡ Ok done
-  pub short : IsShort (cost_of command).cells ((cost_of command).block pool) ((cost_of command).list pool) body rows need largest
-  pub costs : CostsMore (cost_of command).cells ((cost_of command).block pool) ((cost_of command).list pool) body after
+  pub short : command ≢ commands.Reclaim → IsShort (cost_of command).cells ((cost_of command).block pool) ((cost_of command).list pool) body rows need largest
+  pub costs : command ≢ commands.Reclaim → CostsMore (cost_of command).cells ((cost_of command).block pool) ((cost_of command).list pool) body after
 
 -- What stands after a command on the pool of this body and these rows. A refusal leaves the pool as it was, unless the
 -- disk failed, and is the definition's, unless the disk is full or no memory is left.
-abbrev pub Answers : (tight : Bool) → Command → Body → Rows → Pool → DiskState → Result Stepped Refusal → Result (List (List ℕ)) Refusal → Type 0
-Answers tight command body rows pool here' after (Ok lines) = IsDone tight command body rows pool here' after lines
-Answers tight command body rows pool here' after (Err refusals.DiskFault) = Unit {0}
-Answers tight command body rows pool here' after (Err (refusals.Full need largest)) = IsFull command body rows pool after need largest × Rests tight here' body rows pool
-Answers tight command body rows pool here' after (Err refusals.OutOfMemory) = Rests tight here' body rows pool
-Answers tight command body rows pool here' after (Err refusal) = (after ≡ Err refusal) × Rests tight here' body rows pool
+abbrev pub Answers : (tight : Bool) → Command → Body → Rows → Pool → (here here' : DiskState) → Result Stepped Refusal → Result (List (List ℕ)) Refusal → Type 0
+Answers tight command body rows pool here here' after (Ok lines) = IsDone tight command body rows pool here here' after lines
+Answers tight command body rows pool here here' after (Err refusals.DiskFault) = Unit {0}
+Answers tight command body rows pool here here' after (Err (refusals.Full need largest)) = IsFull command body rows pool after need largest × Rests tight here' body rows pool
+Answers tight command body rows pool here here' after (Err refusals.OutOfMemory) = Rests tight here' body rows pool
+Answers tight command body rows pool here here' after (Err refusal) = (after ≡ Err refusal) × Rests tight here' body rows pool
 
 -- the latest body has this version, which is another
 pub record HasVersion (here : DiskState) (number : ℕ) : Type 0 where
@@ -105,16 +112,24 @@ pub record Planned (now : ℕ) (command : Command) (body : Body) (rows : Rows) (
   pub limits : (fault : PlanFault) → answer ≡ Err (refusal_of fault)
       → (is_by_rows fault ≡ true) ⊎ IsLimitOf (numbers_end command) (indices_end command) (makes_list command) body fault
 
+-- A reclaim that was refused, whatever the image is: E24 comes only where of what nothing reached no sectors in a row were as many as it may take, and but for E28 it wrote
+-- into sectors alone that nothing reached.
+pub record RefusesReclaim (here here' : DiskState) (kept : PoolState) (answer : Result (List (List ℕ)) Refusal) : Type 0 where
+  pub full : (need largest : ℕ) → answer ≡ Err (refusals.Full need largest) → (left : FreeSectors) × FindsAllReached here.seen kept [] left need largest
+  pub spares : OnErr answer ((space : FreeSectors) → AreUnreached here.seen kept [] space → SparesTaken space here.seen here'.seen)
+
 -- A command on a pool that was opened by this body and these rows, whether or not the image reads as a pool: a refusal, but
--- for E28, wrote into sectors alone that the body leaves free; E24 comes only where there is less room than the command may
--- cost, and E25 only of a block that is damaged in an object set that the command names.
+-- for E28 and of a reclaim, wrote into sectors alone that the body leaves free; E24 comes only where there is less room than
+-- the command may cost, and E25 only of a block that is damaged in an object set that the command names, or of a reclaim in
+-- what it walks.
 pub record Ran (now : ℕ) (command : Command) (here here' : DiskState) (answer : Result (List (List ℕ)) Refusal) (body : Body) (rows : Rows) : Type 0 where
   pub opens : Opens here body rows
-  pub spares : OnErr answer (SparesTaken (free_by body) here.seen here'.seen)
-  pub full : (need largest : ℕ) → answer ≡ Err (refusals.Full need largest)
+  pub spares : command ≢ commands.Reclaim → OnErr answer (SparesTaken (free_by body) here.seen here'.seen)
+  pub full : command ≢ commands.Reclaim → (need largest : ℕ) → answer ≡ Err (refusals.Full need largest)
       → (block : ℕ) × (block ≤ (cost_of command).most) × IsShort (cost_of command).cells block (cost_of command).most_list body rows need largest
+  pub reclaims : command ≡ commands.Reclaim → RefusesReclaim here here' (as_kept body rows) answer
   pub damaged : (sector : ℕ) (stated found : List ℕ) → answer ≡ Err (refusals.Damaged sector stated found)
-      → TellsDamage command (kept_rows rows) here (free_by body) sector stated found
+      → TellsDamage command [] body (kept_rows rows) here sector stated found
   pub planned : answer ≢ Err refusals.OutOfMemory → Planned now command body rows answer
 
 -- What an answer says of any image. E26 comes where there is no latest body, E27 where it has another version, E25 where it,
@@ -148,7 +163,7 @@ pub record Stepping (now : ℕ) (command : Command) (here here' : DiskState) (an
   pub moments : (tight : Bool) (pool : Pool) → here'.honest → Reads tight pool here.seen → Leaves here here' (OldOrReads tight here pool (stepped [] now command pool))
   pub images : (tight : Bool) (pool : Pool) → here'.honest → Reads tight pool here.seen → (c : List ℕ) → here'.images c → OldOrReads tight here pool (stepped [] now command pool) c
   pub answers : (tight : Bool) (body : Body) (rows : Rows) (pool : Pool) → here'.honest → ReadsAs tight body rows pool here.seen
-      → Answers tight command body rows pool here' (stepped [] now command pool) answer
+      → Answers tight command body rows pool here here' (stepped [] now command pool) answer
   pub opened : here'.honest → Opened now command here here' answer
   pub refused : IfErr answer (IsPoolRefusal OfStepping here here')
   pub idle : commits command ≡ false → OnlyReads here here'

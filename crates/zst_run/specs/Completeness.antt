@@ -5,9 +5,11 @@ use Rattle.zst_outside.specs.Causes.{Rose}
 use Rattle.zst_outside.specs.Images.{DiskState}
 use Rattle.zst_outside.specs.States.{SourceState, SinkState, Gave}
 use Rattle.zst_uber.specs.Slots.{latest}
-use Rattle.zst_space.specs.FreeSectors.{largest_of}
+use Rattle.zst_space.specs.FreeSectors.{FreeSectors, largest_of}
 use Rattle.zst_image.specs.Bodies.{Body, free_by}
+use Rattle.zst_image.specs.Commits.{commit_sectors}
 use Rattle.zst_model.specs.declared.pools.command.Command.{Command}
+use Rattle.zst_model.specs.declared.pools.command.Command.TheVariants as commands
 use Rattle.zst_model.specs.declared.refusals.refusal.Refusal.{Refusal}
 use Rattle.zst_model.specs.declared.refusals.refusal.Refusal.TheVariants as refusals
 use Rattle.zst_model.specs.declared.sends.ask.SendAsk.{SendAsk}
@@ -17,10 +19,12 @@ use Rattle.zst_model.specs.pools.Step.{Stepped, stepped}
 use Rattle.zst_model.specs.sends.Headers.{Sent, header_of}
 use Rattle.zst_model.specs.states.State.{State}
 use Rattle.zst_dir.specs.Rows.{Rows}
+use Rattle.zst_dir.specs.Spelling.{dir_bytes}
 use Rattle.zst_image.specs.Reads.{Reads, ReadsAs, kept_rows}
 use Rattle.zst_plan.specs.RecvPlan.{Base, Begins, component_for, recv_plan}
 use Rattle.zst_plan.specs.declared.receive.RecvAsk.{RecvAsk}
 use Rattle.zst_pool.specs.Cost.{CostsMore, cost_of}
+use Rattle.zst_pool.specs.Reclaims.{AreUnreached, MayBeLeft}
 use Rattle.zst_reader.specs.InputReads.{stream_limit}
 use Rattle.zst_recv.specs.Feeds.{receives}
 use Rattle.zst_recv.specs.ReceiveSteps.{Stops}
@@ -30,7 +34,7 @@ use Rattle.zst_replication.specs.TakenSends.{IsInLimits}
 use Rattle.zst_send.specs.Sends.{begun_text}
 use Rattle.zst_stream.specs.Reading.{complete, reading}
 use Rattle.zst_token.specs.declared.token.Token.{Token}
-use Rattle.zst_run.specs.Commands.{Making, Opens, Stepping, most_of}
+use Rattle.zst_run.specs.Commands.{Making, Opens, Stepping, as_kept, most_of}
 use Rattle.zst_run.specs.Dumps.{Dumps}
 use Rattle.zst_run.specs.Receives.{ArePieces, CostMore, IsTightOrNew, Receiving}
 use Rattle.zst_run.specs.Replies.{Replies}
@@ -158,16 +162,22 @@ RestTransfersComplete here here' there there' =
 
 -- ---- the other lines
 
--- there is room for a command: some extent that is free by this body has as many sectors as it takes at most, or as it takes with each directory of rows that name the pool that it makes
+-- there is room for a command that is no reclaim: some extent that is free by this body has as many sectors as it takes at most, or as it takes with each directory of rows that name the pool that it makes
 abbrev pub HasRoomFor : Command → Body → Rows → Pool → Result Stepped Refusal → Type 0
 HasRoomFor command body rows pool after = (most_of command body rows pool ≤ largest_of (free_by body)) ⊎ ¬ (CostsMore (cost_of command).cells ((cost_of command).block pool) ((cost_of command).list pool) body after)
+
+-- there is for a reclaim: by the body and the directory that are opened some extent that nothing reaches has as many sectors as it takes, beside each count of free extents that may be left at some time of it
+abbrev pub HasRoomToReclaim : DiskState → Type 0
+HasRoomToReclaim here = (body : Body) (rows : Rows) (writable : FreeSectors) (count : ℕ) → Opens here body rows
+    → AreUnreached here.seen (as_kept body rows) [] writable → MayBeLeft here.seen (as_kept body rows) [] count → commit_sectors (length (dir_bytes (kept_rows rows))) count ≤ largest_of writable
 
 -- A run of a command on an image that reads as a pool: where the definition accepts it, there is room for it by the latest body, and neither
 -- the disk nor the output counted a fault, it is done, or no memory was left.
 abbrev pub StepsComplete : (here here' : DiskState) → Type 0
 StepsComplete here here' =
     (tight : Bool) (now : ℕ) (command : Command) (body : Body) (rows : Rows) (pool : Pool) (done : Stepped) (out out' : SinkState) (result : Result (Unit {0}) Refusal)
-    → here'.honest → ReadsAs tight body rows pool here.seen → stepped [] now command pool ≡ Ok done → HasRoomFor command body rows pool (stepped [] now command pool)
+    → here'.honest → ReadsAs tight body rows pool here.seen → stepped [] now command pool ≡ Ok done
+    → (command ≢ commands.Reclaim → HasRoomFor command body rows pool (stepped [] now command pool)) → (command ≡ commands.Reclaim → HasRoomToReclaim here)
     → NoneCounted here.faults here'.faults → NoneCounted out.faults out'.faults
     → Replies (Stepping now command here here') out out' result → DoneOrNoMemory result
 

@@ -51,7 +51,7 @@ token_dataset_of line = None
 
 -- What a line does, of two disks of which it is said what each is at a moment, and whether it tells its images: `replay` runs the script that is its
 -- input on both images; all other lines leave the second one alone. `dump` reads the input and leaves the first alone too, `receive` reads the
--- input, and all others leave it alone. Those that check and make room aren't built yet: they are refused (E19), and nothing is done.
+-- input, and all others leave it alone. The one that checks isn't built yet: it is refused (E19), and nothing is done.
 abbrev pub DoesLine : {D E : Type 0} → (D → DiskState) → Bool → (E → DiskState) → Bool → ℕ → Line → Devices D E → Devices D E → Result (Unit {0}) Refusal → Type 0
 DoesLine state tells other others now Dump old new result = Dumps old.input new.input old.out new.out result × (new.here ≡ old.here) × (new.there ≡ old.there)
 DoesLine state tells other others now (Create image sectors id) old new result =

@@ -30,7 +30,7 @@ use Rattle.zst_sessions.specs.declared.engine.Engine.{Engine}
 use Rattle.zst_sessions.specs.declared.event_reply.EventReply.{EventReply}
 use Rattle.zst_sessions.specs.declared.open_sessions.OpenReceive as kept_receives
 use Rattle.zst_sessions.specs.declared.open_sessions.OpenSend as kept_sends
-use Rattle.zst_run.specs.Replays.{GoOn, NoneFails, FindsItsExtents, StoodOrReads, RunsScript, WritesReplies, finds_no_memory, replies_text, reply_of}
+use Rattle.zst_run.specs.Replays.{GoOn, NoneFails, NoneReclaims, FindsItsExtents, StoodOrReads, RunsScript, WritesReplies, finds_no_memory, replies_text, reply_of}
 use Rattle.zst_run.specs.Replies.{reply_text}
 use Rattle.zst_run.specs.declared.replay.Behind.{Behind}
 use Rattle.zst_run.specs.declared.replay.Behind.TheVariants as behind
@@ -48,10 +48,10 @@ pub record RunsFrom (now : ℕ) (world : World) (events : List Event) (answers :
   pub here_images : (c : List ℕ) → here'.disk.images c → StoodOrReads here.disk now Here world events answers c
   pub there_images : (c : List ℕ) → there'.disk.images c → StoodOrReads there.disk now There world events answers c
 
--- Where no answer is E28 and no read gave other bytes, they left the disk of the pool of a side working and all blocks that were there, and the latest body's free extents in
+-- Where no answer is E28, no event reclaims the pool's sectors and no read gave other bytes, they left the disk of the pool of a side working and all blocks that were there, and the latest body's free extents in
 -- sectors that it leaves not free, where those of the one before were; if an event opened it again, where these were.
 abbrev pub SparesAll : Side → (old new : Kept) → List Event → List Answer → Type 0
-SparesAll side old new events answers = NoneFails answers → FindsItsExtents side events old.disk old.state.body → new.disk.honest → old.failed ≡ false
+SparesAll side old new events answers = NoneFails answers → NoneReclaims side events → FindsItsExtents side events old.disk old.state.body → new.disk.honest → old.failed ≡ false
     → (new.failed ≡ false) × KeepsBlocks old.disk.seen (free_by old.state.body) new.disk.seen (free_by new.state.body) × (HasItsExtents old.disk old.state.body → HasItsExtents new.disk new.state.body)
 
 module _ {D E : Type 0} {g : Ghosts D} {h : Ghosts E} where

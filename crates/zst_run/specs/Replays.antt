@@ -13,6 +13,7 @@ use Rattle.zst_image.specs.Reads.{Reads}
 use Rattle.zst_image.specs.declared.open_fault.OpenFault.{OpenFault}
 use Rattle.zst_image.specs.declared.open_fault.OpenFault.TheVariants as opens
 use Rattle.zst_image.specs.declared.pool_state.PoolState.{PoolState}
+use Rattle.zst_model.specs.declared.pools.command.Command.TheVariants as commands
 use Rattle.zst_model.specs.declared.refusals.faults.Quantity.TheVariants as quantities
 use Rattle.zst_model.specs.declared.refusals.refusal.Refusal.{Refusal}
 use Rattle.zst_model.specs.declared.refusals.refusal.Refusal.TheVariants as refusals
@@ -21,7 +22,7 @@ use Rattle.zst_model.specs.pools.Pool.{Pool}
 use Rattle.zst_script.specs.ScriptLines.{EndIn}
 use Rattle.zst_script.specs.Scripts.{AllRead, IsScript, Misread, Says, TooLong, ended_lines, lines_of, script_limit}
 use Rattle.zst_script.specs.declared.event.Event.{Event}
-use Rattle.zst_script.specs.declared.event.Event.TheVariants.{Reopen}
+use Rattle.zst_script.specs.declared.event.Event.TheVariants.{Reopen, Step}
 use Rattle.zst_script.specs.declared.event.Side.{Side}
 use Rattle.zst_script.specs.declared.event.Side.TheVariants.{Here, There}
 use Rattle.zst_sessions.specs.Moves.{Answer}
@@ -133,10 +134,14 @@ NoneFails answers = All (λ answer. ¬ (answer ≡ Err refusals.DiskFault)) answ
 abbrev pub FindsItsExtents : Side → List Event → DiskState → Body → Type 0
 FindsItsExtents side events disk body = Contains events (Reopen side) → HasItsExtents disk body
 
--- An image of this side whose pool was opened by this body, whether or not it reads as one: where no answer is E28, and, if an event opens it again, the body's free extents
--- stood in sectors that it left not free, each block still stands in the end that stood in such sectors.
+-- no event is a reclaim of this side
+abbrev pub NoneReclaims : Side → List Event → Type 0
+NoneReclaims side events = ¬ Contains events (Step side commands.Reclaim)
+
+-- An image of this side whose pool was opened by this body, whether or not it reads as one: where no answer is E28, no event reclaims its sectors, and, if an event opens it
+-- again, the body's free extents stood in sectors that it left not free, each block still stands in the end that stood in such sectors.
 abbrev pub Stood : (here here' : DiskState) → Body → Side → List Event → List Answer → Type 0
-Stood here here' body side events answers = here'.honest → NoneFails answers → FindsItsExtents side events here body → KeepsBlocks here.seen (free_by body) here'.seen (free_by body)
+Stood here here' body side events answers = here'.honest → NoneFails answers → NoneReclaims side events → FindsItsExtents side events here body → KeepsBlocks here.seen (free_by body) here'.seen (free_by body)
 
 -- ---- a replay
 
@@ -153,7 +158,7 @@ pub record IsUnopened (here here' there there' : DiskState) (input input' : Sour
   pub streams : (input' ≡ input) × (out' ≡ out)
 
 -- Both are opened, and the events of the script are run, one after another, each with its answer. An event answers E28 only where a disk failed meanwhile; where none does, what
--- stood in sectors that the first body of an image left not free still stands, if an event opened it again where that body's extents stood in such sectors. Of disks that tell
+-- stood in sectors that the first body of an image left not free still stands, unless an event reclaims them, if an event opened it again where that body's extents stood in such sectors. Of disks that tell
 -- their images, and that read as pools by tight object sets, the events and their answers are a run of worlds from these pools on.
 pub record IsReplayed (now : ℕ) (here here' : DiskState) (tells : Bool) (there there' : DiskState) (others : Bool) (input input' : SourceState) (out out' : SinkState) (result : Result (Unit {0}) Refusal) : Type 0 where
   pub text : List ℕ

@@ -42,7 +42,7 @@ fn make_next<D: Disk>(
 {
     let made = command(alloc, steps, number)?;
     let Some(next) = made else { unreachable!() };
-    pool.step(alloc, now, next)?;
+    pool.step(alloc, now, next, &[])?;
     Ok(())
 }
 

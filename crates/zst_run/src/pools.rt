@@ -48,7 +48,7 @@ fn step_image<D: Disk>(
     opened_is_at_rest::<D>();
     let kept = PoolState::open(alloc, here)?;
     let mut pool = Pool::new(alloc, here, kept);
-    let reply = pool.step(alloc, now, command);
+    let reply = pool.step(alloc, now, command, &[]);
     // Only of a disk that was given back is it known what stands on it.
     pool.into_disk();
     Ok(reply?)
