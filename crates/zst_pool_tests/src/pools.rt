@@ -62,7 +62,7 @@ pub(crate) fn step_in(
     ensures same { pool.new.io.disk.ghost_name ≡ pool.old.io.disk.ghost_name }
 {
     let command = command_of(alloc, line)?;
-    Ok(pool.step(alloc, NOW, command)?)
+    Ok(pool.step(alloc, NOW, command, &[])?)
 }
 
 // Opens the pool of a disk and runs the command that a line says.

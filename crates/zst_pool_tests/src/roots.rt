@@ -40,7 +40,7 @@ const LINES: [&str; 10] = [
 ];
 
 // Checks the first sectors and the counts of extents.
-fn check_extents(rt: &impl Abort, found: &[Extent], wanted: &[(u64, u64)]) {
+pub(crate) fn check_extents(rt: &impl Abort, found: &[Extent], wanted: &[(u64, u64)]) {
     assert_eq!(rt; found.len(), wanted.len());
     for (extent, (first, count)) in found.iter().zip(wanted) {
         assert!(rt;
@@ -101,12 +101,21 @@ fn sets_and_lists_are_marked_and_no_directory(rt: HostRuntime) -> Result<(), Tes
 }
 
 // What nothing of a pool reaches.
-fn unreached(alloc: Global, pool: &mut Pool<'_, MemDisk>) -> Result<UnreachedSectors, TestRefusal>
+pub(crate) fn unreached(
+    alloc: Global,
+    pool: &mut Pool<'_, MemDisk>,
+) -> Result<UnreachedSectors, TestRefusal>
     requires works { CanCommit (disk_of pool.old.io) pool.old.io.space pool.old.kept.body }
     ensures room { IfOk result (λ found. HasRoomFor found.marks pool.old.kept.body.uber.end) }
     ensures same { pool.new.io.disk.ghost_name ≡ pool.old.io.disk.ghost_name }
 {
-    match find_unreached(&mut pool.io, alloc, pool.kept.body.uber(), &pool.kept.dir) {
+    match find_unreached(
+        &mut pool.io,
+        alloc,
+        pool.kept.body.uber(),
+        &pool.kept.dir,
+        &[],
+    ) {
         Ok(found) => Ok(found),
         Err(_) => Err(TestRefusal(Refusal::Failed)),
     }

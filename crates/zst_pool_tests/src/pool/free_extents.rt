@@ -1,16 +1,18 @@
 // Images whose latest body names free extents, as one would that a sector was freed in.
-ghost use Rattle.std.specs.Prelude.{◌≡◌, ◌+◌, IfOk};
+ghost use Rattle.std.specs.Prelude.{◌≡◌, ◌+◌, ◌<◌, ◌≤◌, ◌∷◌, ℕ, [], IfOk};
+ghost use Rattle.zst_marks.specs.Marks.{HasRoomFor, IsMarked};
 
 use crate::pools::{SMALL, pool_on, step_on, with_lines};
 use crate::refusals::TestRefusal;
-use std::alloc::Global;
+use std::alloc::{AllocError, Global};
 use std::process::Abort;
-use zst_block::Ptr;
-use zst_image::PoolState;
+use zst_block::{Io, Ptr};
+use zst_image::{PoolState, commit_unmarked};
 use zst_leaves::write_leaves;
+use zst_marks::Marks;
 use zst_model::Refusal;
 use zst_outside::{Disk, MemDisk};
-use zst_space::Extent;
+use zst_space::{Extent, Space};
 use zst_uber::{Uber, commit};
 
 // The end of the small pool: so the sector of a leaf that is written behind it.
@@ -82,7 +84,7 @@ fn check_free(
 }
 
 // Checks what the block of the file begins with that this names, once the pool is opened.
-fn check_block(
+pub(super) fn check_block(
     rt: &impl Abort,
     alloc: Global,
     disk: &mut MemDisk,
@@ -128,5 +130,65 @@ fn extents_that_touch_are_told_as_damage_at_their_root(rt: HostRuntime) -> Resul
         ) => assert!(rt; sector == LEAF && stated == found),
         _ => panic!(rt; "extents that touch are read"),
     }
+    Ok(())
+}
+
+// Marks of sectors 0 to 7, and of those that the rows of the small pool reach: a block at 72, and
+// the leaf of its set at 73, which the head and the snapshot share.
+fn marks_of_rows(alloc: Global, end: u64) -> Result<Marks, AllocError>
+    requires { 89 ≤ end }
+    ensures room { IfOk result (λ marks. HasRoomFor marks end) }
+    ensures before { IfOk result (λ marks. (sector : ℕ) → 8 ≤ sector → sector < 72 → ¬ IsMarked marks sector) }
+    ensures behind { IfOk result (λ marks. (sector : ℕ) → 89 ≤ sector → ¬ IsMarked marks sector) }
+{
+    let mut marks = Marks::new(alloc, end)?;
+    marks.mark(0, 8);
+    marks.mark(72, 17);
+    Ok(marks)
+}
+
+// What neither these rows nor the texts of the small pool's body reach. The directory stands at 105.
+fn unreached(alloc: Global, uber: &Uber) -> Result<Space, AllocError>
+    ensures { IfOk result (λ space. space ≡ record { end = uber.now.end; sectors = uber.now.sectors; free = record { first = 8; count = 64 } ∷ record { first = 89; count = 16 } ∷ [] }) }
+{
+    let mut free = Vec::new(alloc);
+    free.push(Extent {
+        first: 8,
+        count: 64,
+    })?;
+    free.push(Extent {
+        first: 89,
+        count: 16,
+    })?;
+    Ok(Space::new(uber.end, uber.sectors, free))
+}
+
+// Commits the directory of the small pool once more, and makes free what its rows don't reach.
+fn free_rest(alloc: Global, disk: &mut MemDisk) -> Result<(), TestRefusal> {
+    let PoolState { body, dir } = PoolState::open(alloc, disk)?;
+    let uber = body.uber();
+    if uber.end != LEAF || uber.number > 9 {
+        return Err(TestRefusal(Refusal::Failed));
+    }
+    let space = unreached(alloc, uber)?;
+    let marks = marks_of_rows(alloc, uber.end)?;
+    let mut io = Io::new(alloc, disk, space);
+    commit_unmarked(&mut io, alloc, &body, dir, marks)?;
+    Ok(())
+}
+
+#[test]
+fn what_no_row_reaches_is_free_and_the_end_stays(rt: HostRuntime) -> Result<(), TestRefusal> {
+    let alloc = rt.alloc();
+    let mut disk = with_lines(alloc, &SMALL)?;
+    free_rest(alloc, &mut disk)?;
+    // The directory stands at 8 and the leaf of the extents at 24. What the old directory stood in is
+    // free too.
+    check_free(&rt, alloc, &mut disk, [40, 32, 89, 32])?;
+    let kept = PoolState::open(alloc, &mut disk)?;
+    assert_eq!(rt; kept.body.uber().dir_root.sector, 8);
+    assert_eq!(rt; kept.body.uber().free_root.sector, 24);
+    assert_eq!(rt; kept.body.uber().end, LEAF);
+    check_block(&rt, alloc, &mut disk, "read here tank/a 1 0", b"data aa")?;
     Ok(())
 }
