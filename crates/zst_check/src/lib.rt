@@ -1,0 +1,13 @@
+//! Whether a pool is sound: what a check reports, and the laws that hold its reports to the definition of soundness.
+#![tactic(auto)]
+
+mod laws;
+mod report;
+
+pub use laws::{
+    counted_blocks_are_reached, counts_are_one, decided_pools_have_reports,
+    differences_deny_agreement, late_dates_deny_dates, late_snapshots_deny_dates,
+    lists_that_differ_deny_lists, misplaced_bookmarks_deny_bookmarks, nearest_states_make_sound,
+    no_report_is_both, numbers_in_turn_are_enough, two_faults_are_told_in_order,
+};
+pub use report::Report;
