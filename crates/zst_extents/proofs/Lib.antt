@@ -1,4 +1,5 @@
 pub mod ApartExtents
+pub mod BlocksInTurn
 pub mod ExtentGrowth
 pub mod FewerSectors
 pub mod MarkedBlocks
@@ -8,3 +9,4 @@ pub mod Spelled
 pub mod Stored
 pub mod TakenWorks
 pub mod TreeBlocks
+pub mod UnmarkedSectors

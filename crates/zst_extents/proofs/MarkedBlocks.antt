@@ -4,20 +4,21 @@ use Rattle.std.specs.Prelude.{Result, Ok, Err}
 use Rattle.std.specs.Result.{IsErrAnd}
 use Rattle.std.proofs.lemmas.Bool.{cases_lt, leb-true}
 use Rattle.zst_space.specs.FreeSectors.{FreeSectors, IsFree, IsInSome, IsSpaceFrom, IsWithin, Rise, largest_of}
-use Rattle.zst_space.specs.TakenExtents.{Takes, extents_without, place_in_extents, place_of, without}
+use Rattle.zst_space.specs.TakenExtents.{Takes, extents_without, place_in_extents, place_of, without, without_blocks}
 use Rattle.zst_space.specs.declared.space.Extent.{Extent}
 use Rattle.zst_space.specs.declared.space.SpaceFault.{SpaceFault}
 use Rattle.zst_space.proofs.FreeSectorsLaws.{Rise-earlier, Rise-end}
-use Rattle.zst_marks.specs.Marks.{Apart, IsMarked, IsUnmarked}
-use Rattle.zst_block.specs.IoCalls.{IsBlockLength, IsFull}
-use Rattle.zst_block.proofs.TakenSectors.{of_tree, takes, takes_more, takes_none, takes_then}
+use Rattle.zst_marks.specs.Marks.{IsMarked}
+use Rattle.zst_block.specs.IoCalls.{IsBlockLength}
+use Rattle.zst_block.proofs.TakenSectors.{takes, takes_more, takes_none, takes_then}
 use Rattle.zst_tree.specs.Faults.{IfFault}
 use Rattle.zst_tree.specs.declared.or_memory.OrMemory.{OrMemory}
 use Rattle.zst_tree.specs.declared.or_memory.OrMemory.TheVariants.{Fault, Memory}
 use Rattle.zst_leaves.proofs.TakenBlocks.{blocks_none_taken, blocks_then, one_block}
 use Rattle.zst_extents.specs.StoredExtents.{extent_blocks}
-use Rattle.zst_extents.specs.UnmarkedExtents.{IsFullFor, IsSpaceUpTo, MarksTaken, MayLeave, TakesMarked}
+use Rattle.zst_extents.specs.UnmarkedExtents.{AreUnmarked, IsFullFor, IsFullWithin, IsSpaceUpTo, MarksTaken, MayLeave, TakesMarked}
 use Rattle.zst_extents.proofs.FewerSectors.{end_later}
+use Rattle.zst_extents.proofs.UnmarkedSectors.{unmarked_extents}
 
 -- ---- a sector is free or not
 
@@ -153,36 +154,73 @@ TakesMarked-then end first more all old mid new before between now sum one two =
 
 -- ---- blocks for the extents that are left
 
--- none may be left, where the end stands behind the first eight sectors
-pub MayLeave-none : (marks : List ℕ) (end : ℕ) → 8 ≤ end → MayLeave marks end 0
-MayLeave-none marks end inside = record { extents = []; apart = inside; unmarked = λ sector none. absurd none; counted = refl }
-
--- and those that aren't marked once more is may be
-pub MayLeave-unmarked : (before now : List ℕ) (end : ℕ) (extents : List Extent) → ((sector : ℕ) → IsMarked before sector → IsMarked now sector) → Apart 8 extents end → ((sector : ℕ) → IsInSome extents sector ↔ IsUnmarked now 8 end sector)
-    → MayLeave before end (length extents)
-MayLeave-unmarked before now end extents stay apart are = record {
+-- the extents that aren't marked once so many blocks were taken are left at that time
+pub MayLeave-unmarked : (by taken count : ℕ) (old mid : FreeSectors) (before now : List ℕ) (extents : List Extent) → by ≤ taken → mid ≡ without_blocks by old → MarksTaken old.end old mid before now → AreUnmarked now old.end extents → length extents ≡ count
+    → MayLeave before old taken count
+MayLeave-unmarked by taken count old mid before now extents earlier is marked are counted = record {
+  by = by;
+  earlier = earlier;
+  now = now;
+  marked = subst (λ (space : FreeSectors). MarksTaken old.end old space before now) is marked;
   extents = extents;
-  apart = apart;
-  unmarked = λ sector some marked. ((are sector).0 some).unmarked (stay sector marked);
-  counted = refl;
+  are = are;
+  counted = counted;
 }
 
--- these blocks and so many more were taken and marked, the latter no more than are taken by so many extents as may be left
+-- some are before any is taken
+MayLeave-first : (taken : ℕ) (marks : List ℕ) (old : FreeSectors) → 8 ≤ old.end → (count : ℕ) × MayLeave marks old taken count
+MayLeave-first taken marks old inside =
+    let there = unmarked_extents marks old.end inside in
+    (length there.0, MayLeave-unmarked 0 taken (length there.0) old old marks marks there.0 (omega arith) (sym (blocks_none_taken old)) (MarksTaken-none old.end old marks) there.1 refl)
+
+-- these blocks and so many more were taken and marked, the latter no more than are taken by so many extents as are left at some time
 pub record TakesRounds (end blocks taken : ℕ) (old new : FreeSectors) (before now : List ℕ) : Type 0 where
+  pub end_is : end ≡ old.end
   pub rounds : TakesMarked end (blocks + taken) old new before now
   pub most : ℕ
-  pub may_leave : MayLeave before end most
+  pub may_leave : MayLeave before old (blocks + taken) most
   pub few : taken ≤ extent_blocks most
 
--- a round more, for the extents that aren't marked by now
-pub TakesRounds-next : (end blocks taken needed : ℕ) (old mid new : FreeSectors) (before between now : List ℕ) (extents : List Extent) → TakesRounds end blocks taken old mid before between → taken ≤ needed → needed ≡ extent_blocks (length extents)
-    → Apart 8 extents end → ((sector : ℕ) → IsInSome extents sector ↔ IsUnmarked between 8 end sector) → TakesMarked end (needed - taken) mid new between now → TakesRounds end blocks needed old new before now
-TakesRounds-next end blocks taken needed old mid new before between now extents first more is apart are second = record {
-  rounds = TakesMarked-then end (blocks + taken) (needed - taken) (blocks + needed) old mid new before between now (omega (arith, more)) first.rounds second;
-  most = length extents;
-  may_leave = MayLeave-unmarked before between end extents (λ sector marked. (first.rounds.marks.marked sector).1 (inr marked)) apart are;
-  few = omega (arith, is);
-}
+-- none for extents yet
+pub TakesRounds-none : (end blocks : ℕ) (old new : FreeSectors) (before now : List ℕ) → end ≡ old.end → 8 ≤ old.end → TakesMarked end blocks old new before now → TakesRounds end blocks 0 old new before now
+TakesRounds-none end blocks old new before now end_is inside first =
+    let none : blocks + 0 ≡ blocks = omega arith in
+    let some = MayLeave-first (blocks + 0) before old inside in
+    record { end_is = end_is; rounds = rw none first; most = some.0; may_leave = some.1; few = omega arith }
+
+module _ (end blocks taken : ℕ) (old mid : FreeSectors) (before between : List ℕ) (extents : List Extent) (first : TakesRounds end blocks taken old mid before between) (are : AreUnmarked between end extents) where
+  -- the extents that aren't marked by now are left now
+  left_now : (more : ℕ) → blocks + taken ≤ more → MayLeave before old more (length extents)
+  left_now more le = MayLeave-unmarked (blocks + taken) more (length extents) old mid before between extents le first.rounds.after
+      (subst (λ (n : ℕ). MarksTaken n old mid before between) first.end_is first.rounds.marks) (subst (λ (n : ℕ). AreUnmarked between n extents) first.end_is are) refl
+
+  -- a round more, for these
+  pub TakesRounds-next : (needed : ℕ) (new : FreeSectors) (now : List ℕ) → taken ≤ needed → needed ≡ extent_blocks (length extents) → TakesMarked end (needed - taken) mid new between now → TakesRounds end blocks needed old new before now
+  TakesRounds-next needed new now more is second = record {
+    end_is = first.end_is;
+    rounds = TakesMarked-then end (blocks + taken) (needed - taken) (blocks + needed) old mid new before between now (omega (arith, more)) first.rounds second;
+    most = length extents;
+    may_leave = left_now (blocks + needed) (omega (arith, more));
+    few = omega (arith, is);
+  }
+
+  -- no room for those
+  pub IsFullFor-next : (needed : ℕ) (new : FreeSectors) (full : SpaceFault) → taken ≤ needed → needed ≡ extent_blocks (length extents) → IsFullWithin (needed - taken) mid new full → IsFullFor blocks before old new full
+  IsFullFor-next needed new full more is short = record {
+    count = length extents;
+    full_within = record {
+      taken = blocks + taken + short.taken;
+      fewer = omega (arith, short.fewer, more, is);
+      full_after = record {
+        needed = short.full_after.needed;
+        shorter = short.full_after.shorter;
+        is_longest = short.full_after.is_longest;
+        after = blocks_then (blocks + taken) short.taken old mid new first.rounds.after short.full_after.after;
+      };
+      before = omega (arith, short.before, first.rounds.takes.longest, more, is);
+    };
+    may_leave = left_now (blocks + taken + short.taken) (omega arith);
+  }
 
 -- ---- no room is left
 
@@ -194,12 +232,11 @@ fault_passed S T Told Passed (Err made) (Fault fault) is up told = rw is (up fau
 fault_passed S T Told Passed (Err made) Memory is up told = rw is tt
 
 -- for these blocks, before any extent is looked at
-pub IsFullFor-first : (blocks : ℕ) (marks : List ℕ) (old new : FreeSectors) (full : SpaceFault) → 8 ≤ old.end → IsFull (16 * blocks) 16 old new full.need full.largest → IsFullFor blocks marks old new full
-IsFullFor-first blocks marks old new full inside is = record {
-  need_is = of_tree is.needed;
-  shorter = omega (arith, is.shorter, of_tree is.needed);
-  is_longest = is.is_longest;
-  count = 0;
-  may_leave = MayLeave-none marks old.end inside;
-  before = omega (arith, is.before);
-}
+pub IsFullFor-first : (blocks : ℕ) (marks : List ℕ) (old new : FreeSectors) (full : SpaceFault) → 8 ≤ old.end → IsFullWithin blocks old new full → IsFullFor blocks marks old new full
+IsFullFor-first blocks marks old new full inside is =
+    let some = MayLeave-first is.taken marks old inside in
+    record {
+      count = some.0;
+      full_within = record { taken = is.taken; fewer = omega (arith, is.fewer); full_after = is.full_after; before = omega (arith, is.before) };
+      may_leave = some.1;
+    }

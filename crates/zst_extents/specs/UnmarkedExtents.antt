@@ -13,13 +13,6 @@ pub record AreUnmarked (marks : List ℕ) (end : ℕ) (extents : List Extent) : 
   pub apart : Apart 8 extents end
   pub are : (sector : ℕ) → IsInSome extents sector ↔ IsUnmarked marks 8 end sector
 
--- so many extents may be left: they stand from sector 8 on up to the end, are apart, and none of their sectors is marked
-pub record MayLeave (marks : List ℕ) (end count : ℕ) : Type 0 where
-  pub extents : List Extent
-  pub apart : Apart 8 extents end
-  pub unmarked : (sector : ℕ) → IsInSome extents sector → ¬ IsMarked marks sector
-  pub counted : length extents ≡ count
-
 -- a sector before the end was taken
 pub record IsGone (end : ℕ) (old new : FreeSectors) (sector : ℕ) : Type 0 where
   pub under : sector < end
@@ -30,6 +23,17 @@ pub record IsGone (end : ℕ) (old new : FreeSectors) (sector : ℕ) : Type 0 wh
 pub record MarksTaken (end : ℕ) (old new : FreeSectors) (before now : List ℕ) : Type 0 where
   pub marked : (sector : ℕ) → IsMarked now sector ↔ (IsGone end old new sector ⊎ IsMarked before sector)
   pub words : length now ≡ length before
+
+-- So many extents are left at some time while no more than so many blocks are taken in turn: those of the sectors that aren't marked then.
+pub record MayLeave (marks : List ℕ) (old : FreeSectors) (taken count : ℕ) : Type 0 where
+  -- so many blocks were taken by then, and marked
+  pub by : ℕ
+  pub earlier : by ≤ taken
+  pub now : List ℕ
+  pub marked : MarksTaken old.end old (without_blocks by old) marks now
+  pub extents : List Extent
+  pub are : AreUnmarked now old.end extents
+  pub counted : length extents ≡ count
 
 -- from sector 8 on the free extents stand before this sector, and all from an end on that is no earlier is free
 pub record IsSpaceUpTo (last : ℕ) (space : FreeSectors) : Type 0 where
@@ -46,21 +50,33 @@ pub record TakesMarked (end count : ℕ) (old new : FreeSectors) (before now : L
   pub left : IsSpaceUpTo end new
   pub marks : MarksTaken end old new before now
 
--- blocks of a tree were taken in turn: these and no fewer than so many extents take besides, but no more than are taken by so many as may be left
+-- Blocks of a tree were taken in turn, no fewer than these and those of so many extents, and no more than these and those of as many extents as are left at some time.
 pub record TakesEnough (blocks count : ℕ) (marks : List ℕ) (old new : FreeSectors) : Type 0 where
   pub taken : ℕ
   pub after : new ≡ without_blocks taken old
   pub takes : TakesAtMost (16 * taken) (IsBlockLength 16) old new
+  pub room_is : room new + 16 * taken ≡ room old
   pub enough : blocks + extent_blocks count ≤ taken
   pub most : ℕ
-  pub may_leave : MayLeave marks old.end most
+  pub may_leave : MayLeave marks old taken most
   pub few : taken ≤ blocks + extent_blocks most
 
--- No free extent has the 16 sectors of a block now; and before the call none had all those of these blocks and of the ones that so many extents take as may be left.
+-- no free extent has the 16 sectors of one more block, once so many were taken in turn
+pub record IsFullAfter (taken : ℕ) (old new : FreeSectors) (need largest : ℕ) : Type 0 where
+  pub needed : need ≡ 16
+  pub shorter : largest < need
+  pub is_longest : largest ≡ largest_of new
+  pub after : new ≡ without_blocks taken old
+
+-- before the last of so many blocks no free extent has the 16 sectors of one, and at first none had those of all
+pub record IsFullWithin (blocks : ℕ) (old new : FreeSectors) (full : SpaceFault) : Type 0 where
+  pub taken : ℕ
+  pub fewer : taken < blocks
+  pub full_after : IsFullAfter taken old new full.need full.largest
+  pub before : largest_of old < 16 * blocks
+
+-- so it is of these blocks and those of as many extents as are left at some time
 pub record IsFullFor (blocks : ℕ) (marks : List ℕ) (old new : FreeSectors) (full : SpaceFault) : Type 0 where
-  pub need_is : full.need ≡ 16
-  pub shorter : full.largest < 16
-  pub is_longest : full.largest ≡ largest_of new
   pub count : ℕ
-  pub may_leave : MayLeave marks old.end count
-  pub before : largest_of old < 16 * (blocks + extent_blocks count)
+  pub full_within : IsFullWithin (blocks + extent_blocks count) old new full
+  pub may_leave : MayLeave marks old full_within.taken count

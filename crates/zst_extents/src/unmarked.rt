@@ -2,9 +2,8 @@
 ghost use Rattle.std.specs.Prelude.{◌≡◌, ◌⊎◌, ◌↔◌, ◌+◌, ◌*◌, ◌<◌, ◌≤◌, ℕ, IfOk, OnOk, length};
 ghost use Rattle.zst_space.specs.FreeSectors.{IsFree, IsSpaceFrom, IsWithin};
 ghost use Rattle.zst_marks.specs.Marks.{HasRoomFor, IsMarked};
-ghost use Rattle.zst_block.specs.IoCalls.{IsFull};
 ghost use Rattle.zst_tree.specs.Faults.{IfFault};
-ghost use Rattle.zst_extents.specs.UnmarkedExtents.{AreUnmarked, IsFullFor, IsSpaceUpTo, MarksTaken, TakesEnough, TakesMarked};
+ghost use Rattle.zst_extents.specs.UnmarkedExtents.{AreUnmarked, IsFullFor, IsFullWithin, IsSpaceUpTo, MarksTaken, TakesEnough, TakesMarked};
 
 use crate::reads::MOST_EXTENTS;
 use crate::writes::blocks_for;
@@ -36,7 +35,7 @@ fn take_marked(
     requires room { HasRoomFor marks.old end }
     ensures taken { OnOk result (TakesMarked end blocks space.old space.new marks.old marks.new) }
     ensures fewer { (sector : ℕ) → IsFree space.new sector → IsFree space.old sector }
-    ensures full { IfFault result (λ full. IsFull (16 * blocks) 16 space.old space.new full.need full.largest) }
+    ensures full { IfFault result (IsFullWithin blocks space.old space.new) }
     ensures kept { IsSpaceFrom 8 space.new }
     ensures sectors { space.new.sectors ≡ space.old.sectors }
 {
@@ -70,9 +69,9 @@ pub fn leave_unmarked(
     // The space's extents stand before the end that it had, and it has none that is earlier.
     ensures left { OnOk result (IsSpaceUpTo space.old.end space.new) }
 
-    // Whatever it answers, no sector becomes free.
+    // Whatever it answers, no sector becomes free. It stops only where no free extent has the 16 sectors of one of these blocks.
     ensures fewer { (sector : ℕ) → IsFree space.new sector → IsFree space.old sector }
-    ensures full { IfFault result (λ full. IsFullFor blocks marks.old space.old space.new full) }
+    ensures full { IfFault result (IsFullFor blocks marks.old space.old space.new) }
     ensures kept { IsSpaceFrom 8 space.new }
     ensures sectors { space.new.sectors ≡ space.old.sectors }
 {

@@ -6,7 +6,7 @@ use Rattle.zst_outside.specs.Images.{OnlyReads-none}
 use Rattle.zst_space.specs.FreeSectors.{FreeSectors, IsFree, IsSpaceFrom, largest_of}
 use Rattle.zst_space.specs.declared.space.Extent.{Extent}
 use Rattle.zst_space.specs.declared.space.SpaceFault.{SpaceFault}
-use Rattle.zst_space.proofs.FreeSectorsLaws.{IsFree-from}
+use Rattle.zst_space.proofs.FreeSectorsLaws.{IsFree-from, IsSpaceFrom-earlier}
 use Rattle.zst_marks.specs.Marks.{Apart, Follow, IsMarked}
 use Rattle.zst_block.specs.Blocks.{FitsDisk, Has, SparesTaken}
 use Rattle.zst_block.specs.IoCalls.{IsBlockLength, IsFull, TakesAtMost, Works, fails, is_damage}
@@ -16,7 +16,7 @@ use Rattle.zst_block.specs.declared.fault.BlockFault.TheVariants as blocks
 use Rattle.zst_block.specs.declared.ptr.Ptr.{Ptr}
 use Rattle.zst_block.proofs.BlocksLaws.{FillsFree-reads, Has-fewer, Has-spared, SparesTaken-fewer}
 use Rattle.zst_block.proofs.IoCallLemmas.{Looks-none}
-use Rattle.zst_block.proofs.TakenSectors.{of_tree, takes_more}
+use Rattle.zst_block.proofs.TakenSectors.{takes_more}
 use Rattle.zst_tree.specs.Faults.{IfFault}
 use Rattle.zst_tree.specs.declared.or_memory.OrMemory.{OrMemory}
 use Rattle.zst_tree.specs.declared.or_memory.OrMemory.TheVariants.{Fault}
@@ -24,8 +24,10 @@ use Rattle.zst_leaves.specs.Leaves.{Laid, leaves_for}
 use Rattle.zst_dir.specs.Rows.{Rows}
 use Rattle.zst_dir.specs.Spelling.{dir_bytes}
 use Rattle.zst_extents.specs.StoredExtents.{extent_blocks, tree_blocks}
-use Rattle.zst_extents.specs.UnmarkedExtents.{AreUnmarked, IsFullFor, MarksTaken, MayLeave, TakesEnough}
+use Rattle.zst_extents.specs.UnmarkedExtents.{AreUnmarked, IsFullAfter, IsFullFor, MarksTaken, MayLeave, TakesEnough}
 use Rattle.zst_extents.proofs.ApartExtents.{IsSpaceFrom-apart}
+use Rattle.zst_extents.proofs.BlocksInTurn.{stops_behind}
+use Rattle.zst_extents.proofs.MarkedBlocks.{MayLeave-unmarked}
 use Rattle.zst_extents.proofs.Stored.{FillsFree-less}
 use Rattle.zst_extents.proofs.TakenWorks.{left_with}
 use Rattle.zst_extents.proofs.TreeBlocks.{few_above}
@@ -114,56 +116,48 @@ module _ (body next : Body) (marks later : List ℕ) (space left : FreeSectors) 
     taken = λ byte starts ends free. gone (byte / 512) (laid.2 byte starts ends) (λ still. laid.0.taken byte starts ends (fewer (byte / 512) still)) free;
   }
 
--- the extents are some that may be left
-pub MayLeave-left : (body : Body) (marks later : List ℕ) (space left : FreeSectors) (extents : List Extent) → IsLeft body marks later space left extents → MayLeave marks body.uber.end (length extents)
-MayLeave-left body marks later space left extents is = record {
-  extents = extents;
-  apart = is.unmarked.apart;
-  unmarked = λ sector some marked. ((is.unmarked.are sector).0 some).unmarked ((is.taken.marked sector).1 (inr marked));
-  counted = refl;
-}
-
 -- ---- how many sectors it takes
 
 -- the blocks of a directory of so many bytes and those of so many extents are no more than a commit takes
 few_sectors : (bytes count taken : ℕ) → bytes ≤ 134217728 → taken ≤ tree_blocks (leaves_for bytes) + extent_blocks count → 16 * taken ≤ commit_sectors bytes count
 few_sectors bytes count taken small few = omega (arith, few, few_above (leaves_for bytes) (omega (arith, small)))
 
-module _ (body : Body) (rows : Rows) (marks : List ℕ) (bytes : ℕ) (long : bytes ≡ length (dir_bytes rows)) (small : bytes ≤ 134217728) (old new : FreeSectors) (end : old.end ≡ body.uber.end) where
-  pub TakesForFreed-enough : (count : ℕ) → TakesEnough (tree_blocks (leaves_for bytes)) count marks old new → TakesForFreed body rows marks old new
-  TakesForFreed-enough count enough = record {
-    count = enough.most;
-    may_leave = subst (λ (n : ℕ). MayLeave marks n enough.most) end enough.may_leave;
-    takes = subst (λ (n : ℕ). TakesAtMost (commit_sectors n enough.most) (IsBlockLength 16) old new) long (takes_more (16 * enough.taken) _ old new (few_sectors bytes enough.most enough.taken small enough.few) enough.takes);
-  }
+module _ (rows : Rows) (marks : List ℕ) (bytes : ℕ) (long : bytes ≡ length (dir_bytes rows)) (small : bytes ≤ 134217728) (old new : FreeSectors) where
+  pub TakesForFreed-enough : (count : ℕ) → TakesEnough (tree_blocks (leaves_for bytes)) count marks old new → TakesForFreed rows count marks old new
+  TakesForFreed-enough count enough =
+      let few = takes_more (16 * enough.taken) (commit_sectors bytes enough.most) old new (few_sectors bytes enough.most enough.taken small enough.few) enough.takes in
+      let both = subst (λ (n : ℕ). (e : TakesEnough (tree_blocks (leaves_for n)) count marks old new) × TakesAtMost (commit_sectors n e.most) (IsBlockLength 16) old new) long (enough, few) in
+      record { enough = both.0; takes = both.1 }
 
-  IsFreedFull-copy : (full : SpaceFault) → IsFullFor (tree_blocks (leaves_for bytes)) marks old new full → IsFreedFull body rows marks old new full.need full.largest
-  IsFreedFull-copy full is = record {
-    shorter = omega (arith, is.shorter, is.need_is);
-    needed = is.need_is;
-    is_longest = is.is_longest;
-    count = is.count;
-    may_leave = subst (λ (n : ℕ). MayLeave marks n is.count) end is.may_leave;
-    before = subst (λ (n : ℕ). largest_of old < commit_sectors n is.count) long (omega (arith, is.before, few_sectors bytes is.count (tree_blocks (leaves_for bytes) + extent_blocks is.count) small (omega arith)));
-  }
-
-  -- E24 while blocks are taken
-  pub IsFreedFull-taken : (need largest : ℕ) (fault : OrMemory SpaceFault) → fault ≡ Fault (record { need = need; largest = largest }) → IfFault {T = Unit {0}} (Err fault) (λ full. IsFullFor (tree_blocks (leaves_for bytes)) marks old new full)
-      → IsFreedFull body rows marks old new need largest
-  IsFreedFull-taken need largest fault is told =
-      let full : SpaceFault = record { need = need; largest = largest } in
-      IsFreedFull-copy full (subst (λ (f : OrMemory SpaceFault). IfFault {T = Unit {0}} (Err f) (λ (l : SpaceFault). IsFullFor (tree_blocks (leaves_for bytes)) marks old new l)) is told)
-
-  -- and while they are written
-  pub IsFreedFull-written : (count need largest : ℕ) → MayLeave marks body.uber.end count → IsFull (commit_sectors bytes count) 16 old new need largest → IsFreedFull body rows marks old new need largest
-  IsFreedFull-written count need largest may_leave is = record {
-    shorter = is.shorter;
-    needed = of_tree is.needed;
-    is_longest = is.is_longest;
+  -- so many blocks are fewer than a commit takes
+  IsFreedFull-after : (taken count need largest : ℕ) → IsFullAfter taken old new need largest → MayLeave marks old taken count → taken ≤ tree_blocks (leaves_for bytes) + extent_blocks count
+      → largest_of old < 16 * (tree_blocks (leaves_for bytes) + extent_blocks count) → IsFreedFull rows marks old new need largest
+  IsFreedFull-after taken count need largest full may_leave few before = record {
+    taken = taken;
+    full_after = full;
     count = count;
     may_leave = may_leave;
-    before = subst (λ (n : ℕ). largest_of old < commit_sectors n count) long is.before;
+    few = subst (λ (n : ℕ). taken ≤ tree_blocks (leaves_for n) + extent_blocks count) long few;
+    before = subst (λ (n : ℕ). largest_of old < commit_sectors n count) long (omega (arith, before, few_sectors bytes count (tree_blocks (leaves_for bytes) + extent_blocks count) small (omega arith)));
   }
+
+  IsFreedFull-copy : (full : SpaceFault) → IsFullFor (tree_blocks (leaves_for bytes)) marks old new full → IsFreedFull rows marks old new full.need full.largest
+  IsFreedFull-copy full is = IsFreedFull-after is.full_within.taken is.count full.need full.largest is.full_within.full_after is.may_leave (omega (arith, is.full_within.fewer)) is.full_within.before
+
+  -- E24 while blocks are taken
+  pub IsFreedFull-taken : (need largest : ℕ) (fault : OrMemory SpaceFault) → fault ≡ Fault (record { need = need; largest = largest }) → IfFault {T = Unit {0}} (Err fault) (IsFullFor (tree_blocks (leaves_for bytes)) marks old new)
+      → IsFreedFull rows marks old new need largest
+  IsFreedFull-taken need largest fault is told =
+      let full : SpaceFault = record { need = need; largest = largest } in
+      IsFreedFull-copy full (subst (λ (f : OrMemory SpaceFault). IfFault {T = Unit {0}} (Err f) (IsFullFor (tree_blocks (leaves_for bytes)) marks old new)) is told)
+
+  -- and while they are written, where they could all be taken
+  pub IsFreedFull-written : (count need largest : ℕ) (left : FreeSectors) (later : List ℕ) (extents : List Extent) → IsSpaceFrom 8 old → (enough : TakesEnough (tree_blocks (leaves_for bytes)) count marks old left) → MarksTaken old.end old left marks later
+      → AreUnmarked later old.end extents → length extents ≡ count → TakesAtMost (16 * (tree_blocks (leaves_for bytes) + extent_blocks count)) (IsBlockLength 16) old new
+      → IsFull (16 * (tree_blocks (leaves_for bytes) + extent_blocks count)) 16 old new need largest → IsFreedFull rows marks old new need largest
+  IsFreedFull-written count need largest left later extents is enough marked are counted takes full =
+      let stops = stops_behind (tree_blocks (leaves_for bytes) + extent_blocks count) (tree_blocks (leaves_for bytes)) count _ need largest marks old new left (IsSpaceFrom-earlier 8 0 old (omega arith) is) enough takes full in
+      IsFreedFull-after stops.taken count need largest stops.full_after (MayLeave-unmarked enough.taken stops.taken count old left marks later extents stops.behind enough.after marked are counted) stops.few full.before
 
 -- ---- calls that write into free sectors alone
 

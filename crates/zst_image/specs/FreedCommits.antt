@@ -14,7 +14,7 @@ use Rattle.zst_leaves.specs.Leaves.{HasLeaves, Laid, leaves_for}
 use Rattle.zst_dir.specs.Rows.{Rows}
 use Rattle.zst_dir.specs.Spelling.{dir_bytes}
 use Rattle.zst_extents.specs.StoredExtents.{HasExtents, extent_blocks, tree_blocks}
-use Rattle.zst_extents.specs.UnmarkedExtents.{AreUnmarked, MayLeave}
+use Rattle.zst_extents.specs.UnmarkedExtents.{AreUnmarked, IsFullAfter, MayLeave, TakesEnough}
 use Rattle.zst_extents.specs.declared.writes.StoredExtents.{StoredExtents}
 use Rattle.zst_image.specs.Bodies.{Body, free_by}
 use Rattle.zst_image.specs.Commits.{HasItsExtents, IsNextBody, KeepsDisk, Ready, commit_sectors}
@@ -32,11 +32,14 @@ pub record AreSomeUnmarked (body : Body) (marks : List ℕ) (space : FreeSectors
   pub sectors : space.sectors ≡ body.uber.sectors
   pub unmarked : (sector : ℕ) → IsFree space sector → sector < body.uber.end → ¬ IsMarked marks sector
 
--- of the sectors that were free it takes what the commit of a directory with these rows takes beside so many extents as may be left
-pub record TakesForFreed (body : Body) (rows : Rows) (marks : List ℕ) (old left : FreeSectors) : Type 0 where
-  pub count : ℕ
-  pub may_leave : MayLeave marks body.uber.end count
-  pub takes : TakesAtMost (commit_sectors (length (dir_bytes rows)) count) (IsBlockLength 16) old left
+-- so many blocks the tree of a directory with these rows has
+abbrev pub dir_blocks : Rows → ℕ
+dir_blocks rows = tree_blocks (leaves_for (length (dir_bytes rows)))
+
+-- of the sectors that were free blocks are taken in turn: enough for a directory with these rows and for so many extents, and no more than a commit takes of it and of as many as are left at some time
+pub record TakesForFreed (rows : Rows) (count : ℕ) (marks : List ℕ) (old left : FreeSectors) : Type 0 where
+  pub enough : TakesEnough (dir_blocks rows) count marks old left
+  pub takes : TakesAtMost (commit_sectors (length (dir_bytes rows)) enough.most) (IsBlockLength 16) old left
 
 -- below the end from before exactly those sectors from 8 on are free by the next body that weren't marked, and that it didn't take
 abbrev pub AreLeftFree : (body : Body) (marks : List ℕ) (old left : FreeSectors) (next : Body) → Type 0
@@ -54,7 +57,7 @@ pub record FreedDir (body : Body) (rows : Rows) (marks : List ℕ) (old new : Io
   pub dir : kept.dir ≡ rows
   -- what is left of the free sectors once it has written
   pub left : FreeSectors
-  pub takes : TakesForFreed body rows marks old.space left
+  pub takes : TakesForFreed rows (length kept.body.free) marks old.space left
   pub end : kept.body.uber.end ≡ left.end
   pub exact : AreLeftFree body marks old.space left kept.body
   pub blocks : KeepsMarked body marks old.disk.seen new.disk.seen kept.body
@@ -63,13 +66,13 @@ pub record FreedDir (body : Body) (rows : Rows) (marks : List ℕ) (old new : Io
   pub space : free_by kept.body ≡ new.space
   pub ready : Ready new.disk kept.body
 
--- E24 of such a commit: the 16 sectors of a block of the directory or of the extents are longer than what is free then, and before it no free extent had as many as these take, with so many extents as may be left
-pub record IsFreedFull (body : Body) (rows : Rows) (marks : List ℕ) (old new : FreeSectors) (need largest : ℕ) : Type 0 where
-  pub shorter : largest < need
-  pub needed : need ≡ 16
-  pub is_longest : largest ≡ largest_of new
+-- E24 of such a commit: once so many blocks were taken in turn, no more than the directory and as many extents have as are left at some time, no free extent has the 16 sectors of one; and before it none had as many as a commit of these takes
+pub record IsFreedFull (rows : Rows) (marks : List ℕ) (old new : FreeSectors) (need largest : ℕ) : Type 0 where
+  pub taken : ℕ
+  pub full_after : IsFullAfter taken old new need largest
   pub count : ℕ
-  pub may_leave : MayLeave marks body.uber.end count
+  pub may_leave : MayLeave marks old taken count
+  pub few : taken ≤ dir_blocks rows + extent_blocks count
   pub before : largest_of old < commit_sectors (length (dir_bytes rows)) count
 
 -- How it goes before the commit.
@@ -91,7 +94,7 @@ pub record WritesTexts (number : ℕ) (bytes : List ℕ) (free : List Extent) (h
 -- what the next body names was written, beside all that is marked, and what it leaves free are the sectors that it didn't take
 pub record WritesFreed (body : Body) (rows : Rows) (marks : List ℕ) (old new : IoState) (next : Body) : Type 0 where
   pub is_next : IsNextBody (Has new.disk.seen (free_by next)) (free_by next) body body.uber.guids rows next
-  pub takes : TakesForFreed body rows marks old.space new.space
+  pub takes : TakesForFreed rows (length next.free) marks old.space new.space
   pub end : next.uber.end ≡ new.space.end
   pub exact : AreLeftFree body marks old.space new.space next
   pub blocks : KeepsMarked body marks old.disk.seen new.disk.seen next

@@ -9,10 +9,10 @@ ghost use Rattle.zst_uber.specs.DiskCalls.{HasDiskCause};
 ghost use Rattle.zst_model.specs.pools.Pool.{Pool};
 ghost use Rattle.zst_dir.specs.Rows.{Rows};
 ghost use Rattle.zst_dir.specs.Spelling.{IsDir, dir_bytes};
-ghost use Rattle.zst_leaves.specs.Leaves.{TellsNone};
+ghost use Rattle.zst_leaves.specs.Leaves.{TellsNone, leaves_for};
 ghost use Rattle.zst_leaves.specs.WrittenLeaves.{WritesLeaves};
 ghost use Rattle.zst_tree.specs.Faults.{fault_of};
-ghost use Rattle.zst_extents.specs.StoredExtents.{HasExtents, extent_blocks};
+ghost use Rattle.zst_extents.specs.StoredExtents.{HasExtents, extent_blocks, tree_blocks};
 ghost use Rattle.zst_image.specs.Bodies.{free_by};
 ghost use Rattle.zst_image.specs.Commits.{Commits, CommitsOver, CommittedDir, IsNextBody, KeepsDisk, NextIs, Ready, RefusedDir, TakesForDir, commit_sectors};
 ghost use Rattle.zst_image.specs.Faults.{stop_of_commit};
@@ -134,6 +134,7 @@ pub(crate) fn write_bytes<D: Disk>(
     ensures written { IfOk result (WritesLeaves number (blocks_of io.new) bytes.now io.old.space io.new.space) }
     ensures one_leaf { length bytes.now ≤ 8192 → OnOk result (room io.new.space + 16 ≡ room io.old.space) }
     ensures works { Works (dir_sectors (length bytes.now)) 16 (io_of io.old) (io_of io.new) (stop_of_commit result) }
+    ensures blocks { Works (16 * tree_blocks (leaves_for (length bytes.now))) 16 (io_of io.old) (io_of io.new) (stop_of_commit result) }
 {
     match write_leaves(io, bytes, number) {
         Ok(tree) => Ok(tree),

@@ -1,5 +1,5 @@
 // The commit of a directory that makes all sectors free that aren't marked.
-ghost use Rattle.std.specs.Prelude.{◌≡◌, ◌*◌, ◌<◌, ◌≤◌, ◌^◌, ℕ, Bool, false, length, Err, IfErr, IfOk};
+ghost use Rattle.std.specs.Prelude.{◌≡◌, ◌+◌, ◌*◌, ◌<◌, ◌≤◌, ◌^◌, ℕ, Bool, false, length, Err, IfErr, IfOk};
 ghost use Rattle.zst_space.specs.FreeSectors.{FreeSectors};
 ghost use Rattle.zst_marks.specs.Marks.{HasRoomFor};
 ghost use Rattle.zst_block.specs.Blocks.{Has};
@@ -8,8 +8,10 @@ ghost use Rattle.zst_block.specs.IoStates.{IsHonest, blocks_of, disk_of, io_of};
 ghost use Rattle.zst_tree.specs.declared.or_memory.OrMemory.TheVariants.{Fault};
 ghost use Rattle.zst_uber.specs.DiskCalls.{HasDiskCause};
 ghost use Rattle.zst_model.specs.pools.Pool.{Pool};
+ghost use Rattle.zst_leaves.specs.Leaves.{leaves_for};
+ghost use Rattle.zst_extents.specs.StoredExtents.{extent_blocks, tree_blocks};
 ghost use Rattle.zst_image.specs.Bodies.{free_by};
-ghost use Rattle.zst_image.specs.Commits.{CommitsOver, KeepsDisk, NextIs, Ready, RefusedDir, commit_sectors};
+ghost use Rattle.zst_image.specs.Commits.{CommitsOver, KeepsDisk, NextIs, Ready, RefusedDir};
 ghost use Rattle.zst_image.specs.Faults.{stop_of_commit};
 ghost use Rattle.zst_image.specs.FreedCommits.{AreAllUnmarked, AreSomeUnmarked, Fills, FreedDir, IsFreedFull, WritesFreed, WritesTexts};
 ghost use Rattle.zst_image.specs.declared.commit_fault.CommitFault.TheVariants.{Full, OutOfMemory};
@@ -50,7 +52,7 @@ pub fn commit_unmarked<D: Disk>(
         → NextIs tight (Has (disk_of io.old).seen all) body.now body.now.uber.guids dir next
         → CommitsOver tight (disk_of io.old) io.old.space (disk_of io.new) io.new.space next result }
     ensures made { IfOk result (FreedDir body.now dir marks (io_of io.old) (io_of io.new)) }
-    ensures full { IfErr result (λ fault. (need largest : ℕ) → fault ≡ Full need largest → IsFreedFull body.now dir marks io.old.space io.new.space need largest) }
+    ensures full { IfErr result (λ fault. (need largest : ℕ) → fault ≡ Full need largest → IsFreedFull dir marks io.old.space io.new.space need largest) }
     ensures refused { RefusedDir body.now (io_of io.old) (io_of io.new) result }
     ensures disk { KeepsDisk (fails (stop_of_commit result)) false (io_of io.old) (io_of io.new) }
     ensures cause { HasDiskCause CommitFault.DiskFault (disk_of io.old).faults (disk_of io.new).faults result }
@@ -82,7 +84,7 @@ fn write_freed<D: Disk>(
     requires room { HasRoomFor marks body.now.uber.end }
     ensures next { IfOk result (λ freed. WritesFreed body.now dir.now marks (io_of io.old) (io_of io.new) freed.0) }
     ensures space { IfOk result (λ freed. freed.1 ≡ free_by freed.0) }
-    ensures full { IfErr result (λ fault. (need largest : ℕ) → fault ≡ Full need largest → IsFreedFull body.now dir.now marks io.old.space io.new.space need largest) }
+    ensures full { IfErr result (λ fault. (need largest : ℕ) → fault ≡ Full need largest → IsFreedFull dir.now marks io.old.space io.new.space need largest) }
     ensures fills { Fills (io_of io.old) (io_of io.new) (stop_of_commit result) }
 {
     let number = body.uber().number + 1;
@@ -129,7 +131,7 @@ fn write_texts<D: Disk>(
     requires some { 0 < length bytes.now }
     requires few { length bytes.now ≤ 8192 * 128 ^ 2 }
     ensures written { IfOk result (λ texts. WritesTexts number bytes.now free.now (blocks_of io.new) io.old.space io.new.space texts.0 texts.1) }
-    ensures works { Works (commit_sectors (length bytes.now) (length free.now)) 16 (io_of io.old) (io_of io.new) (stop_of_commit result) }
+    ensures works { Works (16 * (tree_blocks (leaves_for (length bytes.now)) + extent_blocks (length free.now))) 16 (io_of io.old) (io_of io.new) (stop_of_commit result) }
 {
     let tree = write_bytes(io, bytes, number)?;
     match write_unmarked(io, alloc, free, number) {

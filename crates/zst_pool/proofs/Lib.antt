@@ -28,7 +28,6 @@ pub mod PartialRows
 pub mod CommandParts
 pub mod PlanLemmas
 pub mod Replies
-pub mod UnmarkedSectors
 pub mod UnreachedSectors
 pub mod ReclaimedPools
 pub mod ReclaimRuns

@@ -1,6 +1,6 @@
 -- What a reclaim makes of a pool at rest, and what of its blocks stands then, from what was found and what its commit did.
 use Rattle.std.specs.Prelude.{Result, Ok, Err, IfErr, IfOk, OnErr, OnOk}
-use Rattle.std.proofs.Common.{◌≡◌, ◌⊎◌, ◌↔◌, inl, inr, ℕ, ◌+◌, ◌<◌, ◌^◌, Bool, List, refl, sym, ap, ◌∙◌, subst, arith}
+use Rattle.std.proofs.Common.{◌≡◌, ◌⊎◌, ◌↔◌, inl, inr, ℕ, ◌+◌, ◌<◌, ◌^◌, Bool, List, refl, sym, ap, ◌∙◌, subst, arith, length}
 use Rattle.zst_outside.specs.Images.{DiskState, IsSynced, Leaves-then, Leaves-weaker, OnlyReads, OnlyReads-none}
 use Rattle.zst_space.specs.FreeSectors.{FreeSectors, IsFree}
 use Rattle.zst_marks.specs.Marks.{IsMarked}
@@ -16,7 +16,7 @@ use Rattle.zst_model.specs.pools.Step.{Stepped, committed}
 use Rattle.zst_dir.specs.Rows.{IsLawful, Rows}
 use Rattle.zst_image.specs.Bodies.{free_by}
 use Rattle.zst_image.specs.Commits.{Commits, NextIs, Ready, RefusedDir, Stays}
-use Rattle.zst_image.specs.FreedCommits.{FreedDir, IsFreedFull}
+use Rattle.zst_image.specs.FreedCommits.{FreedDir, IsFreedFull, TakesForFreed}
 use Rattle.zst_image.specs.Reads.{Rests, RunsBy, bound_of}
 use Rattle.zst_image.specs.declared.commit_fault.CommitFault.{CommitFault}
 use Rattle.zst_image.specs.declared.commit_fault.CommitFault.TheVariants as commits
@@ -33,7 +33,7 @@ use Rattle.zst_pool.specs.Checks.{next_of}
 use Rattle.zst_pool.specs.CommandRuns.{Did, kept_after}
 use Rattle.zst_pool.specs.Faults.{of_commit, of_committed}
 use Rattle.zst_pool.specs.FoundCommits.{CommitsFound, over_found}
-use Rattle.zst_pool.specs.Reclaims.{AreUnreached, FindsAllReached, Reclaimed, Reclaims, SparesReached}
+use Rattle.zst_pool.specs.Reclaims.{AreUnreached, FindsAllReached, Reclaimed, Reclaims, SparesReached, TakesUnreached}
 use Rattle.zst_pool.specs.RowChanges.{RunsAs}
 use Rattle.zst_pool.specs.StepAnswers.{BeforeOrAfter}
 use Rattle.zst_pool.specs.declared.fault.PoolFault.{PoolFault}
@@ -136,17 +136,31 @@ module _ (held : List HeldBlocks) (mid new : IoState) (kept : PoolState) (found 
       (spared_by commit.made refl (λ is. apart (commit.answers ∙ ap (λ (r : Result PoolState CommitFault). of_committed r) is)))
 
   -- E24 comes only where nothing unreached was long enough
-  full_so : (need largest : ℕ) → IsFreedFull kept.body kept.dir found.marks found.space new.space need largest → FindsAllReached mid.disk.seen kept held new.space need largest
+  full_so : (need largest : ℕ) → IsFreedFull kept.dir found.marks found.space new.space need largest → FindsAllReached mid.disk.seen kept held new.space need largest
   full_so need largest is = record {
-    shorter = is.shorter;
-    needed = is.needed;
-    is_longest = is.is_longest;
     writable = found.space;
     unreached = are_unreached kept found fits mid.disk.seen held marked unreached;
+    taken = is.taken;
+    full_after = is.full_after;
     count = is.count;
-    may_be_left = may_be_left kept found fits mid.disk.seen held marked unreached is.count is.may_leave;
+    may_be_left = may_be_left kept found fits mid.disk.seen held marked unreached is.taken is.count is.may_leave;
+    few = is.few;
     before = is.before;
   }
+
+  -- what was taken of what nothing reached
+  taken_so : (count : ℕ) (left : FreeSectors) → TakesForFreed kept.dir count found.marks found.space left → TakesUnreached mid.disk.seen kept held count found.space left
+  taken_so count left is =
+      let enough = is.enough in
+      record {
+        taken = enough.taken;
+        after = enough.after;
+        enough = enough.enough;
+        most = enough.most;
+        may_be_left = may_be_left kept found fits mid.disk.seen held marked unreached enough.taken enough.most enough.may_leave;
+        few = enough.few;
+        takes = is.takes;
+      }
 
   -- what was made free, and what was taken and written for it
   reclaims_by : (made : Result PoolState CommitFault) → commit.made ≡ made → Reclaims held mid.disk new.disk kept (kept_after kept (of_committed made)) new.space (of_committed made)
@@ -159,10 +173,8 @@ module _ (held : List HeldBlocks) (mid new : IoState) (kept : PoolState) (found 
           sectors = done.sectors;
           writable = found.space;
           unreached = are_unreached kept found fits mid.disk.seen held marked unreached;
-          count = done.takes.count;
-          may_be_left = may_be_left kept found fits mid.disk.seen held marked unreached done.takes.count done.takes.may_leave;
           left = done.left;
-          takes = done.takes.takes;
+          takes = taken_so (length after.body.free) done.left done.takes;
           end = done.end;
           exact = exactly_left kept found fits mid.disk.seen held marked unreached done.left after done.exact;
         };
@@ -172,7 +184,7 @@ module _ (held : List HeldBlocks) (mid new : IoState) (kept : PoolState) (found 
   reclaims_by (Err fault) same = record {
     done = tt;
     full = λ need largest is.
-        let told = subst (λ (r : Result PoolState CommitFault). IfErr r (λ f. (n l : ℕ) → f ≡ commits.Full n l → IsFreedFull kept.body kept.dir found.marks found.space new.space n l)) same commit.full in
+        let told = subst (λ (r : Result PoolState CommitFault). IfErr r (λ f. (n l : ℕ) → f ≡ commits.Full n l → IsFreedFull kept.dir found.marks found.space new.space n l)) same commit.full in
         full_so need largest (told need largest (full_commit fault need largest is));
     spares = λ apart space are.
         SparesTaken-fewer space found.space mid.disk.seen new.disk.seen (same_unreached kept found fits mid.disk.seen held marked unreached space are)

@@ -8,7 +8,7 @@ use Rattle.zst_space.proofs.FreeSectorsLaws.{IsFree-from, Rise-end}
 use Rattle.zst_marks.specs.Marks.{Apart, IsMarked}
 use Rattle.zst_block.specs.Blocks.{FitsDisk, Has, IsBlock, IsTaken}
 use Rattle.zst_extents.specs.UnmarkedExtents.{AreUnmarked, MayLeave}
-use Rattle.zst_extents.proofs.ApartExtents.{Apart-end, Apart-rise, IsSpaceFrom-apart}
+use Rattle.zst_extents.proofs.ApartExtents.{Apart-end, IsSpaceFrom-apart}
 use Rattle.zst_model.specs.pools.Pool.{Pool}
 use Rattle.zst_model.proofs.FilteredLists.{filter_contains}
 use Rattle.zst_dir.specs.Rows.{Rows}
@@ -28,7 +28,7 @@ use Rattle.zst_roots.specs.declared.held.HeldBlocks.{HeldBlocks}
 use Rattle.zst_roots.specs.declared.unreached.UnreachedSectors.{UnreachedSectors}
 use Rattle.zst_roots.proofs.KeptRows.{RunsBy-kept}
 use Rattle.zst_pool.specs.Reclaims.{AreUnreached, MayBeLeft}
-use Rattle.zst_pool.proofs.UnmarkedSectors.{unmarked_extents}
+use Rattle.zst_extents.proofs.UnmarkedSectors.{unmarked_extents}
 
 -- these extents are free too
 abbrev pub beside : FreeSectors → List Extent → FreeSectors
@@ -158,14 +158,26 @@ module _ (kept : PoolState) (found : UnreachedSectors) (fits : IsFoundFor kept.b
       lawful = is.lawful;
     }
 
-    -- extents none of whose sectors is marked have none that stays reached
-    pub may_be_left : (count : ℕ) → MayLeave found.marks kept.body.uber.end count → MayBeLeft image kept held count
-    may_be_left count left = record {
+    -- extents that are left once blocks were taken and marked are left of what doesn't stay reached
+    pub may_be_left : (taken count : ℕ) → MayLeave found.marks found.space taken count → MayBeLeft image kept held found.space taken count
+    may_be_left taken count left = record {
+      by = left.by;
+      earlier = left.earlier;
       extents = left.extents;
-      apart = left.apart;
-      unreached = λ sector listed stays.
-          let under = rises_below 8 left.extents kept.body.uber.end sector (Apart-rise 8 left.extents kept.body.uber.end left.apart) listed in
-          left.unmarked sector listed ((marked sector under).1 stays);
+      apart = subst (λ (n : ℕ). Apart 8 left.extents n) fits.end left.are.apart;
+      are = λ sector under.
+          let below : sector < found.space.end = omega (arith, under, fits.end) in (
+            (λ listed.
+                let is = (left.are.are sector).0 listed in (
+                  (λ stays. is.unmarked ((left.marked.marked sector).1 (inr ((marked sector under).1 stays)))),
+                  (λ gone. is.unmarked ((left.marked.marked sector).1 (inl (record { under = below; was_free = gone.0; taken = gone.1 })))),
+                )),
+            (λ both. (left.are.are sector).1 (record {
+              from_on = elim (cases_lt sector 8) [ inl less ↦ absurd (both.0 (inl less)) | inr on ↦ on ];
+              under = below;
+              unmarked = λ is. ⊎_elim (λ gone. both.1 (gone.was_free, gone.taken)) (λ was. both.0 ((marked sector under).0 was)) ((left.marked.marked sector).0 is);
+            })),
+          );
       counted = left.counted;
     }
 

@@ -27,7 +27,7 @@ pub record CommitsFound (kept : PoolState) (found : UnreachedSectors) (old new :
   pub over : (tight : Bool) (all : FreeSectors) (next : Pool) → new.disk.honest → AreAllUnmarked kept.body found.marks all → NextIs tight (Has old.disk.seen all) kept.body kept.body.uber.guids kept.dir next
       → CommitsOver tight old.disk found.space new.disk new.space next made
   pub done : IfOk made (FreedDir kept.body kept.dir found.marks (over_found found old) new)
-  pub full : IfErr made (λ fault. (need largest : ℕ) → fault ≡ Full need largest → IsFreedFull kept.body kept.dir found.marks found.space new.space need largest)
+  pub full : IfErr made (λ fault. (need largest : ℕ) → fault ≡ Full need largest → IsFreedFull kept.dir found.marks found.space new.space need largest)
   pub refused : RefusedDir kept.body (over_found found old) new made
   pub disk : KeepsDisk (fails (stop_of_commit made)) false (over_found found old) new
   pub cause : HasDiskCause DiskFault old.disk.faults new.disk.faults made

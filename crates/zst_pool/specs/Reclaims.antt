@@ -1,14 +1,18 @@
 -- What a reclaim of a pool writes, takes and makes free beside what sessions hold, and what stands after each command.
-use Rattle.std.specs.Prelude.{◌≡◌, ◌⊎◌, ◌↔◌, ◌+◌, ◌<◌, ℕ, List, All, length, Result, Err, IfErr, OnErr, OnOk}
+use Rattle.std.specs.Prelude.{◌≡◌, ◌⊎◌, ◌↔◌, ◌+◌, ◌<◌, ◌≤◌, ℕ, List, All, length, Result, Err, IfErr, OnErr, OnOk}
 use Rattle.zst_outside.specs.Images.{DiskState}
 use Rattle.zst_space.specs.FreeSectors.{FreeSectors, IsFree, IsInSome, largest_of}
+use Rattle.zst_space.specs.TakenExtents.{without_blocks}
 use Rattle.zst_space.specs.declared.space.Extent.{Extent}
 use Rattle.zst_marks.specs.Marks.{Apart}
 use Rattle.zst_block.specs.Blocks.{Has, IsBlock, KeepsBlocks, SparesTaken}
 use Rattle.zst_block.specs.IoCalls.{IsBlockLength, TakesAtMost}
 use Rattle.zst_dir.specs.Spelling.{dir_bytes}
+use Rattle.zst_extents.specs.StoredExtents.{extent_blocks}
+use Rattle.zst_extents.specs.UnmarkedExtents.{IsFullAfter}
 use Rattle.zst_image.specs.Bodies.{Body, free_by}
 use Rattle.zst_image.specs.Commits.{commit_sectors}
+use Rattle.zst_image.specs.FreedCommits.{dir_blocks}
 use Rattle.zst_image.specs.declared.pool_state.PoolState.{PoolState}
 use Rattle.zst_roots.specs.Held.{HeldReaches}
 use Rattle.zst_roots.specs.ReachedRows.{RowsReach}
@@ -36,12 +40,25 @@ pub record AreUnreached (image : List ℕ) (kept : PoolState) (held : List HeldB
   pub apart : Apart 8 space.free kept.body.uber.end
   pub below : (sector : ℕ) → sector < kept.body.uber.end → IsFree space sector ↔ ¬ IsReached (IsBlock image) kept.body.uber kept.dir held sector
 
--- so many free extents may be left at some time of a reclaim: below the end they are apart, and none of their sectors stays reached
-pub record MayBeLeft (image : List ℕ) (kept : PoolState) (held : List HeldBlocks) (count : ℕ) : Type 0 where
+-- So many free extents are left at some time while a reclaim takes no more than so many blocks in turn: those of the sectors from 8 on and below the end that don't stay reached, and that it didn't take by then.
+pub record MayBeLeft (image : List ℕ) (kept : PoolState) (held : List HeldBlocks) (writable : FreeSectors) (taken count : ℕ) : Type 0 where
+  -- so many blocks it took by then
+  pub by : ℕ
+  pub earlier : by ≤ taken
   pub extents : List Extent
   pub apart : Apart 8 extents kept.body.uber.end
-  pub unreached : (sector : ℕ) → IsInSome extents sector → ¬ StaysReached (IsBlock image) kept.dir held sector
+  pub are : (sector : ℕ) → sector < kept.body.uber.end → IsInSome extents sector ↔ ((¬ StaysReached (IsBlock image) kept.dir held sector) × ¬ (IsFree writable sector × ¬ IsFree (without_blocks by writable) sector))
   pub counted : length extents ≡ count
+
+-- of the sectors that nothing reaches a reclaim takes blocks in turn: enough for the directory and for so many free extents, and no more than its commit takes of it and of as many as are left at some time
+pub record TakesUnreached (image : List ℕ) (kept : PoolState) (held : List HeldBlocks) (count : ℕ) (writable left : FreeSectors) : Type 0 where
+  pub taken : ℕ
+  pub after : left ≡ without_blocks taken writable
+  pub enough : dir_blocks kept.dir + extent_blocks count ≤ taken
+  pub most : ℕ
+  pub may_be_left : MayBeLeft image kept held writable taken most
+  pub few : taken ≤ dir_blocks kept.dir + extent_blocks most
+  pub takes : TakesAtMost (commit_sectors (length (dir_bytes kept.dir)) most) (IsBlockLength 16) writable left
 
 -- what a reclaim makes of a pool: the rows stay, and it wrote into sectors alone that nothing reached
 pub record Reclaimed (image : List ℕ) (held : List HeldBlocks) (before after : PoolState) : Type 0 where
@@ -51,24 +68,22 @@ pub record Reclaimed (image : List ℕ) (held : List HeldBlocks) (before after :
   -- into these it might write
   pub writable : FreeSectors
   pub unreached : AreUnreached image before held writable
-  -- it took no more of them than the commit of its directory does beside as many free extents as may be left at some time of it, and these are left
-  pub count : ℕ
-  pub may_be_left : MayBeLeft image before held count
+  -- it took what its directory and the free extents that it leaves take, and these are left
   pub left : FreeSectors
-  pub takes : TakesAtMost (commit_sectors (length (dir_bytes before.dir)) count) (IsBlockLength 16) writable left
+  pub takes : TakesUnreached image before held (length after.body.free) writable left
   pub end : after.body.uber.end ≡ left.end
   -- below the end from before exactly those sectors are free that nothing reaches but the directory and the extents from before, and that it didn't take
   pub exact : (sector : ℕ) → sector < before.body.uber.end → IsFree (free_by after.body) sector ↔ ((¬ StaysReached (IsBlock image) before.dir held sector) × ¬ (IsFree writable sector × ¬ IsFree left sector))
 
--- E24 of a reclaim: the 16 sectors of a block of the directory or of the extents are longer than what is left then; and of the sectors that nothing reached none were as many in a row as these take, beside as many free extents as may be left at some time of it
+-- E24 of a reclaim: of the sectors that nothing reached it took so many blocks in turn, no more than its directory and as many free extents have as are left at some time, and then no extent has the 16 sectors of one; and none of them were as many in a row as its commit takes of these
 pub record FindsAllReached (image : List ℕ) (kept : PoolState) (held : List HeldBlocks) (left : FreeSectors) (need largest : ℕ) : Type 0 where
-  pub shorter : largest < need
-  pub needed : need ≡ 16
-  pub is_longest : largest ≡ largest_of left
   pub writable : FreeSectors
   pub unreached : AreUnreached image kept held writable
+  pub taken : ℕ
+  pub full_after : IsFullAfter taken writable left need largest
   pub count : ℕ
-  pub may_be_left : MayBeLeft image kept held count
+  pub may_be_left : MayBeLeft image kept held writable taken count
+  pub few : taken ≤ dir_blocks kept.dir + extent_blocks count
   pub before : largest_of writable < commit_sectors (length (dir_bytes kept.dir)) count
 
 -- a reclaim, whatever the image is: what it made free, where it found no room, and that a refusal but that of the disk wrote into sectors alone that nothing reached

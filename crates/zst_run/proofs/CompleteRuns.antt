@@ -139,7 +139,7 @@ never_full command body rows pool now here here' after need largest room unreach
     ⊎_elim
     (λ one.
     let found = (opened.2.reclaims one).full need largest refl in
-    let enough = unreached one opened.0 opened.1 found.1.writable found.1.count opened.2.opens found.1.unreached found.1.may_be_left in
+    let enough = unreached one opened.0 opened.1 found.1.writable found.1.taken found.1.count opened.2.opens found.1.unreached found.1.may_be_left found.1.few in
     let before = found.1.before in
     omega (arith, before, enough))
     (λ other. ⊎_elim (λ most. let short = (full.short other).1.room in omega (arith, short, most)) (λ less. less (full.costs other)) (room other))

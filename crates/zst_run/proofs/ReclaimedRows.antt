@@ -24,7 +24,7 @@ use Rattle.zst_image.specs.declared.pool_state.PoolState.{PoolState}
 use Rattle.zst_reach.proofs.KeptTexts.{HasLeaves-kept}
 use Rattle.zst_roots.specs.Unreached.{IsReached}
 use Rattle.zst_pool.specs.Reclaims.{AreUnreached}
-use Rattle.zst_pool.proofs.UnmarkedSectors.{unmarked_extents}
+use Rattle.zst_extents.proofs.UnmarkedSectors.{unmarked_extents}
 use Rattle.zst_pool.proofs.UnreachedSectors.{beside, fewer_beside, free_still}
 
 -- ---- sectors that can't be told by a test

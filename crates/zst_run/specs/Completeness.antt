@@ -6,8 +6,10 @@ use Rattle.zst_outside.specs.Images.{DiskState}
 use Rattle.zst_outside.specs.States.{SourceState, SinkState, Gave}
 use Rattle.zst_uber.specs.Slots.{latest}
 use Rattle.zst_space.specs.FreeSectors.{FreeSectors, largest_of}
+use Rattle.zst_extents.specs.StoredExtents.{extent_blocks}
 use Rattle.zst_image.specs.Bodies.{Body, free_by}
 use Rattle.zst_image.specs.Commits.{commit_sectors}
+use Rattle.zst_image.specs.FreedCommits.{dir_blocks}
 use Rattle.zst_model.specs.declared.pools.command.Command.{Command}
 use Rattle.zst_model.specs.declared.pools.command.Command.TheVariants as commands
 use Rattle.zst_model.specs.declared.refusals.refusal.Refusal.{Refusal}
@@ -166,10 +168,10 @@ RestTransfersComplete here here' there there' =
 abbrev pub HasRoomFor : Command → Body → Rows → Pool → Result Stepped Refusal → Type 0
 HasRoomFor command body rows pool after = (most_of command body rows pool ≤ largest_of (free_by body)) ⊎ ¬ (CostsMore (cost_of command).cells ((cost_of command).block pool) ((cost_of command).list pool) body after)
 
--- there is for a reclaim: by the body and the directory that are opened some extent that nothing reaches has as many sectors as it takes, beside each count of free extents that may be left at some time of it
+-- there is for a reclaim: by the body and the directory that are opened some extent that nothing reaches has as many sectors as it takes, beside each count of free extents that are left at some time while it takes no more blocks than the directory and these have
 abbrev pub HasRoomToReclaim : DiskState → Type 0
-HasRoomToReclaim here = (body : Body) (rows : Rows) (writable : FreeSectors) (count : ℕ) → Opens here body rows
-    → AreUnreached here.seen (as_kept body rows) [] writable → MayBeLeft here.seen (as_kept body rows) [] count → commit_sectors (length (dir_bytes (kept_rows rows))) count ≤ largest_of writable
+HasRoomToReclaim here = (body : Body) (rows : Rows) (writable : FreeSectors) (taken count : ℕ) → Opens here body rows → AreUnreached here.seen (as_kept body rows) [] writable
+    → MayBeLeft here.seen (as_kept body rows) [] writable taken count → taken ≤ dir_blocks (kept_rows rows) + extent_blocks count → commit_sectors (length (dir_bytes (kept_rows rows))) count ≤ largest_of writable
 
 -- A run of a command on an image that reads as a pool: where the definition accepts it, there is room for it by the latest body, and neither
 -- the disk nor the output counted a fault, it is done, or no memory was left.

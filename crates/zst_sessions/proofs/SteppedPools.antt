@@ -298,4 +298,4 @@ module _ {D : Type 0} {g : Ghosts D} (old new : Pool D g) where
       starved : (answer : Result (List (List ℕ)) PoolFault) → Reclaims blocks (disk_of old.io) (disk_of new.io) old.kept new.kept new.io.space answer
           → (need largest : ℕ) → answer ≡ Err (faults.Full need largest) → largest < need
       starved (Ok reply) reclaims need largest is = absurd (cc is)
-      starved (Err fault) reclaims need largest is = let fell : fault ≡ faults.Full need largest = cc is in let room_is = reclaims.full need largest fell in room_is.shorter
+      starved (Err fault) reclaims need largest is = let fell : fault ≡ faults.Full need largest = cc is in let room_is = reclaims.full need largest fell in room_is.full_after.shorter

@@ -1,11 +1,10 @@
-use Rattle.std.proofs.Common.{rules, ◌≡◌, ◌+◌, ℕ, length, ◌∙◌, ap, subst, arith}
+use Rattle.std.proofs.Common.{rules, ◌≡◌, ◌+◌, length, ◌∙◌, ap, arith}
 use Rattle.std.specs.Prelude.{Vec}
 use Rattle.std.specs.declared.alloc.Global.{Global}
 use Rattle.zst_space.specs.declared.space.Extent.{Extent}
 use Rattle.zst_space.proofs.FreeSectorsLaws.{Rise-end}
 use Rattle.zst_extents.specs.StoredExtents.{extent_blocks}
-use Rattle.zst_extents.specs.UnmarkedExtents.{MayLeave}
-use Rattle.zst_extents.proofs.MarkedBlocks.{IsFullFor-first, MayLeave-none, TakesRounds-next, fault_passed}
+use Rattle.zst_extents.proofs.MarkedBlocks.{IsFullFor-first, IsFullFor-next, TakesRounds-next, TakesRounds-none, fault_passed}
 use Rattle.zst_extents.proofs.unmarked.leave_unmarked.Goals as goal
 
 pub returns-in_err-take_marked-clause-full : goal.returns-in_err-take_marked-clause-full
@@ -20,20 +19,22 @@ unmarked-requires-clause-order c = omega (arith, Rise-end 8 c.args.space.now.end
 pub rounds-init : goal.rounds-init
 rounds-init c =
     let inside = Rise-end 8 c.args.space.now.end c.args.space.now.free c.requires.space.extents in
-    let none : c.args.blocks + 0 ≡ c.args.blocks = omega arith in
-    record {
-      rounds = rw none c.in_ok-take_marked.ensures.taken;
-      most = 0;
-      may_leave = MayLeave-none c.args.marks.now c.end-end.result (omega (arith, inside, c.end-end.ensures));
-      few = omega arith;
-    }
+    TakesRounds-none c.end-end.result c.args.blocks c.args.space.now c.take_marked.new.space c.args.marks.now c.take_marked.new.marks c.end-end.ensures inside c.in_ok-take_marked.ensures.taken
 
 pub rounds-preserved : goal.rounds-preserved
 rounds-preserved c =
     let extents = c.in_ok-extents in
     let long : c.len-in-rounds.result ≡ length extents.extents.items = search rules in
-    TakesRounds-next c.end-end.result c.args.blocks c.rounds.taken c.blocks_for-needed.result c.args.space.now c.rounds.space c.take_marked-in-rounds.new.space c.args.marks.now c.rounds.marks c.take_marked-in-rounds.new.marks
-    extents.extents.items c.rounds.invariant (omega (arith, c.if-needed-taken.false)) (c.blocks_for-needed.ensures ∙ ap extent_blocks long) extents.ensures.rise extents.ensures.are c.in_ok-take_marked-2.ensures.taken
+    TakesRounds-next c.end-end.result c.args.blocks c.rounds.taken c.args.space.now c.rounds.space c.args.marks.now c.rounds.marks extents.extents.items c.rounds.invariant (record { apart = extents.ensures.rise; are = extents.ensures.are })
+    c.blocks_for-needed.result c.take_marked-in-rounds.new.space c.take_marked-in-rounds.new.marks (omega (arith, c.if-needed-taken.false)) (c.blocks_for-needed.ensures ∙ ap extent_blocks long) c.in_ok-take_marked-2.ensures.taken
+
+pub returns-in_err-take_marked-2-clause-full : goal.returns-in_err-take_marked-2-clause-full
+returns-in_err-take_marked-2-clause-full c =
+    let extents = c.in_ok-extents in
+    let long : c.len-in-rounds.result ≡ length extents.extents.items = search rules in
+    fault_passed (Vec Extent Global) (Unit {0}) _ _ c.from_residual-in_err-take_marked-2.result c.in_err-take_marked-2.field-0.0 c.from_residual-in_err-take_marked-2.ensures.1
+    (λ full is. IsFullFor-next c.end-end.result c.args.blocks c.rounds.taken c.args.space.now c.rounds.space c.args.marks.now c.rounds.marks extents.extents.items c.rounds.invariant (record { apart = extents.ensures.rise; are = extents.ensures.are })
+    c.blocks_for-needed.result c.take_marked-in-rounds.new.space full (omega (arith, c.if-needed-taken.false)) (c.blocks_for-needed.ensures ∙ ap extent_blocks long) is) c.in_err-take_marked-2.ensures.full
 
 pub returns-then-needed-taken-clause-enough : goal.returns-then-needed-taken-clause-enough
 returns-then-needed-taken-clause-enough c =
@@ -44,8 +45,9 @@ returns-then-needed-taken-clause-enough c =
       taken = c.args.blocks + c.rounds.taken;
       after = inv.rounds.after;
       takes = inv.rounds.takes;
+      room_is = inv.rounds.room_is;
       enough = omega (arith, needed, c.if-needed-taken.true);
       most = inv.most;
-      may_leave = subst (λ (end : ℕ). MayLeave c.args.marks.now end inv.most) c.end-end.ensures inv.may_leave;
+      may_leave = inv.may_leave;
       few = omega (arith, inv.few);
     }

@@ -1,4 +1,4 @@
-use Rattle.std.proofs.Common.{rules, ◌+◌, ◌<◌, ◌≤◌, inl, refl, arith}
+use Rattle.std.proofs.Common.{rules, ◌+◌, ◌<◌, ◌≤◌, refl, arith}
 use Rattle.zst_space.specs.FreeSectors.{largest_of}
 use Rattle.zst_space.proofs.FreeSectorsLaws.{IsSpaceFrom-earlier}
 use Rattle.zst_extents.proofs.MarkedBlocks.{TakesMarked-none, TakesMarked-one, TakesMarked-then, block_whole}
@@ -24,4 +24,9 @@ pub returns-in-Err-clause-full : goal.returns-in-Err-clause-full
 returns-in-Err-clause-full c =
     let inv = c.loop-k.invariant in
     let under : largest_of c.loop-k.space < 16 = search rules in
-    rw (c.in-Err.ensures.full, c.in-Err.ensures.unchanged) (record { shorter = under; is_longest = refl; needed = inl refl; before = omega (arith, inv.takes.longest, under) })
+    rw (c.in-Err.ensures.full, c.in-Err.ensures.unchanged) (record {
+      taken = c.loop-k.k;
+      fewer = search rules;
+      full_after = record { needed = refl; shorter = under; is_longest = refl; after = inv.after };
+      before = omega (arith, inv.takes.longest, under);
+    })

@@ -1,6 +1,7 @@
-use Rattle.std.proofs.Common.{rules, ℕ, List, refl, ap, sym, ◌∙◌, subst, Bool}
+use Rattle.std.proofs.Common.{rules, arith, ℕ, List, refl, ap, sym, ◌∙◌, subst, Bool}
 use Rattle.std.specs.Prelude.{Err}
 use Rattle.std.proofs.lemmas.Result.{err_from_is_err_and}
+use Rattle.zst_outside.specs.Causes.{Rose-earlier}
 use Rattle.zst_outside.specs.Images.{Leaves}
 use Rattle.zst_space.specs.FreeSectors.{FreeSectors}
 use Rattle.zst_block.specs.Blocks.{FitsDisk, Has}
@@ -10,6 +11,7 @@ use Rattle.zst_block.proofs.BlocksLaws.{Has-label, IsTaken-label}
 use Rattle.zst_extents.proofs.ExtentGrowth.{HasExtents-grows}
 use Rattle.zst_model.specs.pools.Pool.{Pool}
 use Rattle.zst_uber.specs.Body.{InRange, UberFits}
+use Rattle.zst_uber.specs.declared.fault.UberFault.{UberFault}
 use Rattle.zst_uber.specs.Commit.{HasOldOrNew}
 use Rattle.zst_uber.specs.Slots.{IsNext, Stands, latest}
 use Rattle.zst_uber.specs.declared.uber.Uber.{Uber}
@@ -124,6 +126,14 @@ returns-in-Ok-clause-over g c = λ tight all next told are is.
       moments = prepared_event.1;
       answer = commit-rests (disk_of c.write_freed.new.io) new c.in_ok-next.next c.args.dir next prepared_event.0 c.commit_event.ensures.commits.written.writes stands c.in-Ok.ensures.commits.written.durable;
     }
+
+-- the disk failed when the body was written, after what was written before
+pub returns-in-Err-clause-cause : goal.returns-in-Err-clause-cause
+returns-in-Err-clause-cause g c =
+    let first = c.in_ok-next.ensures.fills.cause.later in
+    let event = c.in-Err.ensures.commits in
+    let only = event.only c.in-Err.field-0 refl in
+    record { later = omega (arith, first, event.cause.later); fault = λ is. Rose-earlier _ _ _ first (event.cause.fault (ap (λ (f : UberFault). Err f) only)) }
 
 pub returns-in-Err-clause-over : goal.returns-in-Err-clause-over
 returns-in-Err-clause-over g c = λ tight all next told are is.

@@ -17,7 +17,7 @@ use Rattle.zst_image.specs.Faults.{stop_of_commit}
 use Rattle.zst_image.specs.declared.commit_fault.CommitFault.TheVariants.{OutOfMemory}
 use Rattle.zst_image.proofs.Causes.{never_damaged}
 use Rattle.zst_image.proofs.Directories.{DirStands-bytes, IsDir-some}
-use Rattle.zst_image.proofs.FreedSectors.{Apart-later, AreLeftFree-left, Fills-left, Fills-none, Fills-works, Has-laid, IsFreedFull-taken, IsFreedFull-written, IsLeft, KeepsMarked-spared, MayLeave-left, TakesForFreed-enough, stop_full}
+use Rattle.zst_image.proofs.FreedSectors.{Apart-later, AreLeftFree-left, Fills-left, Fills-none, Fills-works, Has-laid, IsFreedFull-taken, IsFreedFull-written, IsLeft, KeepsMarked-spared, TakesForFreed-enough, stop_full}
 use Rattle.zst_image.proofs.freed_commits.write_freed.Given.{Over}
 use Rattle.zst_image.proofs.freed_commits.write_freed.Goals as goal
 use Rattle.zst_image.proofs.freed_commits.write_freed.Goals.{After-text_blocks-blocks, In-Ok, In_ok-tree}
@@ -46,7 +46,7 @@ pub returns-in-Err-clause-full : goal.returns-in-Err-clause-full
 returns-in-Err-clause-full g c = λ need largest is.
     let before = (goal.at.returns-in-Err-clause-full g c).After-text_blocks-blocks in
     let told = rw (c.in_ok-left.ensures, blocks_are g before) at c.in-Err.ensures.full in
-    IsFreedFull-taken c.args.body.now c.args.dir.now c.args.marks (length c.in_ok-bytes.bytes.items) (long g before) c.in_ok-bytes.ensures.few c.args.io.now.space c.leave_unmarked.new.space c.requires.space.end
+    IsFreedFull-taken c.args.dir.now c.args.marks (length c.in_ok-bytes.bytes.items) (long g before) c.in_ok-bytes.ensures.few c.args.io.now.space c.leave_unmarked.new.space
     need largest c.in-Err.fault (c.of_space.ensures.full need largest is) told
 
 pub returns-in-Err-clause-fills : goal.returns-in-Err-clause-fills
@@ -70,18 +70,28 @@ is_left g c =
       unmarked = subst (λ (n : ℕ). AreUnmarked c.leave_unmarked.new.marks n c.in-Ok.free.items) end (rw c.in_ok-left.ensures at c.in-Ok.ensures.extents);
     }
 
+-- enough blocks were taken for the directory and the extents
+enough_for : (g : Over) (c : In-Ok g) → TakesEnough (tree_blocks (leaves_for (length c.in_ok-bytes.bytes.items))) (length c.in-Ok.free.items) c.args.marks c.args.io.now.space c.leave_unmarked.new.space
+enough_for g c =
+    let many : c.len.result ≡ length c.in_ok-bytes.bytes.items = search rules in
+    let blocks = c.text_blocks-blocks.ensures ∙ ap (λ (n : ℕ). tree_blocks (leaves_for n)) many in
+    rw (c.in_ok-left.ensures, blocks) at c.in-Ok.ensures.enough
+
 pub returns-in_err-tree-clause-full : goal.returns-in_err-tree-clause-full
 returns-in_err-tree-clause-full g c =
     let before = goal.at.returns-in_err-tree-clause-full g c in
     let p = err_from_is_err_and c.from_residual-in_err-tree.result c.from_residual-in_err-tree.ensures.1 in
     let space = c.args.io.now.space in
     let free = c.in-Ok.free.items in
-    let may_leave = MayLeave-left c.args.body.now c.args.marks c.leave_unmarked.new.marks space c.leave_unmarked.new.space free (is_left g before.In-Ok) in
+    let bytes = length c.in_ok-bytes.bytes.items in
+    let works = c.in_err-tree.ensures.works in
+    let takes = rw (c.deref.ensures.value, c.deref-2.ensures.value) at works.takes in
     rw p.1 (λ need largest is.
     let stop = stop_full c.in_err-tree.field-0.0 need largest (sym p.2 ∙ is) in
-    let full = rw (c.deref.ensures.value, c.deref-2.ensures.value) at (c.in_err-tree.ensures.works.full need largest stop) in
-    IsFreedFull-written c.args.body.now c.args.dir.now c.args.marks (length c.in_ok-bytes.bytes.items) (long g before.After-text_blocks-blocks) c.in_ok-bytes.ensures.few space c.write_texts.new.io.space c.requires.space.end
-    (length free) need largest may_leave full)
+    let full = rw (c.deref.ensures.value, c.deref-2.ensures.value) at (works.full need largest stop) in
+    IsFreedFull-written c.args.dir.now c.args.marks bytes (long g before.After-text_blocks-blocks) c.in_ok-bytes.ensures.few space c.write_texts.new.io.space
+    (length free) need largest c.leave_unmarked.new.space c.leave_unmarked.new.marks free c.args.io.now.fits.extents (enough_for g before.In-Ok) (rw c.in_ok-left.ensures at c.in-Ok.ensures.marked)
+    (rw c.in_ok-left.ensures at c.in-Ok.ensures.extents) refl takes full)
 
 pub returns-in_err-tree-clause-fills : goal.returns-in_err-tree-clause-fills
 returns-in_err-tree-clause-fills g c =
@@ -91,9 +101,9 @@ returns-in_err-tree-clause-fills g c =
 pub write_texts-requires-clause-some : goal.write_texts-requires-clause-some
 write_texts-requires-clause-some g c = subst (λ (l : List ℕ). 0 < length l) (sym c.deref.ensures.value) (IsDir-some c.args.dir.now c.in_ok-bytes.bytes.items c.in_ok-bytes.ensures.spelled)
 
--- enough blocks were taken for the directory and the extents
-enough_for : (g : Over) (c : In_ok-tree g) → TakesEnough (tree_blocks (leaves_for (length c.in_ok-bytes.bytes.items))) (length c.in-Ok.free.items) c.args.marks c.args.io.now.space c.leave_unmarked.new.space
-enough_for g c =
+-- so it is once they were written
+enough_still : (g : Over) (c : In_ok-tree g) → TakesEnough (tree_blocks (leaves_for (length c.in_ok-bytes.bytes.items))) (length c.in-Ok.free.items) c.args.marks c.args.io.now.space c.leave_unmarked.new.space
+enough_still g c =
     let many : c.len.result ≡ length c.in_ok-bytes.bytes.items = search rules in
     let blocks = c.text_blocks-blocks.ensures ∙ ap (λ (n : ℕ). tree_blocks (leaves_for n)) many in
     rw (c.in_ok-left.ensures, blocks) at c.in-Ok.ensures.enough
@@ -103,7 +113,7 @@ still_free : (g : Over) (c : In_ok-tree g) → (sector : ℕ) → IsFree c.leave
 still_free g c = λ sector free.
     let space = c.args.io.now.space in
     let written = c.in_ok-tree.ensures.written in
-    let enough = enough_for g c in
+    let enough = enough_still g c in
     let few = rw (c.deref.ensures.value, c.deref-2.ensures.value) at written.few in
     let le : written.taken ≤ enough.taken = omega (arith, few, enough.enough) in
     let left = subst (λ (s : FreeSectors). IsFree s sector) enough.after free in
@@ -172,7 +182,7 @@ returns-clause-next g c =
         extents = HasExtents-grows (Laid number space (Has image real)) (Has image (free_by made)) stands stored.levels stored.root stored.count free written.extents;
         apart = Apart-later free body.uber.end left.end is.no_earlier is.unmarked.apart;
       };
-      takes = TakesForFreed-enough body c.args.dir.now marks (length c.in_ok-bytes.bytes.items) (long g before.After-text_blocks-blocks) c.in_ok-bytes.ensures.few space left c.requires.space.end (length free) (enough_for g before.In_ok-tree);
+      takes = TakesForFreed-enough c.args.dir.now marks (length c.in_ok-bytes.bytes.items) (long g before.After-text_blocks-blocks) c.in_ok-bytes.ensures.few space left (length free) (enough_for g before.In-Ok);
       end = refl;
       exact = AreLeftFree-left body made marks later space left refl is;
       blocks = KeepsMarked-spared body made marks later space left refl is (disk_of c.args.io.now).seen image c.in_ok-tree.ensures.works.fills.seen;

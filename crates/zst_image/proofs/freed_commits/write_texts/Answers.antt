@@ -1,7 +1,8 @@
-use Rattle.std.proofs.Common.{◌+◌, length, arith}
+use Rattle.std.proofs.Common.{ℕ, ◌+◌, ◌*◌, ◌≤◌, length, arith}
+use Rattle.std.proofs.lemmas.Result.{err_from_is_err_and}
 use Rattle.zst_block.specs.IoStates.{blocks_of, disk_of}
 use Rattle.zst_block.proofs.BlocksLaws.{KeepsBlocks-fills}
-use Rattle.zst_block.proofs.IoCallLemmas.{Works-then}
+use Rattle.zst_block.proofs.IoCallLemmas.{Works-more, Works-then}
 use Rattle.zst_leaves.specs.Leaves.{Laid, blocks_for}
 use Rattle.zst_leaves.proofs.LeavesLaws.{HasLeaves-grows, laid_before, laid_kept}
 use Rattle.zst_leaves.proofs.TakenBlocks.{blocks_then}
@@ -30,8 +31,20 @@ returns-in-Ok-clause-written g c =
       few = omega (arith, by_level tree.levels (length bytes) first.laid.least c.requires.some, c.in-Ok.ensures.after.few);
     }
 
+-- the blocks of the directory alone, and those of both
+first_of : (directory extents : ℕ) → 16 * directory ≤ 16 * (directory + extents)
+first_of directory extents = omega arith
+
+sum_of : (directory extents : ℕ) → 16 * directory + 16 * extents ≤ 16 * (directory + extents)
+sum_of directory extents = omega arith
+
+pub returns-in_err-tree-clause-works : goal.returns-in_err-tree-clause-works
+returns-in_err-tree-clause-works g c =
+    let p = err_from_is_err_and c.from_residual.result c.from_residual.ensures.1 in
+    rw (p.1, p.2) (Works-more (first_of _ _) c.in_err-tree.ensures.blocks)
+
 pub returns-in-Ok-clause-works : goal.returns-in-Ok-clause-works
-returns-in-Ok-clause-works g c = Works-then c.in_ok-tree.ensures.works c.in-Ok.ensures.works
+returns-in-Ok-clause-works g c = Works-more (sum_of _ _) (Works-then c.in_ok-tree.ensures.blocks c.in-Ok.ensures.works)
 
 pub returns-in-Err-clause-works : goal.returns-in-Err-clause-works
-returns-in-Err-clause-works g c = rw c.of_extents.ensures (Works-then c.in_ok-tree.ensures.works c.in-Err.ensures.works)
+returns-in-Err-clause-works g c = rw c.of_extents.ensures (Works-more (sum_of _ _) (Works-then c.in_ok-tree.ensures.blocks c.in-Err.ensures.works))
