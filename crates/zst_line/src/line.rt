@@ -47,7 +47,7 @@ pub enum Line {
         image: Text,
         dataset: DatasetName,
     },
-    /// Looks for blocks that are newer than what points to them.
+    /// Tells whether a pool is sound, and how many blocks it has.
     Check {
         image: Text,
     },

@@ -15,6 +15,7 @@ pub use laws::{
     unreached_sectors_may_be_free, unreached_sectors_may_change,
     unreached_sectors_of_texts_may_be_free,
 };
+pub use nodes::{child_beside, load_beside, load_named};
 pub use sets::mark_set;
 pub use texts::mark_text;
 pub use trees::mark_below;

@@ -22,9 +22,9 @@ fn is_node(level: u8, ptr: &Ptr) -> bool
     (ptr.kind == 3 || ptr.kind == 4) && ptr.level == level && ptr.length == 8192
 }
 
-// Reads the node that a pointer at a level names, of a set, of an object or of a text: no other is asked
-// to sum up what stands below it.
-pub(crate) fn load_named<D: Disk>(io: &mut Io<'_, D>, level: u8, ptr: Ptr) -> Result<(), BlockFault>
+/// Reads the node that a pointer at a level names, of a set, of an object or of a text: no other is asked
+/// to sum up what stands below it.
+pub fn load_named<D: Disk>(io: &mut Io<'_, D>, level: u8, ptr: Ptr) -> Result<(), BlockFault>
     ensures block { IsHonest io.new → OnOk result (IsBlock (disk_of io.old).seen ptr io.new.node) }
     ensures there { (bytes : List ℕ) → IsHonest io.new → NamesNode level ptr → blocks_of io.old ptr bytes → GivesBlock bytes io.new.node result }
     ensures names { 0 < level → is_flat ptr ≡ false → IsHonest io.new → NamesDamage (IsSeen (disk_of io.old).seen) (disk_of io.old).size NamesNode level ptr result }
@@ -37,9 +37,9 @@ pub(crate) fn load_named<D: Disk>(io: &mut Io<'_, D>, level: u8, ptr: Ptr) -> Re
     load(io, ptr)
 }
 
-// Reads the node of a tree that was walked before, where it stands at this level. What can't be read
-// there is passed over, and not counted: it is told and counted where it is walked.
-pub(crate) fn load_beside<D: Disk>(
+/// Reads the node of a tree that was walked before, where it stands at this level. What can't be read
+/// there is passed over, and not counted: it is told and counted where it is walked.
+pub fn load_beside<D: Disk>(
     io: &mut Io<'_, D>,
     level: u8,
     known_level: u8,
@@ -63,8 +63,8 @@ pub(crate) fn load_beside<D: Disk>(
     }
 }
 
-// What stands in the place of a child in a tree that was walked before, and at which level.
-pub(crate) fn child_beside(
+/// What stands in the place of a child in a tree that was walked before, and at which level.
+pub fn child_beside(
     beside: &Option<Node>,
     level: u8,
     known_level: u8,

@@ -16,3 +16,4 @@ mod wanted;
 pub use fault::RedactFault;
 pub use lists::build;
 pub use redacted_list::redacted;
+pub use runs::next_unkept;

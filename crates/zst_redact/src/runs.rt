@@ -2,6 +2,7 @@
 ghost use Rattle.std.specs.Prelude.{◌≡◌, ◌≤◌, ◌<◌, ◌^◌, [], ◌∷◌, IfOk, IfSome};
 ghost use Rattle.zst_block.specs.IoStates.{IsHonest, blocks_of, disk_of, io_of};
 ghost use Rattle.zst_block.specs.IoCalls.{Looks, stop_of};
+ghost use Rattle.zst_model.specs.pools.RedSet.{red_set};
 ghost use Rattle.zst_model.specs.states.DatedState.{DatedState};
 ghost use Rattle.zst_tree.specs.Damage.{IsSeen};
 ghost use Rattle.zst_tree.specs.Indices.{Delivers};
@@ -82,4 +83,27 @@ pub(crate) fn next_run<D: Disk, L: Ledger>(
         index = 0;
     }
     Ok(None)
+}
+
+/// A run of the blocks of user data of a snapshot with a number that each of some redaction snapshots dates after that, from the least on,
+/// by object, then by index, that stands at or after a pair. It takes no memory, however many there are.
+pub fn next_unkept<D: Disk, L: Ledger>(
+    io: &mut Io<'_, D>,
+    snap: &ObjSet,
+    number: u64,
+    redactions: &[ObjSet],
+    none: &List,
+    start: (u64, u64),
+    steps: &mut Steps<L>,
+) -> Result<Option<Run>, BlockFault>
+    requires none { none.now ≡ [] }
+    requires object { 0 < start.0 }
+    ensures found { (state : DatedState) (kept : States) → IsHonest io.new → HoldStates (blocks_of io.old) snap.now redactions.now state kept
+        → Delivers (FindsRun (red_set state.state number kept) start) result }
+    ensures range { IfOk result (λ found. IfSome found (RunFits start)) }
+    ensures damaged { IsHonest io.new → IfDamaged result (IsDamagedAmong (IsSeen (disk_of io.old).seen) (disk_of io.old).size (snap.now ∷ redactions.now)) }
+    ensures looks { Looks (io_of io.old) (io_of io.new) (stop_of result) }
+{
+    let wanted = Wanted::Unkept { number, redactions };
+    next_run(io, snap, wanted, none, start, steps)
 }

@@ -113,7 +113,7 @@ impl List {
     }
 
     /// The first run that doesn't end by this pair: of all runs it alone may have the pair.
-    fn first_behind(&self, object: u64, block: u64) -> Option<Run>
+    pub fn first_behind(&self, object: u64, block: u64) -> Option<Run>
         ensures first { result ≡ find (λ run. not (ends_by run object block)) self.now }
         ensures lawful { IsRunList self.now }
     {
