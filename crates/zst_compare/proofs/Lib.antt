@@ -1,0 +1,10 @@
+pub mod Agreement
+pub mod ComparedSlots
+pub mod Contents
+pub mod Holes
+pub mod KeptRuns
+pub mod LeafSlots
+pub mod SharedLeaves
+pub mod SameBlocks
+pub mod Sharing
+pub mod Told
