@@ -2,4 +2,10 @@ pub mod FailingPlaces
 pub mod Reports
 pub mod FirstSectors
 pub mod NumbersInTurn
+pub mod NumberedPlaces
+pub mod RowTests
 pub mod TwoFaults
+pub mod Findings
+pub mod Damage
+pub mod ListPairs
+pub mod Redactions

@@ -1,9 +1,21 @@
 //! Whether a pool is sound: what a check reports, and the laws that hold its reports to the definition of soundness.
 #![tactic(auto)]
 
+mod bookmarks;
+mod check;
+mod dates;
+mod differences;
 mod laws;
+mod list_pairs;
+mod lists;
+mod names;
+mod nearest;
+mod numbers;
+mod redactions;
 mod report;
+mod states;
 
+pub use check::find_unsound;
 pub use laws::{
     counted_blocks_are_reached, counts_are_one, decided_pools_have_reports,
     differences_deny_agreement, late_dates_deny_dates, late_snapshots_deny_dates,

@@ -1,0 +1,61 @@
+use Rattle.std.proofs.Common.{◌≡◌, ℕ, List, Option, None, length, get_or, sym, ap, subst, ⊎_elim, arith}
+use Rattle.std.proofs.lemmas.Bool.{cases_lt}
+use Rattle.std.proofs.lemmas.Result.{err_from_is_err_and}
+use Rattle.zst_space.specs.FreeSectors.{FreeSectors}
+use Rattle.zst_block.specs.Blocks.{Has}
+use Rattle.zst_block.specs.IoStates.{blocks_of}
+use Rattle.zst_block.proofs.IoCallLemmas.{Looks-then}
+use Rattle.zst_dir.proofs.Matches.{length-Match}
+use Rattle.zst_image.specs.Reads.{BookmarkIs, RunsBy}
+use Rattle.zst_objset.proofs.LeafLaws.{look_on}
+use Rattle.zst_laws.specs.RedactionLists.{AreListed}
+use Rattle.zst_check.specs.FailingPlaces.{ListDiffers}
+use Rattle.zst_check.specs.Findings.{Finds}
+use Rattle.zst_check.specs.Redactions.{IsListed}
+use Rattle.zst_check.specs.declared.report.Report.{Report}
+use Rattle.zst_check.proofs.CheckedLists.{all_listed, fails_too, row_stands, told_too}
+use Rattle.zst_check.proofs.lists.differing_list.Goals as goal
+
+pub loop-row-preserved : goal.loop-row-preserved
+loop-row-preserved g c =
+    let was = c.loop-row.invariant in
+    let next = c.in_ok-report.ensures.looks in
+    let place = c.loop-row.row-index in
+    record {
+      listed = λ pool honest runs lawful sound k d under. ⊎_elim
+          (λ before. was.listed pool (next.reads.honest honest) runs lawful sound k d before)
+          (λ over.
+          let here : place ≡ k = omega (arith, under, over) in
+          let on = look_on (λ (seen : List ℕ) (space : FreeSectors). RunsBy None (Has seen space) c.args.dir.now pool) was.looks runs in
+          let stands =
+          row_stands (blocks_of c.loop-row.io) c.args.dir.now.bookmarks pool.bookmarks on.bookmarks c.bookmarks-row-items.result.now c.bookmarks-row-items.ensures place c.row-item.result c.loop-row-test.true c.row-item.is in
+          let listed = subst (λ (found : Option Report). Finds (IsListed pool stands.bookmark) (ListDiffers pool) found) c.in_default.is
+          (c.in_ok-report.ensures.found pool stands.bookmark honest on lawful sound stands.there stands.is) in
+          subst (λ (n : ℕ). IsListed pool (get_or pool.bookmarks n d)) here (subst (IsListed pool) (sym (stands.at d)) listed))
+          (cases_lt k place);
+      looks = Looks-then {stop = None} was.looks next;
+    }
+
+pub returns-in_err-report-clause-found : goal.returns-in_err-report-clause-found
+returns-in_err-report-clause-found g c = λ pool honest runs lawful sound.
+    let p = err_from_is_err_and c.from_residual.result c.from_residual.ensures.1 in
+    let on = look_on (λ (seen : List ℕ) (space : FreeSectors). RunsBy None (Has seen space) c.args.dir.now pool) c.loop-row.invariant.looks runs in
+    let stands =
+    row_stands (blocks_of c.loop-row.io) c.args.dir.now.bookmarks pool.bookmarks on.bookmarks c.bookmarks-row-items.result.now c.bookmarks-row-items.ensures c.loop-row.row-index c.row-item.result c.loop-row-test.true c.row-item.is in
+    rw (p.1, p.2) (told_too (Finds (IsListed pool stands.bookmark) (ListDiffers pool)) (Finds (AreListed pool) (ListDiffers pool)) c.in_err-report.field-0.0
+    (c.in_err-report.ensures.found pool stands.bookmark honest on lawful sound stands.there stands.is))
+
+pub returns-in-Some-clause-found : goal.returns-in-Some-clause-found
+returns-in-Some-clause-found g c = λ pool honest runs lawful sound.
+    let on = look_on (λ (seen : List ℕ) (space : FreeSectors). RunsBy None (Has seen space) c.args.dir.now pool) c.loop-row.invariant.looks runs in
+    let stands =
+    row_stands (blocks_of c.loop-row.io) c.args.dir.now.bookmarks pool.bookmarks on.bookmarks c.bookmarks-row-items.result.now c.bookmarks-row-items.ensures c.loop-row.row-index c.row-item.result c.loop-row-test.true c.row-item.is in
+    fails_too (IsListed pool stands.bookmark) (AreListed pool) (ListDiffers pool) c.in-Some.report
+    (subst (λ (found : Option Report). Finds (IsListed pool stands.bookmark) (ListDiffers pool) found) c.in-Some.is
+    (c.in_ok-report.ensures.found pool stands.bookmark honest on lawful sound stands.there stands.is))
+
+pub returns-clause-found : goal.returns-clause-found
+returns-clause-found g c = λ pool honest runs lawful sound.
+    let past : c.loop-row.row-index ≡ length c.args.dir.now.bookmarks = omega (arith, ap length c.bookmarks-row-items.ensures) in
+    let long = length-Match (BookmarkIs (blocks_of c.args.io.now)) c.args.dir.now.bookmarks pool.bookmarks runs.bookmarks in
+    all_listed pool (λ k d under. c.loop-row.invariant.listed pool honest runs lawful sound k d (omega (arith, under, past, long)))
