@@ -15,7 +15,7 @@ pub one_block : (image : List ℕ) (ptr : Ptr) (bytes node : List ℕ) → IsBlo
 one_block image ptr bytes node first second = sym first.bytes_are ∙ second.bytes_are
 
 -- nothing is reached below a pointer without a block
-none_flat : (has : Blocks) (level : ℕ) (ptr found : Ptr) → is_flat ptr ≡ true → ReachesBlock has level ptr found → ⊥
+pub none_flat : (has : Blocks) (level : ℕ) (ptr found : Ptr) → is_flat ptr ≡ true → ReachesBlock has level ptr found → ⊥
 unfolding ReachesBlock
 none_flat has zero ptr found flat reached = false≢true (sym reached.0 ∙ flat)
 none_flat has (suc level) ptr found flat reached = false≢true (sym reached.0 ∙ flat)
@@ -51,7 +51,18 @@ AreMarked-over image end marks (suc level) ptr node some own block below = λ se
     let same_level : suc level - 1 ≡ level = omega arith in
     over_suc image end marks level ptr node own block (λ k less. rw same_level at (below k less)) is.found sector is.reached is.is_of under
 
--- what is reached below a child is reached below the node
+-- a block that is reached below a child is reached below the node
+block_suc : (has : Blocks) (level : ℕ) (ptr : Ptr) (node : List ℕ) (k : ℕ) (found : Ptr) → is_flat ptr ≡ false → has ptr node → k < 128 → ReachesBlock has level (child node k) found → ReachesBlock has (suc level) ptr found
+unfolding ReachesBlock
+block_suc has level ptr node k found inner there less reached = (inner, inr (node, there, k, less, reached))
+
+pub block_child : (has : Blocks) (level : ℕ) (ptr : Ptr) (node : List ℕ) (k : ℕ) (found : Ptr) → 0 < level → is_flat ptr ≡ false → has ptr node → k < 128 → ReachesBlock has (level - 1) (child node k) found → ReachesBlock has level ptr found
+block_child has zero ptr node k found some inner there less reached = absurd (omega arith)
+block_child has (suc level) ptr node k found some inner there less reached =
+    let same_level : suc level - 1 ≡ level = omega arith in
+    block_suc has level ptr node k found inner there less (rw same_level at reached)
+
+-- and so with a sector
 pub reach_suc : (has : Blocks) (level : ℕ) (ptr : Ptr) (node : List ℕ) (k sector : ℕ) → is_flat ptr ≡ false → has ptr node → k < 128 → ReachesSector has level (child node k) sector → ReachesSector has (suc level) ptr sector
 unfolding ReachesBlock
 reach_suc has level ptr node k sector inner there less is = record { found = is.found; reached = (inner, inr (node, there, k, less, is.reached)); is_of = is.is_of }

@@ -28,7 +28,8 @@ pub AllMarked-more : (image : List ℕ) (end : ℕ) (marks more : List ℕ) (rea
 AllMarked-more image end marks more reached up are = λ sector is under. up sector (are sector is under)
 
 module _ (image : List ℕ) where
-  no_leaf : (level : ℕ) (ptr : Ptr) (first index : ℕ) (leaf : Ptr) → is_flat ptr ≡ true → is_flat leaf ≡ false → StandsAt (IsBlock image) level ptr first index leaf → ⊥
+  -- no leaf with a block stands below a pointer without one
+  pub no_leaf : (level : ℕ) (ptr : Ptr) (first index : ℕ) (leaf : Ptr) → is_flat ptr ≡ true → is_flat leaf ≡ false → StandsAt (IsBlock image) level ptr first index leaf → ⊥
   unfolding StandsAt
   no_leaf zero ptr first index leaf flat some stands = false≢true (sym some ∙ ap is_flat stands.1 ∙ flat)
   no_leaf (suc level) ptr first index leaf flat some stands = false≢true (sym stands.0 ∙ flat)
@@ -80,7 +81,7 @@ module _ (image : List ℕ) where
   unfolding StandsAt
   stands_suc level ptr node k first index leaf inner block less stands = (inner, (node, block, k, less, stands))
 
-  stands_child : (level : ℕ) (ptr : Ptr) (node : List ℕ) (k first index : ℕ) (leaf : Ptr) → 0 < level → is_flat ptr ≡ false → IsBlock image ptr node → k < 128
+  pub stands_child : (level : ℕ) (ptr : Ptr) (node : List ℕ) (k first index : ℕ) (leaf : Ptr) → 0 < level → is_flat ptr ≡ false → IsBlock image ptr node → k < 128
       → StandsAt (IsBlock image) (level - 1) (child node k) (first + k * span (level - 1)) index leaf → StandsAt (IsBlock image) level ptr first index leaf
   stands_child zero ptr node k first index leaf some inner block less stands = absurd (omega arith)
   stands_child (suc level) ptr node k first index leaf some inner block less stands =

@@ -5,10 +5,11 @@ ghost use Rattle.zst_block.specs.IoStates.{IsHonest, blocks_of, disk_of, io_of};
 ghost use Rattle.zst_block.specs.IoCalls.{Looks, stop_of};
 ghost use Rattle.zst_block.specs.Ptr.{is_flat};
 ghost use Rattle.zst_block.specs.ReadAnswers.{GivesBlock};
+ghost use Rattle.zst_block.specs.declared.ptr.Ptr.{Ptr};
 ghost use Rattle.zst_tree.specs.Damage.{IsSeen, NamesDamage, NamesNode};
 ghost use Rattle.zst_tree.specs.Indices.{Delivers, span};
-ghost use Rattle.zst_reach.specs.Reached.{AreMarked, IsBeside};
-ghost use Rattle.zst_reach.specs.ReachedSets.{AreMarkedInTree};
+ghost use Rattle.zst_reach.specs.Reached.{AreMarked, IsBeside, IsInPlace, ReachesBlock};
+ghost use Rattle.zst_reach.specs.ReachedSets.{AreMarkedInTree, StandsAt};
 
 use std::mem;
 use zst_block::{BlockFault, Io, Node, Ptr, load};
@@ -77,6 +78,11 @@ pub fn child_beside(
     // So it is with the leaves of a set.
     ensures marked_in { (image marks : List ℕ) (end first : ℕ) → IsBeside image level known_level known beside.now → AreMarkedInTree image end marks known_level known first
         → AreMarkedInTree image end marks result.0 result.1 (first + k * span (level - 1)) }
+    // Each block and each leaf that is reached below it is reached below the known one.
+    ensures below { (image : List ℕ) (found : Ptr) → IsBeside image level known_level known beside.now → ReachesBlock (IsBlock image) result.0 result.1 found → ReachesBlock (IsBlock image) known_level known found }
+    ensures leaves { (image : List ℕ) (first index : ℕ) (leaf : Ptr) → IsBeside image level known_level known beside.now → is_flat leaf ≡ false → StandsAt (IsBlock image) result.0 result.1 (first + k * span (level - 1)) index leaf
+        → StandsAt (IsBlock image) known_level known first index leaf }
+    ensures place { IsInPlace beside.now level known_level known k result.0 result.1 }
 {
     if let Some(node) = beside {
         return (level - 1, child_at(node, k));

@@ -15,5 +15,7 @@ mod unreached;
 
 pub use held::HeldBlocks;
 pub use laws::{rows_reach_the_same_whatever_is_unreached, rows_stand_over_what_is_unreached};
+pub use nearest::{before_head, before_partial, before_snapshot, objects_at, walked_at};
 pub use rows::mark_rows;
+pub use turns::turns_of;
 pub use unreached::{UnreachedSectors, find_unreached};

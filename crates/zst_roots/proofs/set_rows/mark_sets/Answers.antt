@@ -38,7 +38,7 @@ loop-row-preserved g c =
     record {
       all = λ honest known.
           let was = step.looks.reads.honest honest in
-          let beside = c.objects_at-known.ensures image c.loop-row.marks c.args.end (known_more image c.args.end _ _ c.args.dir.now.snapshots _ c.snapshots.ensures inv.more known) in
+          let beside = c.objects_at-known.ensures.marked image c.loop-row.marks c.args.end (known_more image c.args.end _ _ c.args.dir.now.snapshots _ c.snapshots.ensures inv.more known) in
           marked_turn reaches image rows _ c.args.end _ _ i row same turn step.more (inv.all was known) (set_is _ c.args.end _ _ _ c.set.ensures (step.all honest (set_on image _ c.args.end _ c.objects_at-known.result same beside)));
       more = MarksMore-then _ _ _ inv.more step.more;
       room = omega (arith, inv.room, step.more.room);

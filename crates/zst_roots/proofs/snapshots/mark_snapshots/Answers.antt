@@ -50,7 +50,7 @@ loop-turn-preserved g c =
       long = length-set walked place true ∙ inv.long;
       walked = λ honest.
           let was = step.looks.reads.honest honest in
-          let known = c.walked_at-known.ensures _ c.loop-turn.marks c.args.end (walked_on image _ c.args.end _ rows walked _ same c.as_slice.ensures.value (inv.walked was)) in
+          let known = c.walked_at-known.ensures.marked _ c.loop-turn.marks c.args.end (walked_on image _ c.args.end _ rows walked _ same c.as_slice.ensures.value (inv.walked was)) in
           walked_more image c.args.end _ _ rows walked place row (inside, sym at) step.more (inv.walked was) (set_on _ image c.args.end _ row.objects (sym same) (step.all honest known));
       flags = turns_more items walked i c.loop-turn-test.true (omega (arith, inside, inv.long)) inv.flags;
       more = MarksMore-then _ _ _ inv.more step.more;
