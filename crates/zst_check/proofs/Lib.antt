@@ -12,8 +12,7 @@ pub mod PlacedBookmarks
 pub mod ComparedStates
 pub mod NamedRows
 pub mod FoundParts
-mod Counts
-mod FirstSectors
+pub mod ToldReports
 mod TwoFaults
 mod StatePlaces
 mod LateDates
@@ -25,3 +24,4 @@ mod OnlyPlaces
 mod OwnSnapshots
 mod RedactionSets
 mod CheckedLists
+mod ListDamage

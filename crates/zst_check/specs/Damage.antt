@@ -1,13 +1,19 @@
 -- Which block the parts of a check tell as damaged.
-use Rattle.std.specs.Prelude.{◌⊎◌, ℕ, List}
+use Rattle.std.specs.Prelude.{◌⊎◌, ℕ, ◌<◌, List, Err}
+use Rattle.zst_block.specs.declared.fault.BlockFault.TheVariants.{Damaged}
 use Rattle.zst_compare.specs.Damage.{IsDamagedIn, OfEither}
 use Rattle.zst_dir.specs.Rows.{Rows}
+use Rattle.zst_dir.specs.declared.rows.Bookmark.{Bookmark}
 use Rattle.zst_dir.specs.declared.rows.Dataset.{Dataset}
 use Rattle.zst_dir.specs.declared.rows.Snapshot.{Snapshot}
 use Rattle.zst_dir.specs.declared.rows.Partial.{Partial}
+use Rattle.zst_list.specs.StoredLists.{TellsList}
+use Rattle.zst_model.specs.fields.Lists.{Runs}
 use Rattle.zst_objset.specs.Damage.{DamageFact}
 use Rattle.zst_roots.specs.RowDamage.{IsToldOfSome}
 use Rattle.zst_traverse.specs.Damage.{IsDamagedCell}
+use Rattle.zst_tree.specs.Damage.{IsSeen}
+use Rattle.zst_tree.specs.declared.or_memory.OrMemory.TheVariants.{Fault}
 use Rattle.zst_tree.specs.declared.tree.ObjSet.{ObjSet}
 
 module _ (images : List ℕ → Type 0) (size : ℕ) where
@@ -30,3 +36,11 @@ module _ (images : List ℕ → Type 0) (size : ℕ) where
       IsToldOfSome rows.datasets IsDamagedHead sector stated found
       ⊎ (IsToldOfSome rows.snapshots IsDamagedSnapshot sector stated found
       ⊎ IsToldOfSome rows.partials IsDamagedPartial sector stated found)
+
+-- of a bookmark whose list has runs: a block to which the root of the list leads, as the read of a list tells it
+abbrev pub IsDamagedList : ℕ → List ℕ → ℕ → Bookmark → DamageFact
+IsDamagedList end image size row sector stated found = (0 < row.runs) × TellsList {T = Runs} end image size row.levels row.root row.runs (Err (Fault (Damaged sector stated found)))
+
+-- of all that a check looks at: that of the states of the directory, or of the list of one of its bookmarks
+abbrev pub IsDamagedInChecked : ℕ → List ℕ → ℕ → Rows → DamageFact
+IsDamagedInChecked end image size rows = OfEither (IsDamagedInStates (IsSeen image) size rows) (IsToldOfSome rows.bookmarks (IsDamagedList end image size))

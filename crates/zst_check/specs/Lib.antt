@@ -1,6 +1,5 @@
 pub mod FailingPlaces
 pub mod Reports
-pub mod FirstSectors
 pub mod NumbersInTurn
 pub mod NumberedPlaces
 pub mod RowTests
@@ -9,3 +8,4 @@ pub mod Findings
 pub mod Damage
 pub mod ListPairs
 pub mod Redactions
+pub mod Checks

@@ -39,6 +39,12 @@ pub record IsSetOf (all : List rows.Snapshot) (snapshots : List Snapshot) (set :
 abbrev pub AreSetsOf : List rows.Snapshot → List Snapshot → List ObjSet → List Snapshot → Type 0
 AreSetsOf all snapshots sets redactions = AllZip (IsSetOf all snapshots) sets redactions
 
+-- whatever the pool is, a set is that of a snapshot's row
+pub record IsSetOfRow (all : List rows.Snapshot) (set : ObjSet) : Type 0 where
+  pub row : rows.Snapshot
+  pub listed : Contains all row
+  pub is_set : row.objects ≡ set
+
 -- snapshots for which another one was redacted
 abbrev pub Redactions : Type 0
 Redactions = List Snapshot

@@ -1,4 +1,3 @@
-ghost use Rattle.zst_check.specs.FirstSectors.{CountIsOne, CountedAreReached, ReachedAreCounted};
 ghost use Rattle.zst_check.specs.NumbersInTurn.{InTurnIsEnough};
 ghost use Rattle.zst_check.specs.Reports.{BadBookmarkDenies, DecidedHasReport, DiffersDenies, LateDateDenies, LateSnapshotDenies, ListDiffersDenies, NoneIsBoth, SoundByNearest};
 ghost use Rattle.zst_check.specs.TwoFaults.{BookmarkIsTold, HeadDiffers, HeadIsNotTold, HeadIsTold};
@@ -46,17 +45,6 @@ pub fn nearest_states_make_sound()
 /// Where each part of soundness is decided there is a report.
 pub fn decided_pools_have_reports()
     ensures { DecidedHasReport }
-{}
-
-/// A pool has one count of blocks.
-pub fn counts_are_one()
-    ensures { CountIsOne }
-{}
-
-/// The blocks that are counted have the sectors that are reached, but for the first eight and what sessions hold.
-pub fn counted_blocks_are_reached()
-    ensures reached { CountedAreReached }
-    ensures counted { ReachedAreCounted }
 {}
 
 /// Of a pool with a bookmark of no dataset and a head that differs from its snapshot the bookmark is told, and the head once the

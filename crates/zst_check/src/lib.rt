@@ -2,7 +2,7 @@
 #![tactic(auto)]
 
 mod bookmarks;
-mod check;
+mod checked_pools;
 mod dates;
 mod differences;
 mod laws;
@@ -11,15 +11,17 @@ mod lists;
 mod names;
 mod nearest;
 mod numbers;
+mod parts;
 mod redactions;
 mod report;
 mod states;
 
-pub use check::find_unsound;
+pub use checked_pools::check;
 pub use laws::{
-    counted_blocks_are_reached, counts_are_one, decided_pools_have_reports,
-    differences_deny_agreement, late_dates_deny_dates, late_snapshots_deny_dates,
-    lists_that_differ_deny_lists, misplaced_bookmarks_deny_bookmarks, nearest_states_make_sound,
-    no_report_is_both, numbers_in_turn_are_enough, two_faults_are_told_in_order,
+    decided_pools_have_reports, differences_deny_agreement, late_dates_deny_dates,
+    late_snapshots_deny_dates, lists_that_differ_deny_lists, misplaced_bookmarks_deny_bookmarks,
+    nearest_states_make_sound, no_report_is_both, numbers_in_turn_are_enough,
+    two_faults_are_told_in_order,
 };
+pub use parts::find_unsound;
 pub use report::Report;

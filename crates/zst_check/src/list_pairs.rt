@@ -1,13 +1,16 @@
 // The first pair that is in a list and isn't wanted there, or is wanted and isn't in it.
-ghost use Rattle.std.specs.Prelude.{◌≡◌, ℕ, ◌+◌, ◌^◌, ◌<◌, ◌≤◌, [], false, IfSome};
+ghost use Rattle.std.specs.Prelude.{◌≡◌, ℕ, ◌+◌, ◌^◌, ◌<◌, ◌≤◌, [], ◌∷◌, false, IfSome};
 ghost use Rattle.zst_block.specs.IoCalls.{Looks, stop_of};
-ghost use Rattle.zst_block.specs.IoStates.{IsHonest, blocks_of, io_of};
+ghost use Rattle.zst_block.specs.IoStates.{IsHonest, blocks_of, disk_of, io_of};
 ghost use Rattle.zst_model.specs.fields.Lists.{IsRunList, has_pair};
 ghost use Rattle.zst_model.specs.fields.RunsOf.{is_earlier};
 ghost use Rattle.zst_model.specs.pools.RedSet.{red_set};
 ghost use Rattle.zst_model.specs.sends.Inclusion.{Pairs};
 ghost use Rattle.zst_model.specs.states.DatedState.{DatedState};
+ghost use Rattle.zst_objset.specs.Damage.{IfDamaged};
+ghost use Rattle.zst_tree.specs.Damage.{IsSeen};
 ghost use Rattle.zst_tree.specs.Indices.{Delivers};
+ghost use Rattle.zst_redact.specs.Damage.{IsDamagedAmong};
 ghost use Rattle.zst_redact.specs.Passes.{FindsRun, HoldStates, RunFits, States};
 ghost use Rattle.zst_check.specs.ListPairs.{FindsOther, MovesOn, TellsBeside};
 ghost use Rattle.zst_check.specs.declared.list_pairs.Beside.TheVariants.{Differs};
@@ -107,6 +110,7 @@ pub(crate) fn differing_pair<D: Disk, L: Ledger>(
     requires one { 0 < blank.parts }
     ensures found { (state : DatedState) (kept : States) → IsHonest io.new → HoldStates (blocks_of io.old) own.now.objects sets.now state kept
         → Delivers (FindsOther (red_set state.state own.now.number kept) (has_pair list.now)) result }
+    ensures damaged { IsHonest io.new → IfDamaged result (IsDamagedAmong (IsSeen (disk_of io.old).seen) (disk_of io.old).size (own.now.objects ∷ sets.now)) }
     ensures looks { Looks (io_of io.old) (io_of io.new) (stop_of result) }
 {
     let mut steps = Steps::<L>::new(blank);

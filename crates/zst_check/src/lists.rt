@@ -1,17 +1,22 @@
 // Part 4 of soundness: the lists of redaction bookmarks.
-ghost use Rattle.std.specs.Prelude.{◌≡◌, Contains, None};
+ghost use Rattle.std.specs.Prelude.{◌≡◌, ◌∷◌, Contains, None};
 ghost use Rattle.std.specs.List.{AllZip};
 ghost use Rattle.zst_block.specs.IoCalls.{Looks};
-ghost use Rattle.zst_block.specs.IoStates.{IsHonest, blocks_of, io_of};
+ghost use Rattle.zst_block.specs.IoStates.{IsHonest, blocks_of, disk_of, io_of};
 ghost use Rattle.zst_image.specs.Reads.{BookmarkIs, RunsBy, SnapshotIs};
 ghost use Rattle.zst_model.specs.pools.Pool.{IsPool, Pool};
 ghost use Rattle.zst_model.specs.pools.Pool as plain;
 ghost use Rattle.zst_model.specs.pools.RedSet.{objects_of};
 ghost use Rattle.zst_model.specs.pools.Soundness.{Sound};
 ghost use Rattle.zst_laws.specs.RedactionLists.{AreListed, Lists};
+ghost use Rattle.zst_compare.specs.Damage.{OfEither};
+ghost use Rattle.zst_objset.specs.Damage.{IfDamage};
 ghost use Rattle.zst_objset.specs.Sets.{SetHolds};
-ghost use Rattle.zst_tree.specs.Faults.{GivesOrTells, fault_of};
+ghost use Rattle.zst_redact.specs.Damage.{IsDamagedAmong};
+ghost use Rattle.zst_tree.specs.Damage.{IsSeen};
+ghost use Rattle.zst_tree.specs.Faults.{GivesOrTells, IfFault, fault_of};
 ghost use Rattle.zst_tree.specs.Indices.{IsNoDamage};
+ghost use Rattle.zst_check.specs.Damage.{IsDamagedInChecked, IsDamagedList};
 ghost use Rattle.zst_check.specs.FailingPlaces.{ListDiffers};
 ghost use Rattle.zst_check.specs.Findings.{Finds};
 ghost use Rattle.zst_check.specs.Redactions.{DiffersFrom, IsListed, Redactions};
@@ -40,6 +45,9 @@ fn differing_from<D: Disk>(
     ensures found { (bookmark : plain.Bookmark) (snapshot : plain.Snapshot) (redactions : Redactions) → IsHonest io.new → BookmarkIs (blocks_of io.old) row.now bookmark
         → SnapshotIs None (blocks_of io.old) own.now snapshot → AllZip (SetHolds (blocks_of io.old)) sets.now (objects_of redactions)
         → GivesOrTells (Finds (Lists bookmark snapshot redactions) (DiffersFrom bookmark snapshot redactions)) IsNoDamage result }
+    ensures damaged { IsHonest io.new → IfFault result (λ fault. IfDamage fault (OfEither
+        (IsDamagedAmong (IsSeen (disk_of io.old).seen) (disk_of io.old).size (own.now.objects ∷ sets.now))
+        (IsDamagedList io.old.space.end (disk_of io.old).seen (disk_of io.old).size row.now))) }
     ensures looks { Looks (io_of io.old) (io_of io.new) (fault_of result) }
 {
     let list = read_list(io, alloc, row.levels, row.root, row.runs)?;
@@ -65,6 +73,8 @@ fn differing_row<D: Disk>(
 ) -> Result<Option<Report>, OrMemory<BlockFault>>
     ensures found { (pool : Pool) (bookmark : plain.Bookmark) → IsHonest io.new → RunsBy None (blocks_of io.old) dir.now pool → IsPool pool → Sound pool → Contains pool.bookmarks bookmark
         → BookmarkIs (blocks_of io.old) row.now bookmark → GivesOrTells (Finds (IsListed pool bookmark) (ListDiffers pool)) IsNoDamage result }
+    ensures damaged { IsHonest io.new → Contains dir.now.bookmarks row.now
+        → IfFault result (λ fault. IfDamage fault (IsDamagedInChecked io.old.space.end (disk_of io.old).seen (disk_of io.old).size dir.now)) }
     ensures looks { Looks (io_of io.old) (io_of io.new) (fault_of result) }
 {
     if row.redact.as_slice().is_empty() {
@@ -88,6 +98,7 @@ pub(crate) fn differing_list<D: Disk>(
 ) -> Result<Option<Report>, OrMemory<BlockFault>>
     ensures found { (pool : Pool) → IsHonest io.new → RunsBy None (blocks_of io.old) dir.now pool → IsPool pool → Sound pool
         → GivesOrTells (Finds (AreListed pool) (ListDiffers pool)) IsNoDamage result }
+    ensures damaged { IsHonest io.new → IfFault result (λ fault. IfDamage fault (IsDamagedInChecked io.old.space.end (disk_of io.old).seen (disk_of io.old).size dir.now)) }
     ensures looks { Looks (io_of io.old) (io_of io.new) (fault_of result) }
 {
     for row in dir.bookmarks() {

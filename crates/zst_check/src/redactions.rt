@@ -1,5 +1,5 @@
 // What a redaction bookmark was made of: its own snapshot, and its redaction snapshots, where these are known by their guids.
-ghost use Rattle.std.specs.Prelude.{◌≡◌, ◌↔◌, ◌<◌, ◌==◌, ◌&&◌, List, length, Contains, IfOk, IfSome, MatchOption, position};
+ghost use Rattle.std.specs.Prelude.{◌≡◌, ◌↔◌, ◌<◌, ◌==◌, ◌&&◌, List, length, All, Contains, IfOk, IfSome, MatchOption, position};
 ghost use Rattle.zst_dir.specs.RowNames.{AreNamed, NamesBookmark, NamesSnapshot};
 ghost use Rattle.zst_model.specs.fields.Guids.{IsGuidSet};
 ghost use Rattle.zst_model.specs.pools.Ancestry.{OfBookmark, OfSnapshot};
@@ -10,7 +10,7 @@ ghost use Rattle.zst_model.specs.sends.SendPlan.{comes_before};
 ghost use Rattle.zst_laws.specs.RedactionLists.{AreRedactions};
 ghost use Rattle.zst_laws.specs.RememberedStates.{IsOwn};
 ghost use Rattle.zst_check.specs.Findings.{StandsAtPlace};
-ghost use Rattle.zst_check.specs.Redactions.{AreSetsOf, IsOnlyBehind, is_own_row};
+ghost use Rattle.zst_check.specs.Redactions.{AreSetsOf, IsOnlyBehind, IsSetOfRow, is_own_row};
 
 use std::alloc::{AllocError, Global};
 use zst_dir::{Bookmark, Dir, Snapshot};
@@ -74,7 +74,8 @@ pub(crate) fn redaction_sets(
     guids: &[u64],
 ) -> Result<Option<Vec<ObjSet>>, AllocError>
     requires { IsGuidSet guids.now }
-    ensures { (pool : Pool) (from : plain.Snapshot) → AreNamed dir.now pool → IsPool pool → Sound pool → Contains pool.snapshots from → NamesSnapshot own.now from
+    ensures rows { IfOk result (λ found. IfSome found (λ sets. All (IsSetOfRow dir.now.snapshots) sets.items)) }
+    ensures only { (pool : Pool) (from : plain.Snapshot) → AreNamed dir.now pool → IsPool pool → Sound pool → Contains pool.snapshots from → NamesSnapshot own.now from
         → IfOk result (λ found. MatchOption found
         ((redactions : List plain.Snapshot) → AreRedactions pool from guids.now redactions → ⊥)
         (λ sets. (redactions : List plain.Snapshot) × AreRedactions pool from guids.now redactions × AreSetsOf dir.now.snapshots pool.snapshots sets.items redactions)) }

@@ -1,14 +1,45 @@
-use Rattle.std.proofs.Common.{◌≡◌, ◌≢◌, ℕ, List, Option, sym, ◌∙◌, subst}
+use Rattle.std.proofs.Common.{◌≡◌, ◌≢◌, inl, inr, ℕ, List, ◌∷◌, Option, sym, ◌∙◌, subst}
 use Rattle.std.specs.Prelude.{None}
 use Rattle.std.proofs.lemmas.Result.{err_from_is_err_and}
 use Rattle.zst_space.specs.FreeSectors.{FreeSectors}
 use Rattle.zst_block.specs.Blocks.{Has}
+use Rattle.zst_block.specs.IoStates.{blocks_of, disk_of}
+use Rattle.zst_compare.specs.Damage.{OfEither}
 use Rattle.zst_model.specs.fields.Lists.{Runs, has_pair}
 use Rattle.zst_model.specs.pools.RedSet.{objects_of, red_set}
+use Rattle.zst_objset.specs.Damage.{IfDamage}
+use Rattle.zst_objset.proofs.DamageLaws.{IfDamage-weaker}
 use Rattle.zst_objset.proofs.LeafLaws.{look_on}
+use Rattle.zst_redact.specs.Damage.{IsDamagedAmong}
 use Rattle.zst_redact.specs.Passes.{HoldStates}
+use Rattle.zst_tree.specs.Damage.{IsSeen}
+use Rattle.zst_tree.proofs.Damage.{seen_before}
+use Rattle.zst_check.specs.Damage.{IsDamagedList}
 use Rattle.zst_check.specs.ListPairs.{FindsOther}
+use Rattle.zst_check.specs.declared.report.Report.{Report}
+use Rattle.zst_check.proofs.ListDamage.{fault_within, list_told}
 use Rattle.zst_check.proofs.lists.differing_from.Goals as goal
+
+pub returns-in_err-list-clause-damaged : goal.returns-in_err-list-clause-damaged
+returns-in_err-list-clause-damaged g c = λ honest.
+    let p = err_from_is_err_and c.from_residual.result c.from_residual.ensures.1 in
+    let fault = c.in_err-list.field-0.0 in
+    let disk = disk_of c.args.io.now in
+    let end = c.args.io.now.space.end in
+    let among = IsDamagedAmong (IsSeen disk.seen) disk.size (c.args.own.now.objects ∷ c.args.sets.now) in
+    let list = IsDamagedList end disk.seen disk.size c.args.row.now in
+    rw (p.1, p.2) (fault_within list (OfEither among list) (λ sector stated found told. inr told) Runs (Option Report) fault
+    (list_told end disk.seen disk.size c.args.row.now (blocks_of c.args.io.now) fault (λ runs has. c.in_err-list.ensures.there runs honest has) (c.in_err-list.ensures.damaged honest)))
+
+pub returns-in_err-found-clause-damaged : goal.returns-in_err-found-clause-damaged
+returns-in_err-found-clause-damaged g c = λ honest.
+    let p = err_from_is_err_and c.from_residual-in_err-found.result c.from_residual-in_err-found.ensures.1 in
+    let fault = c.in_err-found.field-0.0 in
+    let disk = disk_of c.args.io.now in
+    let sets = c.args.own.now.objects ∷ c.args.sets.now in
+    let list = IsDamagedList c.args.io.now.space.end disk.seen disk.size c.args.row.now in
+    let among = seen_before {stop = None} c.in_ok-list.ensures.looks (λ (seen : List ℕ) (size : ℕ). IfDamage fault (IsDamagedAmong (IsSeen seen) size sets)) (c.in_err-found.ensures.damaged honest) in
+    rw (p.1, p.2) (IfDamage-weaker (IsDamagedAmong (IsSeen disk.seen) disk.size sets) (OfEither (IsDamagedAmong (IsSeen disk.seen) disk.size sets) list) (λ sector stated found told. inl told) fault among)
 
 pub returns-in_err-found-clause-found : goal.returns-in_err-found-clause-found
 returns-in_err-found-clause-found g c = λ bookmark snapshot redactions honest is own hold.

@@ -1,5 +1,0 @@
-use Rattle.zst_check.proofs.FirstSectors.{counted_are_reached, reached_are_counted}
-use Rattle.zst_check.proofs.laws.counted_blocks_are_reached.Goals as goal
-
-pub returns : goal.returns
-returns c = record { reached = counted_are_reached; counted = reached_are_counted }
