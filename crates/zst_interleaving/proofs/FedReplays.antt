@@ -7,7 +7,7 @@ use Rattle.zst_model.specs.sends.Headers.{Sent, sent_view}
 use Rattle.zst_replication.specs.Outcomes.{Course, Progress}
 use Rattle.zst_replication.proofs.StoppedReceives.{start_untouched}
 use Rattle.zst_script.specs.Lines.{words_of}
-use Rattle.zst_script.specs.Scripts.{Event', Nothing, Passes, Says, ScriptEnd, Stops}
+use Rattle.zst_script.specs.Scripts.{Event', Nothing, Passes, Stops}
 use Rattle.zst_script.specs.declared.event.Event.{Event}
 use Rattle.zst_script.specs.declared.event.Event.TheVariants as events
 use Rattle.zst_sessions.specs.Lawfulness.{IsWorld, MovesKeepWorlds}

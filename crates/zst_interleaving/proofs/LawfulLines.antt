@@ -55,6 +55,7 @@ pub lines_fit : LinesAreFit
 lines_fit (events.Step side command) words is = is.1.1.1.1
 lines_fit (events.Receive side id ask) words is = subst IsAsk (sym is.2.0) (line_asks _ ask.keep ask.force ask.origin is.1 _ is.2.3)
 lines_fit (events.Token side dataset) words is = tt
+lines_fit (events.Check side) words is = tt
 lines_fit (events.Send side id ask) words is = tt
 lines_fit (events.Resume side id dataset) words is = tt
 lines_fit (events.Pump sends receives count) words is = tt

@@ -213,6 +213,7 @@ module _ (steps : StepsKeepPools) (feeds : FeedsKeepLawful) (sent_bytes : SentAr
   moved_keeps (events.Step side command) words =
       either (at_side side world).failed _ _ (stepped_keeps side command (stepped (held_at side world) now command (at_side side world).pool) words refl)
   moved_keeps (events.Token side dataset) words = either (at_side side world).failed _ _ (told_keeps (token_told dataset (at_side side world).pool))
+  moved_keeps (events.Check side) words = is
   moved_keeps (events.Send side id ask) words =
       let pool = (at_side side world).pool in
       either (at_side side world).failed _ _ (opened_keeps side id None (with_list (send_plan ask pool)) (λ sent e. sent_bytes ask pool sent (pool_at world side is) e))
@@ -235,6 +236,7 @@ module _ (steps : StepsKeepPools) (feeds : FeedsKeepLawful) (sent_bytes : SentAr
   given_up_keeps : (event : Event) → IsLawfulWorld (given_up event world)
   given_up_keeps (events.Step side command) = is
   given_up_keeps (events.Token side dataset) = is
+  given_up_keeps (events.Check side) = is
   given_up_keeps (events.Send side id ask) = is
   given_up_keeps (events.Resume side id dataset) = is
   given_up_keeps (events.Receive side id ask) = is
@@ -271,6 +273,7 @@ module _ (steps : StepsKeepPools) (feeds : FeedsKeepLawful) (sent_bytes : SentAr
   lost_keeps (events.Step side command) next words fails =
       fails_keep side world (moved now (events.Step side command) world).world next is (moved_keeps (events.Step side command) words) fails
   lost_keeps (events.Token side dataset) next words fails = absurd fails
+  lost_keeps (events.Check side) next words fails = fails_keep side world world next is is fails
   lost_keeps (events.Send side id ask) next words fails = fails_keep side world world next is is fails
   lost_keeps (events.Resume side id dataset) next words fails = fails_keep side world world next is is fails
   lost_keeps (events.Receive side id ask) next words fails = absurd fails

@@ -176,6 +176,7 @@ module _ (id : ℕ) (receive : OpenReceive) where
   moved_stays now (events.Token side dataset) world found =
       either (events.Token side dataset) (at_side side world).failed world refusals.Failed _ (inl found)
       (same (events.Token side dataset) world _ (told_receives world (token_told dataset (at_side side world).pool)) found)
+  moved_stays now (events.Check side) world found = inl found
   moved_stays now (events.Send side other ask) world found =
       either (events.Send side other ask) (at_side side world).failed world refusals.Failed _ (inl found)
       (opened_stays (events.Send side other ask) side other None world (with_list (send_plan ask (at_side side world).pool)) found)
@@ -206,6 +207,7 @@ module _ (id : ℕ) (receive : OpenReceive) where
   given_up_stays : (event : Event) (world : World) → found_in world.receives → Stays event (given_up event world).receives
   given_up_stays (events.Step side command) world found = inl found
   given_up_stays (events.Token side dataset) world found = inl found
+  given_up_stays (events.Check side) world found = inl found
   given_up_stays (events.Send side other ask) world found = inl found
   given_up_stays (events.Resume side other dataset) world found = inl found
   given_up_stays (events.Receive side other ask) world found = inl found
@@ -229,6 +231,7 @@ module _ (id : ℕ) (receive : OpenReceive) where
   lost_stays : (now : ℕ) (event : Event) (world next : World) → DiskFails now event world next → found_in world.receives → Stays event next.receives
   lost_stays now (events.Step side command) world next fails found = fails_stays (events.Step side command) side world _ next fails (inl found)
   lost_stays now (events.Token side dataset) world next fails found = absurd fails
+  lost_stays now (events.Check side) world next fails found = fails_stays (events.Check side) side world _ next fails (inl found)
   lost_stays now (events.Send side other ask) world next fails found = fails_stays (events.Send side other ask) side world _ next fails (inl found)
   lost_stays now (events.Resume side other dataset) world next fails found = fails_stays (events.Resume side other dataset) side world _ next fails (inl found)
   lost_stays now (events.Receive side other ask) world next fails found = absurd fails

@@ -1,6 +1,7 @@
 -- One event among those of a run.
 use Rattle.std.proofs.Common.{◌≡◌, ◌⊎◌, inl, inr, ℕ, List, [], ◌∷◌, ◌++◌, refl, sym, ap, subst}
 use Rattle.zst_script.specs.declared.event.Event.{Event}
+use Rattle.zst_script.specs.declared.event.Event.TheVariants as events
 use Rattle.zst_sessions.specs.Moves.{Answer, moved}
 use Rattle.zst_sessions.specs.Replay.{AsDefined, AtStart, GoesOn, InEvent, Later, Moves, OnWay, Replay, Stays}
 use Rattle.zst_sessions.specs.World.{World}
@@ -97,12 +98,18 @@ ends_there now world way run answers (AtStart here all said) e = refl
 ends_there now world way run answers (InEvent here event rest said) e = absurd (cc e)
 ends_there now world way run answers (Later here next end event answer rest said moves on) e = absurd (cc e)
 
+-- what holds before an event and of where it leads holds of the world that it is to make: a check leaves the one that it finds
+made_so : (P : World → Type 0) (now : ℕ) (event : Event) (world : World) → P world → ((answer : Answer) (next : World) → Moves now world event answer next → P next) → P (moved now event world).world
+unfolding moved
+made_so P now (events.Check side) world same leads = same
+made_so P now event world same leads = leads (moved now event world).answer (moved now event world).world (AsDefined refl refl)
+
 -- what holds before an event and of where it leads holds of what is on its way
 pub on_its_way : (P : World → Type 0) (now : ℕ) (one : Event) (world way : World) (run : List Event) (answers : List Answer) → OnWay now world run answers way → run ≡ one ∷ []
     → P world → ((answer : Answer) (next : World) → Moves now world one answer next → P next) → P way
 on_its_way P now one world way run answers (AtStart here all said) e same leads = same
 on_its_way P now one world way run answers (InEvent here event rest said) e same leads =
-    subst (λ (o : Event). P (moved now o here).world) (sym (first_is event one rest [] e).0) (leads (moved now one here).answer (moved now one here).world (AsDefined refl refl))
+    subst (λ (o : Event). P (moved now o here).world) (sym (first_is event one rest [] e).0) (made_so P now one here same leads)
 on_its_way P now one world way run answers (Later here next end event answer rest said moves on) e same leads =
     let first = first_is event one rest [] e in
     subst P (ends_there now next end rest said on first.1) (leads answer next (subst (λ (o : Event). Moves now here o answer next) first.0 moves))

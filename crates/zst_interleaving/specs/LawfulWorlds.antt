@@ -1,5 +1,5 @@
 -- The laws of lawful pools along a replay, whatever its events are and however they are answered.
-use Rattle.std.specs.Prelude.{ℕ, ◌^◌, ◌<◌, List, [], ◌∷◌, All}
+use Rattle.std.specs.Prelude.{ℕ, ◌^◌, ◌<◌, List, All}
 use Rattle.zst_model.specs.pools.Pool.{IsPool, Pool}
 use Rattle.zst_model.specs.pools.Step.{IsCommand}
 use Rattle.zst_model.specs.states.State.{AreBytes}

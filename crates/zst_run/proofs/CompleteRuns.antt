@@ -1,13 +1,20 @@
 -- Runs that nothing stands in the way of.
 use Rattle.std.proofs.Common.{◌≡◌, ◌≢◌, inl, inr, ◌⊎◌, ⊎_elim, ℕ, ◌≤◌, ◌+◌, ◌*◌, Bool, List, [], ◌∷◌, ◌++◌, length, None, Result, Ok, Err, refl, sym, ap, ◌∙◌, subst, arith}
-use Rattle.std.specs.Prelude.{IfErr}
+use Rattle.std.specs.Prelude.{IfErr, IfOk, ◌↔◌}
 use Rattle.std.specs.List.{concat}
 use Rattle.std.specs.Result.{result_map_both}
 use Rattle.std.proofs.lemmas.List.{append-nil, append_cancel_left, length-append}
 use Rattle.zst_outside.specs.Images.{DiskState}
 use Rattle.zst_outside.specs.States.{SourceState, SinkState, Gave}
 use Rattle.zst_uber.specs.Slots.{latest}
+use Rattle.zst_uber.specs.declared.uber.Uber.{Uber}
+use Rattle.zst_check.specs.Checks.{IsReportBy, report_line}
+use Rattle.zst_check.specs.Reports.{NoneIsBoth}
+use Rattle.zst_check.specs.declared.report.Report.{Report}
+use Rattle.zst_check.specs.declared.report.Report.TheVariants.{Sound, Unsound}
 use Rattle.zst_image.specs.Bodies.{Body}
+use Rattle.zst_image.specs.Reads.{kept_rows}
+use Rattle.zst_laws.specs.RedactionLists.{AreListed}
 use Rattle.zst_model.specs.declared.pools.command.Command.{Command}
 use Rattle.zst_model.specs.declared.pools.command.Command.TheVariants as commands
 use Rattle.zst_model.specs.declared.refusals.faults.Quantity.TheVariants as quantities
@@ -17,6 +24,7 @@ use Rattle.zst_model.specs.declared.refusals.refusal.Refusal.TheVariants as refu
 use Rattle.zst_model.specs.declared.refusals.stream_fault.StreamFault.{StreamFault}
 use Rattle.zst_model.specs.declared.refusals.stream_fault.StreamFault.TheVariants.{Truncated}
 use Rattle.zst_model.specs.pools.Pool.{Pool}
+use Rattle.zst_model.specs.pools.Soundness as soundness
 use Rattle.zst_model.specs.pools.Step.{Stepped, stepped}
 use Rattle.zst_model.specs.sends.Headers.{Sent}
 use Rattle.zst_dir.specs.Rows.{Rows}
@@ -30,8 +38,10 @@ use Rattle.zst_stream.specs.Laws.{FrontsAgree}
 use Rattle.zst_stream.specs.Reading.{complete, faulty, reading, waiting}
 use Rattle.zst_token.specs.Spelling.{token_text}
 use Rattle.zst_token.specs.declared.token.Token.{Token}
+use Rattle.zst_run.specs.Checks.{AnswersReport, OfCheck, status_of_report}
 use Rattle.zst_run.specs.Commands.{Answers, IsFull, IsPoolRefusal, Makes, OfMaking, OfStepping, Opened}
-use Rattle.zst_run.specs.Completeness.{AreOfFront, DoneIsTold, DoneOrNoMemory, HasRoomFor, HasRoomToReclaim, HasText, NoneCounted, ReceivesComplete, SendsComplete, StepsComplete, CreatesComplete, TokensComplete, DumpsComplete}
+use Rattle.zst_run.specs.Completeness.{AreOfFront, DoneIsTold, DoneOrNoMemory, HasRoomFor, HasRoomToReclaim, HasText, NoneCounted, ReceivesComplete, SendsComplete, StepsComplete}
+use Rattle.zst_run.specs.Completeness.{CreatesComplete, TokensComplete, ChecksComplete, DumpsComplete}
 use Rattle.zst_run.specs.Dumps.{Ends}
 use Rattle.zst_run.specs.Receives.{ArePieces, IsReceiveRefusal, ReceiveEnds, Refused}
 use Rattle.zst_run.specs.Replies.{Replied}
@@ -42,9 +52,9 @@ use Rattle.zst_run.proofs.CommandLemmas.{reclaim_or_not}
 use Rattle.zst_run.proofs.ImageTokens.{as_answer}
 
 pub done_is_told : DoneIsTold
-done_is_told note note' status (Ok done) alone told = inl told.0
-done_is_told note note' status (Err refusal) (inl is) told = absurd (cc is)
-done_is_told note note' status (Err refusal) (inr is) told =
+done_is_told note note' status ends (Ok done) alone told = inl told.0
+done_is_told note note' status ends (Err refusal) (inl is) told = absurd (cc is)
+done_is_told note note' status ends (Err refusal) (inr is) told =
     let same : refusal ≡ refusals.OutOfMemory = cc is in inr (told.0 ∙ ap status_of same)
 
 -- ---- sends
@@ -199,6 +209,33 @@ tokens_complete here here' dataset pool token out out' result honest reads is di
     (subst (λ (answer : Result Token Refusal). IfErr answer (IsPoolRefusal (OfToken dataset) here here')) e tokens.tells.refused)
     (subst (λ (answer : Result Token Refusal). AnswersBy (token_told dataset pool) answer) e (tokens.tells.answers pool honest reads)))
     tokens.replied
+
+-- where the image reads as a pool a check is refused by the disk or by want of memory alone
+check_refusal : (here here' : DiskState) (body : Body) (rows : Rows) (pool : Pool) (refusal : Refusal) → NoneCounted here.faults here'.faults
+    → IsPoolRefusal OfCheck here here' refusal → AnswersReport here body rows pool (Err refusal) → refusal ≡ refusals.OutOfMemory
+check_refusal here here' body rows pool refusals.DiskFault disk refused answers = absurd (disk (refused.cause refl))
+check_refusal here here' body rows pool refusals.OutOfMemory disk refused answers = refl
+check_refusal here here' body rows pool refusal disk refused answers = absurd answers
+
+-- its status tells whether the pool is sound: no pool has reports of both kinds
+tells_sound : NoneIsBoth → (image : List ℕ) (uber : Uber) (rows : Rows) (pool : Pool) (ends : ℕ) (report : Report) → IsReportBy image uber rows pool report → ends ≡ status_of_report report
+    → (ends ≡ 0) ↔ (soundness.Sound pool × AreListed pool)
+tells_sound alone image uber rows pool ends (Sound blocks) is status = (λ none. (is.1, is.2), λ sound. status)
+tells_sound alone image uber rows pool ends (Unsound earlier later object block) is status =
+    (λ none. absurd (omega (arith, none, status)), λ sound. absurd (alone pool 0 0 0 earlier later object block (refl, sound.0, sound.1) is))
+
+check_done : NoneIsBoth → (here here' : DiskState) (body : Body) (rows : Rows) (pool : Pool) (out out' : SinkState) (answer : Result Report Refusal) (ends : ℕ) (result : Result (Unit {0}) Refusal)
+    → NoneCounted here.faults here'.faults → NoneCounted out.faults out'.faults → AnswersReport here body rows pool answer → IfErr answer (IsPoolRefusal OfCheck here here')
+    → IfOk answer (λ report. ends ≡ status_of_report report) → Replied out out' (result_map_both (λ report. report_line report ∷ []) (λ refusal. refusal) answer) result
+    → DoneOrNoMemory result × (result ≡ Ok tt → (ends ≡ 0) ↔ (soundness.Sound pool × AreListed pool))
+check_done alone here here' body rows pool out out' (Ok report) ends result disk sink answers refused status replied =
+    (replied_done out out' (report_line report ∷ []) result sink replied, λ done. tells_sound alone here.seen body.uber (kept_rows rows) pool ends report answers status)
+check_done alone here here' body rows pool out out' (Err refusal) ends result disk sink answers refused status replied =
+    (inr (replied.0 ∙ ap (λ (r : Refusal). Err r) (check_refusal here here' body rows pool refusal disk refused answers)), λ done. absurd (let both : Err refusal ≡ Ok tt = sym replied.0 ∙ done in cc))
+
+pub checks_complete : NoneIsBoth → (here here' : DiskState) → ChecksComplete here here'
+checks_complete alone here here' pool out out' result honest reads disk sink checks =
+    check_done alone here here' reads.0 reads.1 pool out out' checks.answer checks.ends result disk sink (checks.tells.answers reads.0 reads.1 pool honest reads.2) checks.tells.refused checks.ends_is checks.replied
 
 -- a front of a text that is read to END isn't refused
 front_passes : FrontsAgree → (read unread : List ℕ) (fault : StreamFault) → (reading (read ++ unread)).outcome ≡ complete → (reading read).outcome ≡ faulty fault → ⊥

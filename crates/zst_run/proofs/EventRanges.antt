@@ -7,6 +7,7 @@ use Rattle.zst_script.specs.declared.event.Event.TheVariants as events
 pub said_is_in_range : (event : Event) (words : List (List ℕ)) → EventIs event words → IsEvent event
 said_is_in_range (events.Step side command) words is = is.1.1.1.1
 said_is_in_range (events.Token side dataset) words is = tt
+said_is_in_range (events.Check side) words is = tt
 said_is_in_range (events.Send side id ask) words is = tt
 said_is_in_range (events.Resume side id dataset) words is = tt
 said_is_in_range (events.Receive side id ask) words is = tt

@@ -69,7 +69,7 @@ open_no_sink (opens.BadVersion version) is = absurd (cc is)
 open_no_sink opens.DiskFault is = absurd (cc is)
 open_no_sink opens.OutOfMemory is = absurd (cc is)
 
-open_never_full : (fault : OpenFault) (need largest : ℕ) → open_refusal fault ≢ refusals.Full need largest
+pub open_never_full : (fault : OpenFault) (need largest : ℕ) → open_refusal fault ≢ refusals.Full need largest
 open_never_full (opens.Damaged sector stated found) need largest is = absurd (cc is)
 open_never_full opens.NoPool need largest is = absurd (cc is)
 open_never_full (opens.BadVersion version) need largest is = absurd (cc is)

@@ -33,11 +33,13 @@ pub mod AlikeTokens
 pub mod Unreadable
 pub mod RelayedRuns
 pub mod ImageTokens
+pub mod ImageChecks
 pub mod CompleteRuns
 pub mod CompleteTransfers
 pub mod TurnEnds
 pub mod OpenedSends
 pub mod RefusalLines
+pub mod ReportLines
 pub mod EventLines
 pub mod ReplayRuns
 pub mod ReplayLines

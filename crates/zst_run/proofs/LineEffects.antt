@@ -1,15 +1,18 @@
--- What a line does that sends, one that receives, and one that tells a token.
-use Rattle.std.proofs.Common.{◌≡◌, ℕ, Bool, List, Some, Result, sym, subst}
+-- What a line does that sends, one that receives, one that tells a token, and one that checks.
+use Rattle.std.proofs.Common.{◌≡◌, ◌≢◌, ℕ, Bool, false, List, Some, Result, Ok, refl, sym, subst}
 use Rattle.zst_outside.specs.Images.{DiskState}
 use Rattle.zst_model.specs.declared.refusals.refusal.Refusal.{Refusal}
+use Rattle.zst_line.specs.Line.{LineAnswers}
 use Rattle.zst_line.specs.declared.line.Line.{Line}
 use Rattle.zst_line.specs.declared.line.Line.TheVariants.{Dump, Create, Step, Send, Resume, Receive, Token, Check, Gen, Replay}
+use Rattle.zst_run.specs.Checks.{EndsCheck}
 use Rattle.zst_run.specs.Devices.{Devices}
 use Rattle.zst_plan.specs.declared.receive.RecvAsk.{RecvAsk}
 use Rattle.zst_script.specs.Asks.{ask_of, receipt_of}
-use Rattle.zst_run.specs.LineEffects.{DoesLine, send_of, token_dataset_of, receive_of}
+use Rattle.zst_run.specs.LineEffects.{DoesLine, is_check, send_of, token_dataset_of, receive_of}
 use Rattle.zst_run.specs.Receives.{Receiving}
 use Rattle.zst_run.specs.Replies.{Replies}
+use Rattle.zst_run.specs.Runs.{EndsWords, line_ends}
 use Rattle.zst_run.specs.declared.send.SendRequest.{SendRequest}
 use Rattle.zst_run.specs.declared.send.SendRequest.TheVariants.{Named, Rest}
 use Rattle.zst_run.specs.Sends.{Sends}
@@ -61,3 +64,48 @@ does_tell state tells other others now (Receive image keeps forces origin target
 does_tell state tells other others now (Check image) dataset old new result is gives input there = absurd (cc is)
 does_tell state tells other others now (Gen image steps) dataset old new result is gives input there = absurd (cc is)
 does_tell state tells other others now (Replay first second) dataset old new result is gives input there = absurd (cc is)
+
+-- a line that is no check
+pub is_other : (line : Line) → ((image : List ℕ) → line ≢ Check image) → is_check line ≡ false
+is_other Dump never = refl
+is_other (Create image sectors id) never = refl
+is_other (Step image command) never = refl
+is_other (Send image from redacts snapshot) never = refl
+is_other (Resume image token) never = refl
+is_other (Receive image keeps forces origin target) never = refl
+is_other (Token image dataset) never = refl
+is_other (Check image) never = absurd (never image refl)
+is_other (Gen image steps) never = refl
+is_other (Replay first second) never = refl
+
+-- a check is done, and ends with its report's status
+pub does_check : {D E : Type 0} → (state : D → DiskState) (tells : Bool) (other : E → DiskState) (others : Bool) (now : ℕ) (words : List (List ℕ)) (line : Line) (path : List ℕ) (old new : Devices D E) (answer : Result ℕ Refusal)
+    → line ≡ Check path → LineAnswers words (Ok line) → EndsCheck (state old.here) (state new.here) old.out new.out answer → new.input ≡ old.input → new.there ≡ old.there → EndsWords state tells other others now words old new answer
+does_check state tells other others now words Dump path old new answer is says ends input there = absurd (cc is)
+does_check state tells other others now words (Create image sectors id) path old new answer is says ends input there = absurd (cc is)
+does_check state tells other others now words (Step image command) path old new answer is says ends input there = absurd (cc is)
+does_check state tells other others now words (Send image from redacts snapshot) path old new answer is says ends input there = absurd (cc is)
+does_check state tells other others now words (Resume image token) path old new answer is says ends input there = absurd (cc is)
+does_check state tells other others now words (Receive image keeps forces origin target) path old new answer is says ends input there = absurd (cc is)
+does_check state tells other others now words (Token image dataset) path old new answer is says ends input there = absurd (cc is)
+does_check state tells other others now words (Check image) path old new answer is says ends input there = ((Ok (Check image), says, (ends.0, input, there)), ends.1)
+does_check state tells other others now words (Gen image steps) path old new answer is says ends input there = absurd (cc is)
+does_check state tells other others now words (Replay first second) path old new answer is says ends input there = absurd (cc is)
+
+-- all others end with 0
+ends_well : {D E : Type 0} → (state : D → DiskState) (tells : Bool) (other : E → DiskState) (others : Bool) (now : ℕ) (line : Line) (old new : Devices D E) (result : Result (Unit {0}) Refusal) → is_check line ≡ false
+    → (does : DoesLine state tells other others now line old new result) → 0 ≡ line_ends state tells other others now line old new result does
+ends_well state tells other others now Dump old new result is does = refl
+ends_well state tells other others now (Create image sectors id) old new result is does = refl
+ends_well state tells other others now (Step image command) old new result is does = refl
+ends_well state tells other others now (Send image from redacts snapshot) old new result is does = refl
+ends_well state tells other others now (Resume image token) old new result is does = refl
+ends_well state tells other others now (Receive image keeps forces origin target) old new result is does = refl
+ends_well state tells other others now (Token image dataset) old new result is does = refl
+ends_well state tells other others now (Check image) old new result is does = absurd (cc is)
+ends_well state tells other others now (Gen image steps) old new result is does = refl
+ends_well state tells other others now (Replay first second) old new result is does = refl
+
+pub does_else : {D E : Type 0} → (state : D → DiskState) (tells : Bool) (other : E → DiskState) (others : Bool) (now : ℕ) (words : List (List ℕ)) (line : Line) (old new : Devices D E) → is_check line ≡ false
+    → LineAnswers words (Ok line) → DoesLine state tells other others now line old new (Ok tt) → EndsWords state tells other others now words old new (Ok 0)
+does_else state tells other others now words line old new is says does = ((Ok line, says, does), ends_well state tells other others now line old new (Ok tt) is does)

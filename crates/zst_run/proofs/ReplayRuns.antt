@@ -79,6 +79,7 @@ may_leave now side world (events.Reopen other) answer kept c (inl stood) = inl s
 may_leave now side world (events.Reopen other) answer kept c (inr reads) = way_of_one now side world (events.Reopen other) answer kept.disk c reads
 may_leave now side world (events.Step of command) answer kept c reads = way_of_one now side world (events.Step of command) answer kept.disk c reads
 may_leave now side world (events.Token of dataset) answer kept c reads = way_of_one now side world (events.Token of dataset) answer kept.disk c reads
+may_leave now side world (events.Check of) answer kept c reads = way_of_one now side world (events.Check of) answer kept.disk c reads
 may_leave now side world (events.Send of id ask) answer kept c reads = way_of_one now side world (events.Send of id ask) answer kept.disk c reads
 may_leave now side world (events.Resume of id dataset) answer kept c reads = way_of_one now side world (events.Resume of id dataset) answer kept.disk c reads
 may_leave now side world (events.Receive of id ask) answer kept c reads = way_of_one now side world (events.Receive of id ask) answer kept.disk c reads

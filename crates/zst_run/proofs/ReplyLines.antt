@@ -1,6 +1,6 @@
 -- The lines of a reply, one after the other.
 use Rattle.std.specs.Prelude.{Result, Ok, Err, codes}
-use Rattle.std.proofs.Common.{◌≡◌, ℕ, ◌+◌, ◌<◌, List, [], ◌∷◌, ◌++◌, length, get_or, take, drop, take-append-drop, refl, sym, ap, ◌∙◌, add-one, drop-cons}
+use Rattle.std.proofs.Common.{◌≡◌, ℕ, ◌+◌, ◌<◌, List, [], ◌∷◌, ◌++◌, length, get_or, take, drop, take-append-drop, refl, sym, ap, ◌∙◌, subst, add-one, drop-cons}
 use Rattle.std.specs.Fmt.{digits}
 use Rattle.std.proofs.lemmas.Grind.{flat_map-append}
 use Rattle.std.proofs.lemmas.List.{append-nil, take_more}
@@ -35,6 +35,11 @@ replied_all out out' lines prints handed_on = (record { front = prints.front; wh
 pub replied_front : {E : Type 0} (out out' : SinkState) (lines : List (List ℕ)) (fault : E) → Prints {T = Unit {0}} out out' (reply_text lines) (Err fault)
     → Replied out out' (Ok lines) (Err refusals.SinkFault)
 replied_front out out' lines fault prints = (record { front = prints.front; whole = tt; fault = prints.fault }, tt, refl)
+
+-- and of what writes one line
+pub line_written : {E : Type 0} (out out' : SinkState) (line : List ℕ) → Prints {E = E} out out' (line ++ codes "\n") (Ok (tt {0})) → HandedOn out' → Replied out out' (Ok (line ∷ [])) (Ok (tt {0}))
+line_written {E = E} out out' line prints handed_on =
+    replied_all out out' (line ∷ []) (subst (λ (text : List ℕ). Prints {T = Unit {0}} {E = E} out out' text (Ok (tt {0}))) (sym (append-nil (line ++ codes "\n"))) prints) handed_on
 
 -- what is refused writes nothing
 pub replies_refused : (Is : Result (List (List ℕ)) Refusal → Type 0) (out : SinkState) (refusal : Refusal) → Is (Err refusal) → Replies Is out out (Err refusal)

@@ -1,5 +1,5 @@
 -- Runs that nothing stands in the way of: they are done, unless no memory was left.
-use Rattle.std.specs.Prelude.{ℕ, ◌≡◌, ◌≢◌, ◌⊎◌, ◌≤◌, ◌+◌, ◌*◌, ◌++◌, false, Bool, IsTrue, List, [], length, Some, None, Result, Ok, Err}
+use Rattle.std.specs.Prelude.{ℕ, ◌≡◌, ◌≢◌, ◌⊎◌, ◌↔◌, ◌≤◌, ◌+◌, ◌*◌, ◌++◌, false, Bool, IsTrue, List, [], length, Some, None, Result, Ok, Err}
 use Rattle.std.specs.List.{concat}
 use Rattle.zst_outside.specs.Causes.{Rose}
 use Rattle.zst_outside.specs.Images.{DiskState}
@@ -17,9 +17,11 @@ use Rattle.zst_model.specs.declared.refusals.refusal.Refusal.TheVariants as refu
 use Rattle.zst_model.specs.declared.sends.ask.SendAsk.{SendAsk}
 use Rattle.zst_model.specs.pools.Limits.{last_number}
 use Rattle.zst_model.specs.pools.Pool.{Partial, Pool}
+use Rattle.zst_model.specs.pools.Soundness as soundness
 use Rattle.zst_model.specs.pools.Step.{Stepped, stepped}
 use Rattle.zst_model.specs.sends.Headers.{Sent, header_of}
 use Rattle.zst_model.specs.states.State.{State}
+use Rattle.zst_laws.specs.RedactionLists.{AreListed}
 use Rattle.zst_dir.specs.Rows.{Rows}
 use Rattle.zst_dir.specs.Spelling.{dir_bytes}
 use Rattle.zst_image.specs.Reads.{Reads, ReadsAs, kept_rows}
@@ -36,6 +38,7 @@ use Rattle.zst_replication.specs.TakenSends.{IsInLimits}
 use Rattle.zst_send.specs.Sends.{begun_text}
 use Rattle.zst_stream.specs.Reading.{complete, reading}
 use Rattle.zst_token.specs.declared.token.Token.{Token}
+use Rattle.zst_run.specs.Checks.{Checks}
 use Rattle.zst_run.specs.Commands.{Making, Opens, Stepping, as_kept, most_of}
 use Rattle.zst_run.specs.Dumps.{Dumps}
 use Rattle.zst_run.specs.Receives.{ArePieces, CostMore, IsTightOrNew, Receiving}
@@ -55,9 +58,9 @@ NoneCounted before after = ¬ (Rose before after)
 abbrev pub DoneOrNoMemory : Result (Unit {0}) Refusal → Type 0
 DoneOrNoMemory result = (result ≡ Ok tt) ⊎ (result ≡ Err refusals.OutOfMemory)
 
--- The program tells either by its status.
+-- The program tells either by its status: that with which what was done ends, which is 0 of each line but `check`, or that of E32.
 abbrev pub DoneIsTold : Type 0
-DoneIsTold = (note note' : SinkState) (status : ℕ) (result : Result (Unit {0}) Refusal) → DoneOrNoMemory result → Told note note' status result → (status ≡ 0) ⊎ (status ≡ 10)
+DoneIsTold = (note note' : SinkState) (status ends : ℕ) (result : Result (Unit {0}) Refusal) → DoneOrNoMemory result → Told note note' status ends result → (status ≡ ends) ⊎ (status ≡ 10)
 
 -- ---- sends
 
@@ -198,6 +201,15 @@ TokensComplete here here' =
     → here'.honest → Reads false pool here.seen → token_told dataset pool ≡ Ok token
     → NoneCounted here.faults here'.faults → NoneCounted out.faults out'.faults
     → Tokens dataset here here' out out' result → DoneOrNoMemory result
+
+-- A run of `check` on an image that reads as a pool: where no fault was counted, it is done, or no memory was left; and where it is done, it ends with status 0
+-- exactly where the pool is sound, in all four parts.
+abbrev pub ChecksComplete : (here here' : DiskState) → Type 0
+ChecksComplete here here' =
+    (pool : Pool) (out out' : SinkState) (result : Result (Unit {0}) Refusal)
+    → here'.honest → Reads false pool here.seen
+    → NoneCounted here.faults here'.faults → NoneCounted out.faults out'.faults
+    → (checks : Checks here here' out out' result) → DoneOrNoMemory result × (result ≡ Ok tt → (checks.ends ≡ 0) ↔ (soundness.Sound pool × AreListed pool))
 
 -- A run of `dump`: where the text that the input has is read to END, and no fault was counted, it is done, or no memory was left.
 abbrev pub DumpsComplete : Type 0

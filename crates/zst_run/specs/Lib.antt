@@ -8,6 +8,7 @@ pub mod Replies
 pub mod Replays
 pub mod ReplayTurns
 pub mod Interleaved
+pub mod Checks
 pub mod Commands
 pub mod Devices
 pub mod Generating

@@ -2,7 +2,7 @@
 use Rattle.std.specs.Prelude.{◌≡◌, ◌≢◌, ℕ, ◌*◌, if◌then◌else◌, List, Option, Some, None, Result, Ok, Err}
 use Rattle.zst_line.specs.Line.{LineAnswers}
 use Rattle.zst_line.specs.declared.line.Line.{Line}
-use Rattle.zst_line.specs.declared.line.Line.TheVariants.{Create, Step, Send, Resume, Receive, Token, Gen, Replay}
+use Rattle.zst_line.specs.declared.line.Line.TheVariants.{Create, Step, Send, Resume, Receive, Token, Check, Gen, Replay}
 use Rattle.zst_line.specs.declared.line.LineFault.{LineFault}
 use Rattle.zst_line.specs.declared.line.LineFault.TheVariants.{Memory}
 use Rattle.zst_model.specs.pools.Step.{commits}
@@ -11,7 +11,7 @@ use Rattle.zst_run.specs.declared.image.OpenMode.TheVariants.{Shared, Alone, Mad
 use Rattle.zst_run.specs.declared.image.Opening.{Opening}
 use Rattle.zst_run.specs.declared.image.Opening.TheVariants.{One, Two}
 
--- the one image that a line names, where it is built
+-- the one image that a line names
 abbrev pub image_in : Line → Option (List ℕ)
 image_in (Create image sectors id) = Some image
 image_in (Step image command) = Some image
@@ -19,6 +19,7 @@ image_in (Send image from redacts snapshot) = Some image
 image_in (Resume image token) = Some image
 image_in (Receive image keeps forces origin target) = Some image
 image_in (Token image dataset) = Some image
+image_in (Check image) = Some image
 image_in (Gen image steps) = Some image
 image_in line = None
 
@@ -30,6 +31,7 @@ way_of (Send image from redacts snapshot) = Some Shared
 way_of (Resume image token) = Some Shared
 way_of (Receive image keeps forces origin target) = Some Alone
 way_of (Token image dataset) = Some Shared
+way_of (Check image) = Some Shared
 way_of (Gen image steps) = Some Alone
 way_of line = None
 
@@ -39,7 +41,7 @@ one_of None way = None
 one_of (Some image) None = None
 one_of (Some image) (Some way) = Some (One image way)
 
--- the images of a line and how they are opened, both of a replay each alone; none where a line names no image, or isn't built
+-- the images of a line and how they are opened, both of a replay each alone; none where a line names no image
 abbrev pub opening_in : Line → Option Opening
 opening_in (Replay here there) = Some (Two here there)
 opening_in line = one_of (image_in line) (way_of line)

@@ -1,5 +1,5 @@
 -- What a run does: the status, and what is noted.
-use Rattle.std.specs.Prelude.{ℕ, ◌≡◌, ◌⊎◌, Bool, ◌==◌, if◌then◌else◌, List, ◌++◌, Result, Ok, Err, codes, decimal}
+use Rattle.std.specs.Prelude.{ℕ, ◌≡◌, ◌⊎◌, Bool, ◌==◌, if◌then◌else◌, IfOk, List, ◌++◌, Result, Ok, Err, codes, decimal}
 use Rattle.zst_outside.specs.Causes.{Rose}
 use Rattle.zst_outside.specs.Images.{DiskState}
 use Rattle.zst_outside.specs.States.{SinkState, HandedOn}
@@ -11,9 +11,11 @@ use Rattle.zst_model.specs.declared.refusals.refusal.Refusal.{Refusal}
 use Rattle.zst_model.specs.declared.refusals.refusal.Refusal.TheVariants as refusals
 use Rattle.zst_line.specs.Line.{LineAnswers}
 use Rattle.zst_line.specs.declared.line.Line.{Line}
+use Rattle.zst_line.specs.declared.line.Line.TheVariants.{Check}
 use Rattle.zst_line.specs.declared.line.LineFault.{LineFault}
+use Rattle.zst_run.specs.Checks.{as_done}
 use Rattle.zst_run.specs.Devices.{Devices}
-use Rattle.zst_run.specs.LineEffects.{Does}
+use Rattle.zst_run.specs.LineEffects.{Does, DoesLine}
 
 -- the status that a plan's fault ends the program with
 abbrev pub plan_status : PlanFault → ℕ
@@ -49,14 +51,31 @@ pub record Noted (note note' : SinkState) (text : List ℕ) : Type 0 where
   pub front : (rest : List ℕ) × Wrote note note' text rest
   pub whole : (Printed note note' text × HandedOn note') ⊎ Rose note.faults note'.faults
 
--- The answer is told by the status, 0 where nothing was refused, and a refusal is noted.
-abbrev pub Told : SinkState → SinkState → ℕ → Result (Unit {0}) Refusal → Type 0
-Told note note' status (Ok done) = (status ≡ 0) × (note' ≡ note)
-Told note note' status (Err refusal) = (status ≡ status_of refusal) × Noted note note' (note_of refusal)
+-- The answer is told by the status: that with which what was done ends where nothing was refused; and a refusal is noted.
+abbrev pub Told : SinkState → SinkState → (status ends : ℕ) → Result (Unit {0}) Refusal → Type 0
+Told note note' status ends (Ok done) = (status ≡ ends) × (note' ≡ note)
+Told note note' status ends (Err refusal) = (status ≡ status_of refusal) × Noted note note' (note_of refusal)
+
+-- the status with which a line ends where nothing is refused: that of the report of a check, and 0 of all others
+abbrev pub line_ends : {D E : Type 0} (state : D → DiskState) (tells : Bool) (other : E → DiskState) (others : Bool) (now : ℕ) (line : Line) (old new : Devices D E) (result : Result (Unit {0}) Refusal)
+    → DoesLine state tells other others now line old new result → ℕ
+line_ends state tells other others now (Check image) old new result does = does.0.ends
+line_ends state tells other others now line old new result does = 0
+
+-- and so of what words do
+abbrev pub ends_by : {D E : Type 0} (state : D → DiskState) (tells : Bool) (other : E → DiskState) (others : Bool) (now : ℕ) (line : Result Line LineFault) (old new : Devices D E) (result : Result (Unit {0}) Refusal)
+    → Does state tells other others now line old new result → ℕ
+ends_by state tells other others now (Ok line) old new result does = line_ends state tells other others now line old new result does
+ends_by state tells other others now (Err fault) old new result does = 0
 
 -- What words do: the line that they are, or why they are none, and what it does.
 abbrev pub DoesWords : {D E : Type 0} → (D → DiskState) → Bool → (E → DiskState) → Bool → ℕ → List (List ℕ) → Devices D E → Devices D E → Result (Unit {0}) Refusal → Type 0
 DoesWords state tells other others now words old new result = (line : Result Line LineFault) × LineAnswers words line × Does state tells other others now line old new result
+
+-- What words do that answer the status with which that ends.
+abbrev pub EndsWords : {D E : Type 0} → (D → DiskState) → Bool → (E → DiskState) → Bool → ℕ → List (List ℕ) → Devices D E → Devices D E → Result ℕ Refusal → Type 0
+EndsWords state tells other others now words old new answer =
+    (does : DoesWords state tells other others now words old new (as_done answer)) × IfOk answer (λ status. status ≡ ends_by state tells other others now does.0 old new (as_done answer) does.2)
 
 -- A run of the program on these words, at this time, over two disks of which it is said what each is at a moment, and whether it tells its images:
 -- the line that they are, or why they are none, then what it does, and what is told of that.
@@ -65,4 +84,4 @@ pub record Runs {D E : Type 0} (state : D → DiskState) (tells : Bool) (other :
   pub says : LineAnswers words line
   pub result : Result (Unit {0}) Refusal
   pub does : Does state tells other others now line old new result
-  pub told : Told note note' status result
+  pub told : Told note note' status (ends_by state tells other others now line old new result does) result

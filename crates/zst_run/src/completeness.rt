@@ -1,11 +1,12 @@
 // Runs that nothing stands in the way of.
-ghost use Rattle.zst_run.specs.Completeness.{CreatesComplete, DoneIsTold, DumpsComplete, ReceivesComplete, RestTransfersComplete, SendsComplete, StepsComplete, TokensComplete, TransfersComplete};
+ghost use Rattle.zst_run.specs.Completeness.{ChecksComplete, CreatesComplete, DoneIsTold, DumpsComplete, ReceivesComplete, RestTransfersComplete, SendsComplete, StepsComplete, TokensComplete, TransfersComplete};
 
+use zst_check::no_report_is_both;
 use zst_outside::Disk;
 use zst_replication::{rest_can_be_sent, rest_is_accepted, sent_can_be_sent, sent_is_accepted};
 use zst_stream::{fronts_agree, view_is_read};
 
-/// What is done is told by status 0, and want of memory by 10.
+/// What is done is told by the status with which it ends, which is 0 but for a check, and want of memory by 10.
 pub fn done_is_told()
     ensures { DoneIsTold }
 {}
@@ -52,6 +53,13 @@ pub fn creates_complete<D: Disk>()
 pub fn tokens_complete<D: Disk>()
     ensures { (here now : D) → TokensComplete (D.state here) (D.state now) }
 {}
+
+/// So is the check of a pool, which ends with status 0 exactly where that is sound.
+pub fn checks_complete<D: Disk>()
+    ensures { (here now : D) → ChecksComplete (D.state here) (D.state now) }
+{
+    no_report_is_both();
+}
 
 /// So is the dump of a text that is read to END.
 pub fn dumps_complete()

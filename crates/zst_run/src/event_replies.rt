@@ -10,19 +10,11 @@ ghost use Rattle.zst_sessions.specs.EventReplies.{answer_of, reply_lines, standi
 ghost use Rattle.zst_sessions.specs.Moves.{took};
 
 use crate::note::write_refusal;
-use crate::reply::{write_line, write_lines};
-use itoa::Buffer;
+use crate::reply::{write_line, write_lines, write_number};
+use crate::reports::write_report;
 use zst_model::{Refusal, guid_text};
 use zst_outside::{Fault, Sink, write_all};
 use zst_sessions::{EventReply, Standing};
-
-// Writes a number behind a text.
-fn write_number<K: Sink>(text: &[u8], number: u64, out: &mut K) -> Result<(), Fault>
-    ensures { Prints (K.state out.old) (K.state out.new) (text.now ++ decimal number) result }
-{
-    write_all(out, text)?;
-    write_all(out, Buffer::new().format(number).as_bytes())
-}
 
 // Writes a line that ends in a number, and its line feed.
 fn write_number_line<K: Sink>(text: &[u8], number: u64, out: &mut K) -> Result<(), Fault>
@@ -75,6 +67,7 @@ fn write_reply<K: Sink>(reply: &EventReply, out: &mut K) -> Result<(), Fault>
     match reply {
         EventReply::Lines(lines) => write_lines(lines, out),
         EventReply::Token(token) => write_line(token.print().as_str().as_bytes(), out),
+        EventReply::Checked(report) => write_report(report, out),
         EventReply::Opened { number } => write_number_line(b"ok ", *number, out),
         EventReply::Pumped {
             taken,

@@ -33,8 +33,8 @@ pub enum Opening {
     Two { here: Text, there: Text },
 }
 
-/// How a line opens its one image: one that commits nothing needs no leave to write. None where it doesn't name one, or
-/// asks for what isn't built.
+/// How a line opens its one image: one that commits nothing needs no leave to write. None where it doesn't name
+/// one.
 fn mode_for(line: &Line) -> Option<OpenMode>
     requires { IsInRange line.now }
     ensures { result ≡ way_of line.now }
@@ -46,14 +46,16 @@ fn mode_for(line: &Line) -> Option<OpenMode>
         }
         Line::Step { command, .. } if command.commits() => Some(OpenMode::Alone),
         Line::Receive { .. } | Line::Gen { .. } => Some(OpenMode::Alone),
-        Line::Step { .. } | Line::Send { .. } | Line::Resume { .. } | Line::Token { .. } => {
-            Some(OpenMode::Shared)
-        }
-        _ => None,
+        Line::Step { .. }
+        | Line::Send { .. }
+        | Line::Resume { .. }
+        | Line::Token { .. }
+        | Line::Check { .. } => Some(OpenMode::Shared),
+        Line::Dump | Line::Replay { .. } => None,
     }
 }
 
-/// The one image that a line names, where it is built.
+/// The one image that a line names.
 fn image_of(line: Line) -> Option<Text>
     ensures { result ≡ image_in line }
 {
@@ -64,8 +66,9 @@ fn image_of(line: Line) -> Option<Text>
         Line::Resume { image, .. } => Some(image),
         Line::Receive { image, .. } => Some(image),
         Line::Token { image, .. } => Some(image),
+        Line::Check { image } => Some(image),
         Line::Gen { image, .. } => Some(image),
-        _ => None,
+        Line::Dump | Line::Replay { .. } => None,
     }
 }
 
@@ -90,8 +93,7 @@ fn opening_for(line: Line) -> Option<Opening>
     }
 }
 
-/// The images that the words name, and how they are opened; None where they name none, are no line, or ask for what
-/// isn't built.
+/// The images that the words name, and how they are opened; None where they name none or are no line.
 pub fn opening_of(alloc: Global, words: &[String]) -> Result<Option<Opening>, AllocError>
     ensures { IfOk result (OpensBy (map string_bytes words.now)) }
 {

@@ -1,6 +1,7 @@
 //! What the program does with the words of a line: each command over an image and the standard streams.
 #![tactic(auto)]
 
+mod checks;
 mod completeness;
 mod dump;
 mod event_replies;
@@ -14,13 +15,14 @@ mod receive;
 mod replay;
 mod replication;
 mod reply;
+mod reports;
 mod runs;
 mod send;
 mod tokens;
 
 pub use completeness::{
-    creates_complete, done_is_told, dumps_complete, receives_complete, rest_transfers_complete,
-    sends_complete, steps_complete, tokens_complete, transfers_complete,
+    checks_complete, creates_complete, done_is_told, dumps_complete, receives_complete,
+    rest_transfers_complete, sends_complete, steps_complete, tokens_complete, transfers_complete,
 };
 pub use dump::dumps_have_one_answer;
 pub use file_runs::{run_on_file, run_on_files};

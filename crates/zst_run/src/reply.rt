@@ -1,10 +1,19 @@
-ghost use Rattle.std.specs.Prelude.{◌++◌, OnOk, codes};
+ghost use Rattle.std.specs.Prelude.{◌++◌, OnOk, codes, decimal};
 ghost use Rattle.zst_outside.specs.Printing.{Prints};
 ghost use Rattle.zst_outside.specs.States.{HandedOn};
 ghost use Rattle.zst_run.specs.Replies.{HandsOn, reply_text};
 
+use itoa::Buffer;
 use zst_model::{Refusal, Reply};
 use zst_outside::{Fault, Sink, write_all};
+
+/// Writes a number behind a text.
+pub(crate) fn write_number<K: Sink>(text: &[u8], number: u64, out: &mut K) -> Result<(), Fault>
+    ensures { Prints (K.state out.old) (K.state out.new) (text.now ++ decimal number) result }
+{
+    write_all(out, text)?;
+    write_all(out, Buffer::new().format(number).as_bytes())
+}
 
 /// Writes a line, and its line feed.
 pub(crate) fn write_line<K: Sink>(line: &[u8], out: &mut K) -> Result<(), Fault>

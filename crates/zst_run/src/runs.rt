@@ -1,8 +1,9 @@
-ghost use Rattle.std.specs.Prelude.{◌≡◌, None, map, string_bytes};
+ghost use Rattle.std.specs.Prelude.{◌≡◌, None, false, map, string_bytes};
 ghost use Rattle.zst_run.specs.Devices.{devices};
-ghost use Rattle.zst_run.specs.LineEffects.{DoesLine, IsInRange, receive_of, send_of, token_dataset_of};
-ghost use Rattle.zst_run.specs.Runs.{DoesWords, Runs};
+ghost use Rattle.zst_run.specs.LineEffects.{DoesLine, IsInRange, is_check, receive_of, send_of, token_dataset_of};
+ghost use Rattle.zst_run.specs.Runs.{EndsWords, Runs};
 
+use crate::checks::check_image;
 use crate::dump::dump;
 use crate::generate::generate;
 use crate::note::{note_refusal, status_of};
@@ -13,7 +14,7 @@ use crate::send::{SendRequest, ask_rest, send};
 use crate::tokens::tell_token;
 use std::alloc::Global;
 use zst_line::{Line, parse};
-use zst_model::{Lack, PlanFault, Refusal};
+use zst_model::Refusal;
 use zst_names::DatasetName;
 use zst_outside::{Disk, Sink, Source};
 use zst_recv::RecvAsk;
@@ -37,7 +38,7 @@ pub fn run<D: Disk, E: Disk, S: Source, K: Sink, N: Sink>(
         (N.state note.old) (N.state note.new) result }
 {
     match run_words(alloc, words, now, here, there, input, out) {
-        Ok(()) => 0,
+        Ok(status) => status,
         Err(refusal) => {
             note_refusal(&refusal, note);
             status_of(&refusal)
@@ -45,7 +46,7 @@ pub fn run<D: Disk, E: Disk, S: Source, K: Sink, N: Sink>(
     }
 }
 
-/// Does what words ask for that are a line.
+/// Does what words ask for that are a line, and answers the status that the program ends with.
 fn run_words<D: Disk, E: Disk, S: Source, K: Sink>(
     alloc: Global,
     words: &[String],
@@ -54,18 +55,41 @@ fn run_words<D: Disk, E: Disk, S: Source, K: Sink>(
     there: &mut E,
     input: &mut S,
     out: &mut K,
-) -> Result<(), Refusal>
-    ensures { DoesWords D.state D.tells_images E.state E.tells_images now (map string_bytes words.now)
+) -> Result<u8, Refusal>
+    ensures { EndsWords D.state D.tells_images E.state E.tells_images now (map string_bytes words.now)
         (devices here.old there.old (S.state input.old) (K.state out.old)) (devices here.new there.new (S.state input.new) (K.state out.new)) result }
 {
-    let line = parse(alloc, words)?;
+    match parse(alloc, words)? {
+        Line::Check { .. } => check_image(alloc, here, out),
+        line => {
+            run_unchecked(alloc, line, now, here, there, input, out)?;
+            Ok(0)
+        }
+    }
+}
+
+/// Does what a line asks for that checks nothing.
+fn run_unchecked<D: Disk, E: Disk, S: Source, K: Sink>(
+    alloc: Global,
+    line: Line,
+    now: u64,
+    here: &mut D,
+    there: &mut E,
+    input: &mut S,
+    out: &mut K,
+) -> Result<(), Refusal>
+    requires range { IsInRange line }
+    requires no_check { is_check line ≡ false }
+    ensures { DoesLine D.state D.tells_images E.state E.tells_images now line
+        (devices here.old there.old (S.state input.old) (K.state out.old)) (devices here.new there.new (S.state input.new) (K.state out.new)) result }
+{
     match send_of(&line) {
         Some(request) => send(alloc, here, &request, out),
         None => run_unsent(alloc, line, now, here, there, input, out),
     }
 }
 
-/// Does what a line asks for that sends nothing.
+/// Does what a line asks for that checks and sends nothing.
 fn run_unsent<D: Disk, E: Disk, S: Source, K: Sink>(
     alloc: Global,
     line: Line,
@@ -76,6 +100,7 @@ fn run_unsent<D: Disk, E: Disk, S: Source, K: Sink>(
     out: &mut K,
 ) -> Result<(), Refusal>
     requires range { IsInRange line }
+    requires no_check { is_check line ≡ false }
     requires no_send { send_of line ≡ None }
     ensures { DoesLine D.state D.tells_images E.state E.tells_images now line
         (devices here.old there.old (S.state input.old) (K.state out.old)) (devices here.new there.new (S.state input.new) (K.state out.new)) result }
@@ -86,7 +111,7 @@ fn run_unsent<D: Disk, E: Disk, S: Source, K: Sink>(
     }
 }
 
-/// Does what a line asks for that sends and receives nothing.
+/// Does what a line asks for that checks, sends and receives nothing.
 fn run_here<D: Disk, E: Disk, S: Source, K: Sink>(
     alloc: Global,
     line: Line,
@@ -97,6 +122,7 @@ fn run_here<D: Disk, E: Disk, S: Source, K: Sink>(
     out: &mut K,
 ) -> Result<(), Refusal>
     requires range { IsInRange line }
+    requires no_check { is_check line ≡ false }
     requires no_send { send_of line ≡ None }
     requires no_receive { receive_of line ≡ None }
     ensures { DoesLine D.state D.tells_images E.state E.tells_images now line
@@ -152,7 +178,7 @@ fn token_dataset_of(line: &Line) -> Option<DatasetName>
     }
 }
 
-/// Does what a line asks for that sends, receives and tells nothing, where it is built.
+/// Does what a line asks for that checks, sends, receives and tells nothing.
 fn run_line<D: Disk, E: Disk, S: Source, K: Sink>(
     alloc: Global,
     line: Line,
@@ -163,6 +189,7 @@ fn run_line<D: Disk, E: Disk, S: Source, K: Sink>(
     out: &mut K,
 ) -> Result<(), Refusal>
     requires range { IsInRange line }
+    requires no_check { is_check line ≡ false }
     requires no_send { send_of line ≡ None }
     requires no_receive { receive_of line ≡ None }
     requires no_token { token_dataset_of line ≡ None }
@@ -175,6 +202,10 @@ fn run_line<D: Disk, E: Disk, S: Source, K: Sink>(
         Line::Step { command, .. } => step_pool(alloc, here, now, command, out),
         Line::Gen { steps, .. } => generate(alloc, here, now, steps, out),
         Line::Replay { .. } => replay(alloc, now, here, there, input, out),
-        _ => Err(Refusal::Plan(PlanFault::Unsupported(Lack::NotBuilt))),
+        Line::Send { .. }
+        | Line::Resume { .. }
+        | Line::Receive { .. }
+        | Line::Token { .. }
+        | Line::Check { .. } => unreachable!(),
     }
 }

@@ -31,6 +31,7 @@ pub data Form : Type 0 where
 abbrev pub form_of : Event → Form
 form_of (events.Step side command) = Commands
 form_of (events.Token side dataset) = Commands
+form_of (events.Check side) = Commands
 form_of (events.Send side id ask) = Sends
 form_of (events.Resume side id dataset) = Resumes
 form_of (events.Receive side id ask) = Receives
@@ -90,6 +91,8 @@ pub form_is : (event : Event) (words : List (List ℕ)) → EventIs event words 
 form_is (events.Step side command) words is =
     ap form_named is.1.0 ∙ on_pool side is.0 ∙ ap pool_form (sym (first_kept (word_for side) is.0)) ∙ command_form command (word_for side) (with_image (word_for side) is.0) is.1.1.1.0
 form_is (events.Token side dataset) words is =
+    ap form_named is.1.0 ∙ on_pool side is.0 ∙ ap pool_form (sym (first_kept (word_for side) is.0)) ∙ ap (λ (w : List (List ℕ)). pool_form (word_at w 0)) is.1.1.1
+form_is (events.Check side) words is =
     ap form_named is.1.0 ∙ on_pool side is.0 ∙ ap pool_form (sym (first_kept (word_for side) is.0)) ∙ ap (λ (w : List (List ℕ)). pool_form (word_at w 0)) is.1.1.1
 form_is (events.Send side id ask) words is = ap form_named is.2.2 ∙ on_pool side (codes "send" ∷ decimal id ∷ is.0)
 form_is (events.Resume side id dataset) words is = ap form_named is.0 ∙ on_pool side (codes "resume" ∷ decimal id ∷ dataset ∷ [])

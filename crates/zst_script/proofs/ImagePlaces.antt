@@ -86,6 +86,9 @@ step_image image other (commands.ListObjects name) rest says = plain image (code
 pub token_image : (image other dataset : List ℕ) (rest : List (List ℕ)) → with_image image rest ≡ codes "token" ∷ other ∷ dataset ∷ [] → other ≡ image
 token_image image other dataset rest says = plain image (codes "token") other rest (dataset ∷ []) refl says
 
+pub check_image : (image other : List ℕ) (rest : List (List ℕ)) → with_image image rest ≡ codes "check" ∷ other ∷ [] → other ≡ image
+check_image image other rest says = plain image (codes "check") other rest [] refl says
+
 -- ---- words as texts
 
 map_insert : {A B : Type 0} (f : A → B) (xs : List A) (i : ℕ) (x : A) → map f (insert xs i x) ≡ insert (map f xs) i (f x)

@@ -17,7 +17,7 @@ use Rattle.zst_script.specs.declared.event.Side.{Side}
 use Rattle.zst_script.specs.declared.words.Verb.{Verb}
 use Rattle.zst_script.specs.declared.words.Verb.TheVariants as verbs
 use Rattle.zst_script.proofs.EventForms.{Commands, Receives, Sends, form_is, form_of, no_verb_form, on_pool, verb_form}
-use Rattle.zst_script.proofs.ImagePlaces.{last_but_one, step_image, token_image}
+use Rattle.zst_script.proofs.ImagePlaces.{check_image, last_but_one, step_image, token_image}
 
 -- words that have a fault are no line
 pub no_line : (words : List (List ℕ)) (fault : LineFault) → LineAnswers words (Err fault) → fault ≢ faults.Memory → (line : Line) → AreLine line words → ⊥
@@ -58,6 +58,10 @@ command_says side rest (lines.Token image dataset) event are e =
     let same : image ≡ word_for side = token_image (word_for side) image dataset rest are.1 in
     let is : events.Token side dataset ≡ event = cc e in
     subst (λ (said : Event). EventIs said (word_for side ∷ rest)) is (rest, (refl, subst (λ (i : List ℕ). AreLine (lines.Token i dataset) (with_image (word_for side) rest)) same are))
+command_says side rest (lines.Check image) event are e =
+    let same : image ≡ word_for side = check_image (word_for side) image rest are.1 in
+    let is : events.Check side ≡ event = cc e in
+    subst (λ (said : Event). EventIs said (word_for side ∷ rest)) is (rest, (refl, subst (λ (i : List ℕ). AreLine (lines.Check i) (with_image (word_for side) rest)) same are))
 command_says side rest line event are e = cc e
 
 command_comes : (side : Side) (rest : List (List ℕ)) → ((verb : Verb) → BeginWith (verb_word verb) rest → ⊥) → (event : Event) → EventIs event (word_for side ∷ rest)
@@ -77,6 +81,15 @@ command_comes side rest verbs (events.Token other dataset) is =
       lines.Token (word_for side) dataset,
       (
         subst (λ (i : List ℕ). AreLine (lines.Token i dataset) (with_image i rest)) word (subst (λ (r : List (List ℕ)). AreLine (lines.Token (word_for other) dataset) (with_image (word_for other) r)) words is.1.1),
+        λ e. cc e,
+      ),
+    )
+command_comes side rest verbs (events.Check other) is =
+    let word : word_for other ≡ word_for side = sym (ap first is.1.0) in
+    let words : is.0 ≡ rest = sym (ap behind is.1.0) in (
+      lines.Check (word_for side),
+      (
+        subst (λ (i : List ℕ). AreLine (lines.Check i) (with_image i rest)) word (subst (λ (r : List (List ℕ)). AreLine (lines.Check (word_for other)) (with_image (word_for other) r)) words is.1.1),
         λ e. cc e,
       ),
     )

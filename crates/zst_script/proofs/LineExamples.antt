@@ -1,6 +1,6 @@
 -- What lines that are written out say.
 use lib.Utf8.{encode}
-use Rattle.std.proofs.Common.{◌≡◌, ◌≤◌, ℕ, true, false, bytes_eq, None, List, [], ◌∷◌, length, drop, codes, decimal, refl, sym, ap, ◌∙◌, arith}
+use Rattle.std.proofs.Common.{◌≡◌, ◌≤◌, ℕ, true, false, bytes_eq, None, Err, List, [], ◌∷◌, length, drop, codes, decimal, refl, sym, ap, ◌∙◌, inr, arith}
 use Rattle.std.proofs.lemmas.Bool.{false≢true}
 use Rattle.std.proofs.lemmas.Fmt.{decimal_injective}
 use Rattle.std.proofs.lemmas.List.Elements.{All-cons, All-nil}
@@ -9,10 +9,12 @@ use Rattle.std.proofs.lemmas.Str.{IsUtf8-from_is_utf8}
 use Rattle.std.specs.Fmt.{digits}
 use Rattle.std.specs.Str.{chars, is_utf8}
 use Rattle.zst_line.specs.Grammar.{word_at, word_of}
+use Rattle.zst_line.specs.Line.{LineAnswers}
 use Rattle.zst_line.specs.Words.{IsText}
 use Rattle.zst_line.specs.declared.kind.Kind.{Kind}
 use Rattle.zst_line.specs.declared.kind.Kind.TheVariants as kinds
 use Rattle.zst_line.specs.declared.line.Line.TheVariants as lines
+use Rattle.zst_line.specs.declared.line.LineFault.TheVariants as faults
 use Rattle.zst_model.specs.declared.pools.command.Command.TheVariants as commands
 use Rattle.zst_model.specs.declared.refusals.subjects.Name.TheVariants as names
 use Rattle.zst_names.specs.Names.{IsComponent, IsDataset, IsSnapshot, is_component_byte}
@@ -25,7 +27,7 @@ use Rattle.zst_script.specs.declared.event.Side.TheVariants.{Here}
 use Rattle.zst_script.specs.declared.words.Verb.{Verb}
 use Rattle.zst_script.specs.declared.words.Verb.TheVariants as verbs
 use Rattle.zst_script.proofs.EventForms.{Pumps, Sends, form_is, form_of}
-use Rattle.zst_script.proofs.LineEvents.{answered, commands_are_read, unanswered}
+use Rattle.zst_script.proofs.LineEvents.{commands_are_read, no_line, unanswered}
 
 -- a short text that is an event says it
 said : (event : Event) (line : List ℕ) → length line ≤ 64 → is_utf8 line ≡ true → EventIs event (words_of line) → LineSays event line
@@ -79,6 +81,9 @@ reclaim_line = (record { kind = kinds.Reclaim; rest = codes "here" ∷ []; spell
 token_line : AreLine (lines.Token (codes "there") (codes "tank")) (codes "token" ∷ codes "there" ∷ codes "tank" ∷ [])
 token_line = (record { kind = kinds.Token; rest = codes "there" ∷ codes "tank" ∷ []; spelled = refl; fact = ((there, tt), ((((λ e. cc e), refl), tank), tt)) }, refl)
 
+check_line : AreLine (lines.Check (codes "here")) (codes "check" ∷ codes "here" ∷ [])
+check_line = (record { kind = kinds.Check; rest = codes "here" ∷ []; spelled = refl; fact = ((here, tt), tt) }, refl)
+
 send_line : AreLine (lines.Send (codes "there") None None (codes "tank@s")) (codes "send" ∷ codes "there" ∷ codes "tank@s" ∷ [])
 send_line = (
   record { kind = kinds.Send; rest = codes "there" ∷ codes "tank@s" ∷ []; spelled = refl; fact = ((there, tt), ((((λ e. cc e), refl), tank_s), tt)) },
@@ -97,6 +102,7 @@ pools_said = (
   said _ _ (omega arith) refl (codes "list" ∷ [], (refl, list_line)),
   said _ _ (omega arith) refl (codes "reclaim" ∷ [], (refl, reclaim_line)),
   said _ _ (omega arith) refl (codes "token" ∷ codes "tank" ∷ [], (refl, token_line)),
+  said _ _ (omega arith) refl (codes "check" ∷ [], (refl, check_line)),
   said _ _ (omega arith) refl (refl, omega arith, tank),
   said _ _ (omega arith) refl (codes "tank@s" ∷ [], None, (refl, omega arith, refl, send_line)),
   said _ _ (omega arith) refl (codes "-s" ∷ codes "tank" ∷ [], names.Dataset (codes "tank"), (refl, omega arith, refl, receive_line)),
@@ -135,19 +141,21 @@ empty_word =
     unanswered (codes "here" ∷ [] ∷ codes "list" ∷ []) ([] ∷ codes "here" ∷ codes "list" ∷ []) (event_of_command_line Here) (commands_are_read Here ([] ∷ codes "list" ∷ []) no_word)
     (λ line are. named are.0.kind (sym (ap (λ (words : List (List ℕ)). word_at words 0) are.0.spelled)))
 
--- scripts have no `check`
-no_check : (verb : Verb) → BeginWith (verb_word verb) (codes "check" ∷ []) → ⊥
-no_check verbs.Send begin = clash (codes "check") (codes "send") refl begin
-no_check verbs.Receive begin = clash (codes "check") (codes "receive") refl begin
-no_check verbs.Resume begin = clash (codes "check") (codes "resume") refl begin
-no_check verbs.Reopen begin = clash (codes "check") (codes "reopen") refl begin
+-- `dump` opens no session, and no pool again
+no_verb : (verb : Verb) → BeginWith (verb_word verb) (codes "dump" ∷ []) → ⊥
+no_verb verbs.Send begin = clash (codes "dump") (codes "send") refl begin
+no_verb verbs.Receive begin = clash (codes "dump") (codes "receive") refl begin
+no_verb verbs.Resume begin = clash (codes "dump") (codes "resume") refl begin
+no_verb verbs.Reopen begin = clash (codes "dump") (codes "reopen") refl begin
 
-check_line : AreLine (lines.Check (codes "here")) (codes "check" ∷ codes "here" ∷ [])
-check_line = (record { kind = kinds.Check; rest = codes "here" ∷ []; spelled = refl; fact = ((here, tt), tt) }, refl)
+-- and is of no pool: the image that is put in is a word too many
+image_too_many : LineAnswers (codes "dump" ∷ codes "here" ∷ []) (Err (faults.Usage 1))
+image_too_many = inr (record { kind = kinds.Dump; rest = codes "here" ∷ []; spelled = refl; fact = refl })
 
-other_command : (event : Event) → EventIs event (codes "here" ∷ codes "check" ∷ []) → ⊥
+other_command : (event : Event) → EventIs event (codes "here" ∷ codes "dump" ∷ []) → ⊥
 other_command =
-    answered (codes "here" ∷ codes "check" ∷ []) (codes "check" ∷ codes "here" ∷ []) (event_of_command_line Here) (lines.Check (codes "here")) None (commands_are_read Here (codes "check" ∷ []) no_check) check_line refl
+    unanswered (codes "here" ∷ codes "dump" ∷ []) (codes "dump" ∷ codes "here" ∷ []) (event_of_command_line Here) (commands_are_read Here (codes "dump" ∷ []) no_verb)
+    (no_line (codes "dump" ∷ codes "here" ∷ []) (faults.Usage 1) image_too_many (λ e. cc e))
 
 -- a send that goes on from a token has its token of the other pool
 own_token : (event : Event) → EventIs event (codes "here" ∷ codes "send" ∷ codes "1" ∷ codes "-t" ∷ codes "00" ∷ []) → ⊥

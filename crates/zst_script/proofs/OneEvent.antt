@@ -68,6 +68,19 @@ one_event (events.Step side command) (events.Token other dataset) words p q =
 one_event (events.Token side dataset) (events.Step other command) words p q =
     let same = same_pool side other p.0 q.0 words p.1.0 q.1.0 in
     cc (same_read with_image side other p.0 q.0 (lines.Token (word_for side) dataset) (lines.Step (word_for other) command) same p.1.1 q.1.1)
+one_event (events.Check side) (events.Check other) words p q = ap events.Check (same_pool side other p.0 q.0 words p.1.0 q.1.0).side
+one_event (events.Step side command) (events.Check other) words p q =
+    let same = same_pool side other p.0 q.0 words p.1.0 q.1.0 in
+    cc (same_read with_image side other p.0 q.0 (lines.Step (word_for side) command) (lines.Check (word_for other)) same p.1.1 q.1.1)
+one_event (events.Check side) (events.Step other command) words p q =
+    let same = same_pool side other p.0 q.0 words p.1.0 q.1.0 in
+    cc (same_read with_image side other p.0 q.0 (lines.Check (word_for side)) (lines.Step (word_for other) command) same p.1.1 q.1.1)
+one_event (events.Token side dataset) (events.Check other) words p q =
+    let same = same_pool side other p.0 q.0 words p.1.0 q.1.0 in
+    cc (same_read with_image side other p.0 q.0 (lines.Token (word_for side) dataset) (lines.Check (word_for other)) same p.1.1 q.1.1)
+one_event (events.Check side) (events.Token other dataset) words p q =
+    let same = same_pool side other p.0 q.0 words p.1.0 q.1.0 in
+    cc (same_read with_image side other p.0 q.0 (lines.Check (word_for side)) (lines.Token (word_for other) dataset) same p.1.1 q.1.1)
 one_event (events.Send side id ask) (events.Send other number ask') words p q =
     let pools = same_pool side other (codes "send" ∷ decimal id ∷ p.0) (codes "send" ∷ decimal number ∷ q.0) words p.2.2 q.2.2 in
     let side_is = pools.side in

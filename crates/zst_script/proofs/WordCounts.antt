@@ -18,6 +18,11 @@ event_few (events.Token side dataset) words is =
     let put = with_image_long (word_for side) is.0 in
     let whole = ap length is.1.0 in
     omega (arith, line, put, whole)
+event_few (events.Check side) words is =
+    let line = line_few (with_image (word_for side) is.0) is.1.1.0 in
+    let put = with_image_long (word_for side) is.0 in
+    let whole = ap length is.1.0 in
+    omega (arith, line, put, whole)
 event_few (events.Send side id ask) words is =
     let line = line_few (codes "send" ∷ before_last (word_for side) is.0) is.2.3.0 in
     let put = length_with (word_for side) is.0 in

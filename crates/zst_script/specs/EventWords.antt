@@ -60,6 +60,7 @@ token_dataset_of line = None
 abbrev pub event_of_command_line : Side → Line → Option Event
 event_of_command_line side (lines.Step image command) = Some (events.Step side command)
 event_of_command_line side (lines.Token image dataset) = Some (events.Token side dataset)
+event_of_command_line side (lines.Check image) = Some (events.Check side)
 event_of_command_line side line = None
 
 abbrev pub event_of_send_line : Side → ℕ → Line → Option Event

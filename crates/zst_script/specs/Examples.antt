@@ -21,15 +21,15 @@ ImagesStand =
     × (with_image (codes "here") (words_of (codes "rollback tank/a@s")) ≡ words_of (codes "rollback here tank/a@s"))
     × (with_image (codes "here") (words_of (codes "rollback -r tank/a@s")) ≡ words_of (codes "rollback -r here tank/a@s"))
 
--- Lines of a pool: commands and a token behind the word for it, and sessions that are opened, by their ids.
+-- Lines of a pool: commands, a token and a check behind the word for it, and sessions that are opened, by their ids.
 abbrev pub PoolsAreSaid : Type 0
 PoolsAreSaid =
     LineSays (events.Step Here commands.List) (codes "here list") × LineSays (events.Step Here commands.Reclaim) (codes "here reclaim")
-    × LineSays (events.Token There (codes "tank")) (codes "there token tank")
+    × LineSays (events.Token There (codes "tank")) (codes "there token tank") × LineSays (events.Check Here) (codes "here check")
     × LineSays (events.Resume Here 7 (codes "tank")) (codes "here resume 7 tank")
     × LineSays (events.Send There 0 (record { snap = codes "tank@s"; from = None; redact = None })) (codes "there send 0 tank@s")
     × LineSays (events.Receive Here 1 (record { target = codes "tank"; snap = None; keep = true; force = false; origin = None })) (codes "here receive 1 -s tank")
 
 -- Lines that say none: with nothing to take, with an empty word between two blanks, of a command that scripts don't have, and of a send that goes on from a token of its own.
 abbrev pub LinesAreRefused : Type 0
-LinesAreRefused = SaysNone (codes "pump 1 2 0") × SaysNone (codes "here  list") × SaysNone (codes "here check") × SaysNone (codes "here send 1 -t 00")
+LinesAreRefused = SaysNone (codes "pump 1 2 0") × SaysNone (codes "here  list") × SaysNone (codes "here dump") × SaysNone (codes "here send 1 -t 00")

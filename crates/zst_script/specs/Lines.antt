@@ -54,6 +54,8 @@ EventIs (events.Step side command) words =
     (rest : List (List ℕ)) × (OnPool side rest words × AreLine (lines.Step (word_for side) command) (with_image (word_for side) rest))
 EventIs (events.Token side dataset) words =
     (rest : List (List ℕ)) × (OnPool side rest words × AreLine (lines.Token (word_for side) dataset) (with_image (word_for side) rest))
+EventIs (events.Check side) words =
+    (rest : List (List ℕ)) × (OnPool side rest words × AreLine (lines.Check (word_for side)) (with_image (word_for side) rest))
 EventIs (events.Send side id ask) words =
     (rest : List (List ℕ)) × (from : Option Name) × ((ask ≡ ask_of from ask.redact ask.snap) × IsId id × OnPool side (codes "send" ∷ decimal id ∷ rest) words
     × AreLine (lines.Send (word_for side) from ask.redact ask.snap) (codes "send" ∷ before_last (word_for side) rest))

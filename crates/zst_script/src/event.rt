@@ -22,6 +22,10 @@ pub enum Event {
         side: Side,
         dataset: DatasetName,
     },
+    /// Tells whether a pool is sound.
+    Check {
+        side: Side,
+    },
     /// Opens a send.
     Send {
         side: Side,

@@ -68,6 +68,7 @@ fn event_of_step_line(side: Side, line: Line) -> Option<Event>
 {
     match line {
         Line::Step { command, .. } => Some(Event::Step { side, command }),
+        Line::Check { .. } => Some(Event::Check { side }),
         _ => None,
     }
 }

@@ -97,6 +97,7 @@ module _ {D E : Type 0} {g : Ghosts D} {h : Ghosts E} (old : Engine D E g h) (id
     time = refl;
     cause = λ is. absurd (cc);
     open_still = λ works also is. absurd (cc);
+    checks = λ of running is honest. absurd (cc is);
     works = λ alive. (λ works. works, λ works. works);
     here_spares = λ no_reclaim. none_spares (kept_pool old.here);
     there_spares = λ no_reclaim. none_spares (kept_pool old.there);
@@ -105,7 +106,7 @@ module _ {D E : Type 0} {g : Ghosts D} {h : Ghosts E} (old : Engine D E g h) (id
   -- no send has the id
   pub close_missed : EngineFits old → position (λ one. one.id == id) old.sends.items ≡ None → StepsEngine (events.Close id) old old (Err (no_session id))
   close_missed fits none =
-      nothing_done (events.Close id) old (Err (no_session id)) fits
+      nothing_done (events.Close id) old (Err (no_session id)) (λ of is. cc is) fits
       (λ world stands.
       let way = missed_close old.now id world (no_send (kept_pool old.here) (kept_pool old.there) old.sends.items world id stands.send_stands none) in
       record { answer = sym (ap (λ (m : Moved). m.answer) way); stays = sym (ap (λ (m : Moved). m.world) way) })

@@ -204,7 +204,7 @@ module _ {D E : Type 0} {g : Ghosts D} {h : Ghosts E} (old : Engine D E g h) (id
   -- no receive has the id
   pub cut_missed : position (λ one. one.id == id) old.receives.items ≡ None → StepsEngine (events.Cut id) old old (Err (no_session id))
   cut_missed none =
-      nothing_done (events.Cut id) old (Err (no_session id)) fits
+      nothing_done (events.Cut id) old (Err (no_session id)) (λ of which. cc which) fits
       (λ world stands.
       let way = missed_cut old.now id world
       (none_matched (λ one receive. ReceiveStandsOn true (kept_at receive.side (kept_pool old.here) (kept_pool old.there)) (at_side receive.side world).pool one receive)
@@ -233,6 +233,7 @@ module _ {D E : Type 0} {g : Ghosts D} {h : Ghosts E} (old : Engine D E g h) (id
       time = refl;
       cause = λ told. absurd (cc);
       open_still = λ works also told. absurd (cc);
+      checks = λ of running which honest. absurd (cc which);
       works = λ alive. (λ works. ends.failed ∙ works, λ works. works);
       here_spares = λ no_reclaim. kept_spares (λ target. target ≡ (ask_of one.recv).target) (kept_pool old.here) (kept_pool new.here) ends.keeps;
       there_spares = λ no_reclaim. none_spares (kept_pool old.there);
@@ -254,6 +255,7 @@ module _ {D E : Type 0} {g : Ghosts D} {h : Ghosts E} (old : Engine D E g h) (id
       time = refl;
       cause = λ told. absurd (cc);
       open_still = λ works also told. absurd (cc);
+      checks = λ of running which honest. absurd (cc which);
       works = λ alive. (λ works. works, λ works. ends.failed ∙ works);
       here_spares = λ no_reclaim. none_spares (kept_pool old.here);
       there_spares = λ no_reclaim. kept_spares (λ target. target ≡ (ask_of one.recv).target) (kept_pool old.there) (kept_pool new.there) ends.keeps;

@@ -117,6 +117,7 @@ module _ {D E : Type 0} {g : Ghosts D} {h : Ghosts E} (old : Engine D E g h) (id
     time = takes.time;
     cause = λ is. takes.cause (dropped_err result refusals.DiskFault is);
     open_still = λ works also is. takes.open_still works also (dropped_err result refusals.Failed is);
+    checks = λ of running is honest. absurd (cc is);
     works = λ alive. takes.works (λ is. alive (ap dropped is));
     here_spares = λ no_reclaim. read_spares (kept_pool old.here) (kept_pool new.here) takes.here_read;
     there_spares = λ no_reclaim. read_spares (kept_pool old.there) (kept_pool new.there) takes.there_read;
@@ -125,7 +126,7 @@ module _ {D E : Type 0} {g : Ghosts D} {h : Ghosts E} (old : Engine D E g h) (id
   -- no send has the id
   pub drop_missed : EngineFits old → position (λ one. one.id == id) old.sends.items ≡ None → StepsEngine (events.Drop id count) old old (Err (no_session id))
   drop_missed fits none =
-      nothing_done (events.Drop id count) old (Err (no_session id)) fits
+      nothing_done (events.Drop id count) old (Err (no_session id)) (λ of is. cc is) fits
       (λ world stands.
       let way = missed_drop old.now id count world (no_send (kept_pool old.here) (kept_pool old.there) old.sends.items world id stands.send_stands none) in
       record { answer = sym (ap (λ (m : Moved). m.answer) way); stays = sym (ap (λ (m : Moved). m.world) way) })

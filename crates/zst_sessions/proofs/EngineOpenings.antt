@@ -1,8 +1,7 @@
 -- The events of the engine that open a session.
-use Rattle.std.proofs.Common.{◌≡◌, ◌≢◌, ◌||◌, ◌∷◌, ◌⊎◌, ℕ, Bool, true, false, cond, nat_lt, List, [], length, Option, Some, None, Result, Ok, Err, inl, inr, refl, sym, ap, ◌∙◌, subst, arith}
+use Rattle.std.proofs.Common.{◌≡◌, ◌≢◌, ◌||◌, ◌∷◌, ℕ, Bool, true, false, cond, nat_lt, List, [], length, Option, Some, None, Result, Ok, Err, refl, sym, ap, ◌∙◌, subst}
 use Rattle.std.specs.List.{All, AllPairs}
 use Rattle.std.proofs.lemmas.List.Elements.{All-append, All-cons, All-nil}
-use Rattle.zst_outside.specs.Causes.{Rose}
 use Rattle.zst_outside.specs.declared.disk.Disk.{Ghosts}
 use Rattle.zst_block.specs.IoCalls.{fails}
 use Rattle.zst_block.specs.IoStates.{disk_of}
@@ -21,37 +20,36 @@ use Rattle.zst_model.specs.sends.Headers.{Sent}
 use Rattle.zst_model.specs.sends.SendPlan.{send_plan, with_list}
 use Rattle.zst_plan.specs.declared.receive.RecvAsk.{RecvAsk}
 use Rattle.zst_pool.proofs.PoolsAtRest.{rest_named}
-use Rattle.zst_pool.specs.Calls.{IsAtRest}
 use Rattle.zst_pool.specs.Faults.{pool_refusal}
 use Rattle.zst_pool.specs.Queries.{stop_of}
 use Rattle.zst_pool.specs.declared.fault.PoolFault.{PoolFault}
 use Rattle.zst_pool.specs.declared.fault.PoolFault.TheVariants as faults
-use Rattle.zst_pool.specs.declared.pool.Pool.{Pool}
 use Rattle.zst_recv.specs.FedReceives.{IsFresh}
 use Rattle.zst_recv.specs.Stages.{ask_of}
 use Rattle.zst_recv.specs.Tokens.{token_told}
 use Rattle.zst_script.specs.declared.event.Event.{Event}
 use Rattle.zst_script.specs.declared.event.Event.TheVariants as events
 use Rattle.zst_script.specs.declared.event.Side.{Side}
-use Rattle.zst_script.specs.declared.event.Side.TheVariants.{Here, There}
 use Rattle.zst_send.specs.Openings.{rest_of}
 use Rattle.zst_send.specs.Sends.{SendFits}
 use Rattle.zst_token.specs.declared.token.Token.{Token}
+use Rattle.zst_sessions.proofs.LookedPools.{Looked, StepsTo, fits_still, honest_on, looked, mark_on, open_on, rest_on, same_lists, state_still}
 use Rattle.zst_sessions.proofs.OpenedReceives.{added_receive, awaited, begun_fits, lacks_memory, moves_so, unfed}
 use Rattle.zst_sessions.proofs.OpenedSends.{OpensSend, added_begin, both_stay, refused_begin}
+use Rattle.zst_sessions.proofs.OtherEvents.{IsOther}
 use Rattle.zst_sessions.proofs.PoolRefusals.{fault_of_disk, fault_of_failed}
-use Rattle.zst_sessions.proofs.ReadEvents.{as_defined, or_refused, stands_at, stays}
-use Rattle.zst_sessions.proofs.ReadPools.{fit_read, looked_at, looked_later, read_none}
-use Rattle.zst_sessions.proofs.SparedBlocks.{fell_as, none_spares, read_spares, still_works}
+use Rattle.zst_sessions.proofs.ReadEvents.{as_defined, or_refused, stays}
+use Rattle.zst_sessions.proofs.ReadPools.{read_none}
+use Rattle.zst_sessions.proofs.SparedBlocks.{none_spares, read_spares}
 use Rattle.zst_sessions.proofs.SessionLists.{AllPairs-snoc}
+use Rattle.zst_sessions.proofs.UnmovedEngines.{stays_later}
 use Rattle.zst_sessions.specs.CommandSteps.{told_as}
-use Rattle.zst_sessions.specs.EngineSteps.{EngineFits, IsLaterPool, NoneFailed, ReceiveFits, SessionsFit, StandsFor, StepsEngine, kept_pool, target_of}
-use Rattle.zst_sessions.specs.Engines.{Steps, kept_at}
+use Rattle.zst_sessions.specs.EngineSteps.{EngineFits, ReceiveFits, StandsFor, StepsEngine, kept_pool, target_of}
+use Rattle.zst_sessions.specs.Engines.{kept_at}
 use Rattle.zst_sessions.specs.EventReplies.{answer_of}
 use Rattle.zst_sessions.specs.Lawfulness.{MovesKeepWorlds}
-use Rattle.zst_sessions.specs.Moves.{Answer, answers, moved, most_receives, most_sends, number_line, opened_send, refuses, resumed}
+use Rattle.zst_sessions.specs.Moves.{answers, moved, most_receives, most_sends, number_line, opened_send, refuses, resumed}
 use Rattle.zst_sessions.specs.Openings.{Adds, AddsReceive, AddsSend, Admits, BeginsAt, HasNoMemory, IsRefused, LacksMemory, LooksAtSide, TellsToken, coded_in_the_way, is_coded_used, kept_on, opened_of, receive_refusal, send_refusal}
-use Rattle.zst_sessions.specs.Takes.{WasOnlyRead}
 use Rattle.zst_sessions.specs.World.{World, at_side, other_side, with_receive}
 use Rattle.zst_sessions.specs.declared.engine.Engine.{Engine}
 use Rattle.zst_sessions.specs.declared.event_reply.EventReply.{EventReply}
@@ -126,134 +124,23 @@ told_err : (refusal : Refusal) (told : Result Token PlanFault) → Err refusal �
 told_err refusal (Ok token) is = absurd (cc)
 told_err refusal (Err fault) is = (fault, refl, let e : refusal ≡ refusal_of fault = cc in e)
 
--- a pool that nothing was done to
-stays_later : {D : Type 0} {g : Ghosts D} (pool : Pool D g) → IsLaterPool pool pool
-stays_later pool = record { faults = omega arith; honest = λ is. is; same = refl }
-
 module _ {D E : Type 0} {g : Ghosts D} {h : Ghosts E} where
-  -- ---- two pools of which one was looked at
-
-  -- what a look at the pool on a side leaves of both pools, and what it answers of faults
-  record Looked {T : Type 0} (side : Side) (old new : Engine D E g h) (result : Result T PoolFault) : Type 0 where
-    here : WasOnlyRead (kept_pool old.here) (kept_pool new.here)
-    there : WasOnlyRead (kept_pool old.there) (kept_pool new.there)
-    here_later : IsLaterPool old.here new.here
-    there_later : IsLaterPool old.there new.there
-    own : (kept_on side new).failed ≡ ((kept_on side old).failed || fails (stop_of result))
-    other : (kept_on (other_side side) new).failed ≡ (kept_on (other_side side) old).failed
-    had_failed : (kept_on side old).failed ≡ true → result ≡ Err faults.Failed
-    open_still : (kept_on side old).failed ≡ false → ¬ (result ≡ Err faults.Failed)
-    cause : result ≡ Err faults.DiskFault → Rose (disk_of old.here.io).faults (disk_of new.here.io).faults ⊎ Rose (disk_of old.there.io).faults (disk_of new.there.io).faults
-    sends : new.sends.items ≡ old.sends.items
-    receives : new.receives.items ≡ old.receives.items
-    room : length new.room.items ≡ length old.room.items
-    time : new.now ≡ old.now
-    works : ¬ (result ≡ Err faults.DiskFault) → NoneFailed old new
-
-  looked : {T : Type 0} (side : Side) (old new : Engine D E g h) (result : Result T PoolFault) → LooksAtSide side old new result → Looked side old new result
-  looked {T} Here old new result is =
-      let looks = is.1 in
-      let there_is = ap (λ (e : Engine D E g h). e.there) is.0 in
-      record {
-        here = looked_at old.here new.here result looks;
-        there = subst (λ (pool : Pool E h). WasOnlyRead (kept_pool old.there) (kept_pool pool)) (sym there_is) (read_none (kept_pool old.there));
-        here_later = looked_later old.here new.here result looks;
-        there_later = subst (λ (pool : Pool E h). IsLaterPool old.there pool) (sym there_is) (stays_later old.there);
-        own = looks.failed;
-        other = ap (λ (pool : Pool E h). pool.io.failed) there_is;
-        had_failed = looks.failed_pool;
-        open_still = looks.open_still;
-        cause = λ lost. inl (looks.cause.fault (ap (λ (r : Result T PoolFault). stop_of r) lost));
-        sends = ap (λ (e : Engine D E g h). e.sends.items) is.0;
-        receives = ap (λ (e : Engine D E g h). e.receives.items) is.0;
-        room = ap (λ (e : Engine D E g h). length e.room.items) is.0;
-        time = ap (λ (e : Engine D E g h). e.now) is.0;
-        works = λ alive. (
-          still_works old.here.io.failed (fails (stop_of result)) new.here.io.failed looks.failed (λ fell. alive (fell_as result fell)),
-          λ works. ap (λ (pool : Pool E h). pool.io.failed) there_is ∙ works,
-        );
-      }
-  looked {T} There old new result is =
-      let looks = is.1 in
-      let here_is = ap (λ (e : Engine D E g h). e.here) is.0 in
-      record {
-        here = subst (λ (pool : Pool D g). WasOnlyRead (kept_pool old.here) (kept_pool pool)) (sym here_is) (read_none (kept_pool old.here));
-        there = looked_at old.there new.there result looks;
-        here_later = subst (λ (pool : Pool D g). IsLaterPool old.here pool) (sym here_is) (stays_later old.here);
-        there_later = looked_later old.there new.there result looks;
-        own = looks.failed;
-        other = ap (λ (pool : Pool D g). pool.io.failed) here_is;
-        had_failed = looks.failed_pool;
-        open_still = looks.open_still;
-        cause = λ lost. inr (looks.cause.fault (ap (λ (r : Result T PoolFault). stop_of r) lost));
-        sends = ap (λ (e : Engine D E g h). e.sends.items) is.0;
-        receives = ap (λ (e : Engine D E g h). e.receives.items) is.0;
-        room = ap (λ (e : Engine D E g h). length e.room.items) is.0;
-        time = ap (λ (e : Engine D E g h). e.now) is.0;
-        works = λ alive. (
-          λ works. ap (λ (pool : Pool D g). pool.io.failed) here_is ∙ works,
-          still_works old.there.io.failed (fails (stop_of result)) new.there.io.failed looks.failed (λ fell. alive (fell_as result fell)),
-        );
-      }
-
-  -- what is kept of the sessions stays in its ranges
-  fits_still : {T : Type 0} (side : Side) (old new : Engine D E g h) (result : Result T PoolFault) → Looked side old new result → EngineFits old → EngineFits new
-  fits_still side old new result l fits = record {
-    sessions =
-        subst (λ (sends : List kept_sends.OpenSend). SessionsFit (kept_pool new.here) (kept_pool new.there) sends new.receives.items) (sym l.sends)
-        (subst (λ (receives : List kept_receives.OpenReceive). SessionsFit (kept_pool new.here) (kept_pool new.there) old.sends.items receives) (sym l.receives)
-        (fit_read (kept_pool old.here) (kept_pool old.there) (kept_pool new.here) (kept_pool new.there) l.here l.there old.sends.items old.receives.items fits.sessions));
-    room = l.room ∙ fits.room;
-  }
-
-  -- what is kept of the pool on the side stays
-  state_still : {T : Type 0} (side : Side) (old new : Engine D E g h) (result : Result T PoolFault) → Looked side old new result → (kept_on side new).state ≡ (kept_on side old).state
-  state_still Here old new result l = l.here.state
-  state_still There old new result l = l.there.state
-
-  -- the pool on a side is open where both are
-  open_on : (side : Side) (engine : Engine D E g h) → engine.here.io.failed ≡ false → engine.there.io.failed ≡ false → (kept_on side engine).failed ≡ false
-  open_on Here engine here there = here
-  open_on There engine here there = there
-
-  -- and its disk reads as it should where both do
-  honest_on : (side : Side) (engine : Engine D E g h) → (disk_of engine.here.io).honest → (disk_of engine.there.io).honest → (kept_on side engine).disk.honest
-  honest_on Here engine here there = here
-  honest_on There engine here there = there
-
-  -- the mark of the pool on a side is the world's
-  mark_on : (side : Side) (old : Engine D E g h) (world : World) → StandsFor old world → (kept_on side old).failed ≡ (at_side side world).failed
-  mark_on side old world stands = (stands_at side (kept_pool old.here) (kept_pool old.there) old.sends.items old.receives.items world stands).mark
-
-  -- and where it is open it is at rest
-  rest_on : (side : Side) (old : Engine D E g h) (world : World) → StandsFor old world → (kept_on side old).failed ≡ false → IsAtRest true (kept_on side old).disk (kept_on side old).state (at_side side world).pool
-  rest_on side old world stands works = (stands_at side (kept_pool old.here) (kept_pool old.there) old.sends.items old.receives.items world stands).rests works
-
-  -- what an event makes of a world, with lists that are the same
-  abbrev StepsTo : (event : Event) → (old new : Engine D E g h) → World → List kept_sends.OpenSend → List kept_receives.OpenReceive → Answer → Type 0
-  StepsTo event old new world sends receives answer = Steps true old.now world event (kept_pool old.here) (kept_pool old.there) (kept_pool new.here) (kept_pool new.there) sends receives answer
-
-  same_lists : (event : Event) (old new : Engine D E g h) (world : World) (answer : Answer) (sends more : List kept_sends.OpenSend) (receives also : List kept_receives.OpenReceive)
-      → more ≡ sends → also ≡ receives → StepsTo event old new world sends receives answer → StepsTo event old new world more also answer
-  same_lists event old new world answer sends more receives also same too steps =
-      subst (λ (s : List kept_sends.OpenSend). StepsTo event old new world s also answer) (sym same)
-      (subst (λ (r : List kept_receives.OpenReceive). StepsTo event old new world sends r answer) (sym too) steps)
-
   -- ---- an event that does nothing
 
   -- a refusal that leaves all as it was
-  pub refuses_all : (event : Event) (old : Engine D E g h) (refusal : Refusal) → EngineFits old → MovesKeepWorlds → ((world : World) → StandsFor old world → moved old.now event world ≡ refuses refusal world)
+  pub refuses_all : (event : Event) (old : Engine D E g h) (refusal : Refusal) → IsOther event → EngineFits old → MovesKeepWorlds → ((world : World) → StandsFor old world → moved old.now event world ≡ refuses refusal world)
       → ¬ (refusal ≡ refusals.DiskFault) → (old.here.io.failed ≡ false → old.there.io.failed ≡ false → ¬ (refusal ≡ refusals.Failed)) → StepsEngine event old old (Err refusal)
-  refuses_all event old refusal fits keep defined no_fault still = record {
+  refuses_all event old refusal other fits keep defined no_fault still = record {
     steps = λ world honest also tells tells_too stands.
         stays old.now event world (kept_pool old.here) (kept_pool old.there) (kept_pool old.here) (kept_pool old.there) (read_none (kept_pool old.here)) (read_none (kept_pool old.there))
-        old.sends.items old.receives.items stands keep (Err refusal) (as_defined old.now event world (refuses refusal world) (defined world stands)) refl refl;
+        old.sends.items old.receives.items stands keep (Err refusal) (as_defined old.now event world (refuses refusal world) other (defined world stands)) refl refl;
     fits = fits;
     here_later = stays_later old.here;
     there_later = stays_later old.there;
     time = refl;
     cause = λ is. absurd (no_fault (err_is refusal refusals.DiskFault is));
     open_still = λ works also is. still works also (err_is refusal refusals.Failed is);
+    checks = λ of running is honest. absurd (other of is);
     works = λ alive. (λ works. works, λ works. works);
     here_spares = λ no_reclaim. none_spares (kept_pool old.here);
     there_spares = λ no_reclaim. none_spares (kept_pool old.there);
@@ -263,6 +150,7 @@ module _ {D E : Type 0} {g : Ghosts D} {h : Ghosts E} where
 
   -- This event opens a send of what its plan gives, in each world that the engine stands for whose pool is open; one that has failed answers E31.
   pub record OpensAt (event : Event) (side : Side) (id : ℕ) (start : Option Point) (plan : Plain → Result Sent PlanFault) (old : Engine D E g h) : Type 0 where
+    pub other : IsOther event
     pub opens : (world : World) → StandsFor old world → (at_side side world).failed ≡ false → OpensSend old.now event side id start (plan (at_side side world).pool) world
     pub failed : (world : World) → StandsFor old world → (at_side side world).failed ≡ true → moved old.now event world ≡ refuses refusals.Failed world
 
@@ -277,7 +165,7 @@ module _ {D E : Type 0} {g : Ghosts D} {h : Ghosts E} where
         let both = both_stay side (kept_pool old.here) (kept_pool old.there) (kept_pool mid.here) (kept_pool mid.there) mark l.other in
         subst (λ (f : PoolFault). StepsTo event old mid world old.sends.items old.receives.items (Err (pool_refusal f))) (sym e)
         (stays old.now event world (kept_pool old.here) (kept_pool old.there) (kept_pool mid.here) (kept_pool mid.there) l.here l.there old.sends.items old.receives.items stands keep (Err refusals.Failed)
-        (as_defined old.now event world (refuses refusals.Failed world) (opens.failed world stands (sym (mark_on side old world stands) ∙ fell))) both.0 both.1)
+        (as_defined old.now event world (refuses refusals.Failed world) opens.other (opens.failed world stands (sym (mark_on side old world stands) ∙ fell))) both.0 both.1)
 
     -- the send wasn't begun
     pub send_refused : (fault : PoolFault) → BeginsAt side start plan old mid (Err fault) → StepsEngine event old mid (Err (pool_refusal fault))
@@ -293,6 +181,7 @@ module _ {D E : Type 0} {g : Ghosts D} {h : Ghosts E} where
           time = l.time;
           cause = λ is. l.cause (ap err (fault_of_disk fault (err_is (pool_refusal fault) refusals.DiskFault is)));
           open_still = λ works other is. l.open_still (open_on side old works other) (ap err (fault_of_failed fault (err_is (pool_refusal fault) refusals.Failed is)));
+          checks = λ of running is honest. absurd (opens.other of is);
           works = λ alive. l.works (λ is. alive (ap told_fault (pool_err_is fault faults.DiskFault is)));
           here_spares = λ no_reclaim. read_spares (kept_pool old.here) (kept_pool mid.here) l.here;
           there_spares = λ no_reclaim. read_spares (kept_pool old.there) (kept_pool mid.there) l.there;
@@ -370,6 +259,7 @@ module _ {D E : Type 0} {g : Ghosts D} {h : Ghosts E} where
             time = l.time;
             cause = λ is. absurd (no.0 is);
             open_still = λ works also is. no.1 is;
+            checks = λ of running is honest. absurd (opens.other of is);
             works = λ alive. l.works (λ is. absurd (cc));
             here_spares = λ no_reclaim. read_spares (kept_pool old.here) (kept_pool mid.here) l.here;
             there_spares = λ no_reclaim. read_spares (kept_pool old.there) (kept_pool mid.there) l.there;
@@ -381,7 +271,9 @@ module _ {D E : Type 0} {g : Ghosts D} {h : Ghosts E} where
   pub sends_at : (side : Side) (id : ℕ) (ask : SendAsk) (old : Engine D E g h) → OpensAt (events.Send side id ask) side id None (λ running. with_list (send_plan ask running)) old
   unfolding moved
   sends_at side id ask old = record {
+    other = λ of is. cc is;
     opens = λ world stands works. record {
+      other = λ of is. cc is;
       opens = ap (λ (b : Bool). cond b (refuses refusals.Failed world) (opened_send side id None world (with_list (send_plan ask (at_side side world).pool)))) works;
       given = refl;
       loses = λ next fails. fails;
@@ -415,7 +307,9 @@ module _ {D E : Type 0} {g : Ghosts D} {h : Ghosts E} where
       pub resumes_at : (token : Token) → TellsToken dataset (kept_on (other_side side) old) (Ok token)
           → OpensAt (events.Resume side id dataset) side id (Some token.point) (λ running. with_list (rest_of token running)) old
       resumes_at token tells = record {
+        other = λ of is. cc is;
         opens = λ world stands alive. record {
+          other = λ of is. cc is;
           opens =
               resumes_as old.now world false false alive (sym (mark_on (other_side side) old world stands) ∙ other_works (kept_on (other_side side) old).failed refl)
               ∙ ap (resumed side id world) (told_ok token (token_told dataset (at_side (other_side side) world).pool)
@@ -433,7 +327,7 @@ module _ {D E : Type 0} {g : Ghosts D} {h : Ghosts E} where
       -- or no token is told
       pub token_refused : (refusal : Refusal) → TellsToken dataset (kept_on (other_side side) old) (Err refusal) → EngineFits old → MovesKeepWorlds → StepsEngine (events.Resume side id dataset) old old (Err refusal)
       token_refused refusal tells fits keep =
-          refuses_all (events.Resume side id dataset) old refusal fits keep (λ world stands. go world stands (kept_on (other_side side) old).failed refl)
+          refuses_all (events.Resume side id dataset) old refusal (λ of is. cc is) fits keep (λ world stands. go world stands (kept_on (other_side side) old).failed refl)
           (λ is. tells.no_fault (ap err is)) (λ here there is. tells.open_still (open_on (other_side side) old here there) (ap err is))
         where
           err : Refusal → Result Token Refusal
@@ -451,7 +345,7 @@ module _ {D E : Type 0} {g : Ghosts D} {h : Ghosts E} where
     -- or the pool itself had failed
     pub resume_failed : (kept_on side old).failed ≡ true → EngineFits old → MovesKeepWorlds → StepsEngine (events.Resume side id dataset) old old (Err refusals.Failed)
     resume_failed fell fits keep =
-        refuses_all (events.Resume side id dataset) old refusals.Failed fits keep
+        refuses_all (events.Resume side id dataset) old refusals.Failed (λ of is. cc is) fits keep
         (λ world stands. resumes_as old.now world true (at_side (other_side side) world).failed (sym (mark_on side old world stands) ∙ fell) refl)
         (λ is. absurd (cc)) (λ here there is. let alive = open_on side old here there in absurd (cc (alive, fell)))
 
@@ -476,7 +370,7 @@ module _ {D E : Type 0} {g : Ghosts D} {h : Ghosts E} where
     receive_refused refusal told =
         let why : refusal_of_all ≡ Some refusal = sym told in
         let no = way_refusal (kept_on side old).failed way (length old.receives.items) refusal why in
-        refuses_all event old refusal fits keep
+        refuses_all event old refusal (λ of is. cc is) fits keep
         (λ world stands.
         moves_so old.now side id ask world (kept_pool old.here) (kept_pool old.there) (kept_pool old.here) (kept_pool old.there) (read_none (kept_pool old.here)) (read_none (kept_pool old.there))
         old.sends.items old.receives.items stands keep refl refl
@@ -505,6 +399,7 @@ module _ {D E : Type 0} {g : Ghosts D} {h : Ghosts E} where
             time = l.time;
             cause = λ is. absurd (cc);
             open_still = λ alive too is. absurd (cc);
+            checks = λ of running is honest. absurd (cc is);
             works = λ alive. l.works (λ is. absurd (cc));
             here_spares = λ no_reclaim. read_spares (kept_pool old.here) (kept_pool mid.here) l.here;
             there_spares = λ no_reclaim. read_spares (kept_pool old.there) (kept_pool mid.there) l.there;
@@ -584,6 +479,7 @@ module _ {D E : Type 0} {g : Ghosts D} {h : Ghosts E} where
               time = look.time;
               cause = λ is. absurd (no.0 is);
               open_still = λ alive too is. no.1 is;
+              checks = λ of running is honest. absurd (cc is);
               works = λ alive. look.works (λ is. absurd (cc));
               here_spares = λ no_reclaim. read_spares (kept_pool old.here) (kept_pool mid.here) look.here;
               there_spares = λ no_reclaim. read_spares (kept_pool old.there) (kept_pool mid.there) look.there;

@@ -13,9 +13,11 @@ mod Ways
 pub mod Beside
 pub mod ReadPools
 pub mod PossibleImages
+pub mod OtherEvents
 pub mod PoolRefusals
 pub mod TakenBytes
 pub mod ReadEvents
+pub mod LookedPools
 pub mod OpenedSends
 pub mod OpenedReceives
 pub mod BegunSends
@@ -43,5 +45,6 @@ pub mod SparedBlocks
 mod SteppedPools
 mod SteppedWorlds
 mod ToldTokens
+mod CheckedPools
 pub mod OpenedPools
 pub mod EventMoments

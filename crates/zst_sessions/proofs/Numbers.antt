@@ -229,6 +229,7 @@ unfolding moved
 moved_rises counts keep now world (events.Step side command) =
     either counts keep now world (at_side side world).failed _ _ (stepped_rises counts keep now world side command (stepped (held_at side world) now command (at_side side world).pool) refl)
 moved_rises counts keep now world (events.Token side dataset) = either counts keep now world (at_side side world).failed _ _ (told_rises counts keep now world (token_told dataset (at_side side world).pool))
+moved_rises counts keep now world (events.Check side) = stays world
 moved_rises counts keep now world (events.Send side id ask) = either counts keep now world (at_side side world).failed _ _ (opened_rises counts keep now world side id None (with_list (send_plan ask (at_side side world).pool)))
 moved_rises counts keep now world (events.Resume side id dataset) =
     either counts keep now world (at_side side world).failed _ _ (either counts keep now world (at_side (other_side side) world).failed _ _
@@ -247,6 +248,7 @@ moved_rises counts keep now world (events.Reopen side) = goes_on world (ended si
 given_up_rises : (event : Event) (world : World) → Rise world (given_up event world)
 given_up_rises (events.Step side command) world = stays world
 given_up_rises (events.Token side dataset) world = stays world
+given_up_rises (events.Check side) world = stays world
 given_up_rises (events.Send side id ask) world = stays world
 given_up_rises (events.Resume side id dataset) world = stays world
 given_up_rises (events.Receive side id ask) world = stays world
@@ -279,6 +281,7 @@ lost_rises : CommitsCount → AnswersKeep → (now : ℕ) (world next : World) (
 lost_rises counts keep now world next (events.Step side command) fails =
     fails_rise side world world (moved now (events.Step side command) world).world next (stays world) (moved_rises counts keep now world (events.Step side command)) fails
 lost_rises counts keep now world next (events.Token side dataset) fails = absurd fails
+lost_rises counts keep now world next (events.Check side) fails = fails_rise side world world world next (stays world) (stays world) fails
 lost_rises counts keep now world next (events.Send side id ask) fails = fails_rise side world world world next (stays world) (stays world) fails
 lost_rises counts keep now world next (events.Resume side id dataset) fails = fails_rise side world world world next (stays world) (stays world) fails
 lost_rises counts keep now world next (events.Receive side id ask) fails = absurd fails

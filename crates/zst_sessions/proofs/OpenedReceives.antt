@@ -149,7 +149,7 @@ module _ (now : ℕ) (side : Side) (id : ℕ) (ask : RecvAsk) (world : World)
   pub refused_so : (refusal : Refusal) → refusal_here ≡ Some refusal → Steps true now world (events.Receive side id ask) here there here' there' sends receives (Err refusal)
   refused_so refusal why =
       stays now (events.Receive side id ask) world here there here' there' read_here read_there sends receives stands keep (Err refusal)
-      (as_defined now (events.Receive side id ask) world (refuses refusal world) (moves_so ∙ ap (λ (o : Option Refusal). or_refused o world done) why)) mark also
+      (as_defined now (events.Receive side id ask) world (refuses refusal world) (λ of is. cc is) (moves_so ∙ ap (λ (o : Option Refusal). or_refused o world done) why)) mark also
 
   -- no memory is left
   pub lacks_memory : Steps true now world (events.Receive side id ask) here there here' there' sends receives (Err refusals.OutOfMemory)
@@ -168,5 +168,5 @@ module _ (now : ℕ) (side : Side) (id : ℕ) (ask : RecvAsk) (world : World)
       (subst (λ (c : List kept_receives.OpenReceive). Steps true now world (events.Receive side id ask) here there here' there' sends c (opened_line number)) (sym same)
       (receives_more now (events.Receive side id ask) world here there here' there' read_here read_there sends receives stands keep (opened_line number) (awaited side id recv) (unfed side id ask)
       (subst (λ (a : Answer). Moves now world (events.Receive side id ask) a (with_receive (unfed side id ask) world)) (sym (ap opened_line numbered))
-      (as_defined now (events.Receive side id ask) world done (moves_so ∙ ap (λ (o : Option Refusal). or_refused o world done) free))) mark also
+      (as_defined now (events.Receive side id ask) world done (λ of is. cc is) (moves_so ∙ ap (λ (o : Option Refusal). or_refused o world done) free))) mark also
       (begun_waits side id (kept_at side here' there') (at_side side world).pool ask recv fresh)))

@@ -20,6 +20,7 @@ use Rattle.zst_script.specs.declared.event.Event.{Event}
 use Rattle.zst_script.specs.declared.event.Side.{Side}
 use Rattle.zst_script.specs.declared.event.Side.TheVariants.{Here, There}
 use Rattle.zst_send.specs.Sends.{SendFits}
+use Rattle.zst_sessions.proofs.OtherEvents.{IsOther}
 use Rattle.zst_sessions.proofs.ReadEvents.{as_defined, loses, or_refused, sends_alike, sends_more, stays, used_alike}
 use Rattle.zst_sessions.specs.Engines.{Kept, SendStandsOn, Stands, Steps, kept_at}
 use Rattle.zst_sessions.specs.EventReplies.{answer_of}
@@ -47,6 +48,7 @@ both_stay There here there here' there' own other = (other, own)
 
 -- This event opens a send of what its plan gives in a world; where it is given up the world stays, and the disk that it may find failed is its side's.
 pub record OpensSend (now : ℕ) (event : Event) (side : Side) (id : ℕ) (start : Option Point) (plan : Result Sent PlanFault) (world : World) : Type 0 where
+  pub other : IsOther event
   pub opens : moved now event world ≡ opened_send side id start world plan
   pub given : given_up event world ≡ world
   pub loses : (next : World) → Fails side world world next → DiskFails now event world next
@@ -111,7 +113,7 @@ module _ (now : ℕ) (event : Event) (side : Side) (id : ℕ) (start : Option Po
   refuses_so : (refusal : Refusal) → own.failed ≡ false → moved now event world ≡ refuses refusal world → Steps true now world event here there here' there' sends receives (Err refusal)
   refuses_so refusal stays_open is =
       let both = marks stays_open in
-      stays now event world here there here' there' read_here read_there sends receives stands keep (Err refusal) (as_defined now event world (refuses refusal world) is) both.0 both.1
+      stays now event world here there here' there' read_here read_there sends receives stands keep (Err refusal) (as_defined now event world (refuses refusal world) opens.other is) both.0 both.1
 
   -- no memory is left
   lacks_memory : own.failed ≡ false → Steps true now world event here there here' there' sends receives (Err refusals.OutOfMemory)
@@ -159,5 +161,5 @@ module _ (now : ℕ) (event : Event) (side : Side) (id : ℕ) (start : Option Po
       subst (λ (r : Result EventReply Refusal). Steps true now world event here there here' there' coded receives (answer_of r)) (sym is)
       (subst (λ (c : List kept_sends.OpenSend). Steps true now world event here there here' there' c receives (answer_of (Ok (replies.Opened begun.number)))) (sym same)
       (sends_more now event world here there here' there' read_here read_there sends receives stands keep (answer_of (Ok (replies.Opened begun.number))) (opened_of side id begun) send
-      (subst (λ (a : Answer). Moves now world event a (with_send send world)) (sym line) (as_defined now event world done e)) both.0 both.1
+      (subst (λ (a : Answer). Moves now world event a (with_send send world)) (sym line) (as_defined now event world done opens.other e)) both.0 both.1
       (begun_stands side id start own number begins.0 begun fits begins.2)))

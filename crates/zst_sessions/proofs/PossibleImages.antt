@@ -11,6 +11,7 @@ pub reads_may : (side : Side) (event : Event) (kept : Kept) (before after : Worl
 reads_may side (events.Reopen other) kept before after c reads = inr reads
 reads_may side (events.Step of command) kept before after c reads = reads
 reads_may side (events.Token of dataset) kept before after c reads = reads
+reads_may side (events.Check of) kept before after c reads = reads
 reads_may side (events.Send of id ask) kept before after c reads = reads
 reads_may side (events.Resume of id dataset) kept before after c reads = reads
 reads_may side (events.Receive of id ask) kept before after c reads = reads

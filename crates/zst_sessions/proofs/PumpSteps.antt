@@ -35,6 +35,7 @@ use Rattle.zst_send.specs.Sends.{SendsGoOn}
 use Rattle.zst_sessions.proofs.ChangedMatches.{found_at}
 use Rattle.zst_sessions.proofs.ChangedSides.{same_pools}
 use Rattle.zst_sessions.proofs.FedSessions.{fed_fit}
+use Rattle.zst_sessions.proofs.OtherEvents.{IsOther}
 use Rattle.zst_sessions.proofs.PumpedFeeds.{FeedSteps, feed_steps}
 use Rattle.zst_sessions.proofs.RemovedSessions.{none_matched}
 use Rattle.zst_sessions.proofs.SparedBlocks.{read_blocks, read_extents, read_spares, spares, still_works}
@@ -153,11 +154,11 @@ module _ {D : Type 0} {g : Ghosts D} where
   }
 
 module _ {D E : Type 0} {g : Ghosts D} {h : Ghosts E} where
-  -- an event that the definition refuses, and that does nothing
-  refuses_so : (event : Event) (engine : Engine D E g h) (refusal : Refusal) → EngineFits engine → ((world : World) → StandsFor engine world → moved engine.now event world ≡ refuses refusal world)
+  -- an event, but for a check, that the definition refuses, and that does nothing
+  refuses_so : (event : Event) (engine : Engine D E g h) (refusal : Refusal) → IsOther event → EngineFits engine → ((world : World) → StandsFor engine world → moved engine.now event world ≡ refuses refusal world)
       → ¬ (refused refusal ≡ Err refusals.DiskFault) → (engine.here.io.failed ≡ false → engine.there.io.failed ≡ false → ¬ (refused refusal ≡ Err refusals.Failed)) → StepsEngine event engine engine (Err refusal)
-  refuses_so event engine refusal fits is no_fault open_still =
-      nothing_done event engine (Err refusal) fits
+  refuses_so event engine refusal other fits is no_fault open_still =
+      nothing_done event engine (Err refusal) other fits
       (λ world stands. let done = is world stands in record { answer = sym (ap (λ (m : Moved). m.answer) done); stays = sym (ap (λ (m : Moved). m.world) done) }) no_fault open_still
 
   module _ (old : Engine D E g h) (sends receives count : ℕ) (fits : EngineFits old) where
@@ -181,7 +182,7 @@ module _ {D E : Type 0} {g : Ghosts D} {h : Ghosts E} where
     -- no send has the id
     pub pumps_no_send : position (λ s. s.id == sends) old.sends.items ≡ None → StepsEngine (events.Pump sends receives count) old old (Err (no_session sends))
     pumps_no_send none =
-        refuses_so (events.Pump sends receives count) old (no_session sends) fits
+        refuses_so (events.Pump sends receives count) old (no_session sends) (λ of e. cc e) fits
         (λ world stands. no_send old.now world sends receives count
         (none_matched (IsSend world) (λ s. s.id) (λ s. s.id) (λ x y is. is.id) sends old.sends.items world.sends stands.send_stands none))
         (λ e. absurd (cc e)) (λ a b e. absurd (cc e))
@@ -198,7 +199,7 @@ module _ {D E : Type 0} {g : Ghosts D} {h : Ghosts E} where
     pub pumps_no_receive : (place : ℕ) → position (λ s. s.id == sends) old.sends.items ≡ Some place → position (λ r. r.id == receives) old.receives.items ≡ None
         → StepsEngine (events.Pump sends receives count) old old (Err (no_session receives))
     pumps_no_receive place at none =
-        refuses_so (events.Pump sends receives count) old (no_session receives) fits
+        refuses_so (events.Pump sends receives count) old (no_session receives) (λ of e. cc e) fits
         (λ world stands. let found = a_send world stands place at in no_receive old.now world sends receives count found.0 found.1
         (none_matched (IsReceive world) (λ r. r.id) (λ r. r.id) (λ x y is. is.id) receives old.receives.items world.receives stands.receive_stands none))
         (λ e. absurd (cc e)) (λ a b e. absurd (cc e))
@@ -219,7 +220,7 @@ module _ {D E : Type 0} {g : Ghosts D} {h : Ghosts E} where
         → (from into : ℕ) → position (λ s. s.id == sends) old.sends.items ≡ Some from → position (λ r. r.id == receives) old.receives.items ≡ Some into
         → (side : Side) → (kept_at side (kept_pool old.here) (kept_pool old.there)).failed ≡ true → StepsEngine (events.Pump sends receives count) old old (Err refusals.Failed)
     had_failed lost from into at to side had =
-        refuses_so (events.Pump sends receives count) old refusals.Failed fits
+        refuses_so (events.Pump sends receives count) old refusals.Failed (λ of e. cc e) fits
         (λ world stands.
         let found = a_send world stands from at in
         let also = a_receive world stands into to in
@@ -273,6 +274,7 @@ module _ {D E : Type 0} {g : Ghosts D} {h : Ghosts E} where
           time = had.time;
           cause = λ e. had.cause (ap (λ (r : Refusal). Err r) (same_refusal refusal refusals.DiskFault e));
           open_still = λ here there e. had.open_still here there (ap (λ (r : Refusal). Err r) (same_refusal refusal refusals.Failed e));
+          checks = λ of running is honest. absurd (cc is);
           works = λ alive. had.works (λ e. alive (ap (λ (r : Refusal). Err r) (take_refusal refusal refusals.DiskFault e)));
           here_spares = λ no_reclaim. read_spares (kept_pool old.here) (kept_pool mid.here) had.here_read;
           there_spares = λ no_reclaim. read_spares (kept_pool old.there) (kept_pool mid.there) had.there_read;
@@ -491,6 +493,7 @@ module _ {D E : Type 0} {g : Ghosts D} {h : Ghosts E} where
                 time = settles.feeds.time ∙ gave.time;
                 cause = λ e. rose its.side fed_side (feeds.cause.fault (ap (λ (r : Result FeedReport RecvFault). stop_of r) (is_fault taken settles.after settles.fed (sym settles.reply ∙ e))));
                 open_still = λ here there e. feeds.open_still (mid_works here there its.side) (is_failed taken settles.after settles.fed (sym settles.reply ∙ e));
+                checks = λ of running is honest. absurd (cc is);
                 works = λ alive. fed_works its.side fed_side (λ fell. alive (settles.reply ∙ fell_so taken settles.after settles.fed fell));
                 here_spares = λ no_reclaim. here_spared its.side fed_side;
                 there_spares = λ no_reclaim. there_spared its.side fed_side;

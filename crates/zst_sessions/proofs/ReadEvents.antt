@@ -12,6 +12,7 @@ use Rattle.zst_model.specs.pools.Pool.{Pool}
 use Rattle.zst_script.specs.declared.event.Event.{Event}
 use Rattle.zst_script.specs.declared.event.Side.{Side}
 use Rattle.zst_script.specs.declared.event.Side.TheVariants.{Here, There}
+use Rattle.zst_sessions.proofs.OtherEvents.{IsOther, answers_by}
 use Rattle.zst_sessions.proofs.PossibleImages.{reads_may}
 use Rattle.zst_sessions.proofs.Matching.{snoc_match}
 use Rattle.zst_sessions.proofs.ReadPools.{moments_read, pool_read, receives_read, sends_read}
@@ -79,9 +80,9 @@ abbrev pub or_refused : Option Refusal → World → Moved → Moved
 or_refused None world rest = rest
 or_refused (Some refusal) world rest = refuses refusal world
 
--- an event moves as its definition says
-pub as_defined : (now : ℕ) (event : Event) (world : World) (done : Moved) → moved now event world ≡ done → Moves now world event done.answer done.world
-as_defined now event world done is = AsDefined (sym (ap (λ (m : Moved). m.answer) is)) (sym (ap (λ (m : Moved). m.world) is))
+-- an event that is no check moves as its definition says
+pub as_defined : (now : ℕ) (event : Event) (world : World) (done : Moved) → IsOther event → moved now event world ≡ done → Moves now world event done.answer done.world
+as_defined now event world done other is = AsDefined (answers_by now event world done.answer other (sym (ap (λ (m : Moved). m.answer) is))) (sym (ap (λ (m : Moved). m.world) is))
 
 -- ---- steps
 

@@ -174,6 +174,7 @@ module _ {D E : Type 0} {g : Ghosts D} {h : Ghosts E} (old new : Engine D E g h)
       time = time;
       cause = λ is. inl (cause (fault_is is));
       open_still = λ works also is. still (failed_is is);
+      checks = λ of running is honest. absurd (cc is);
       works = λ alive. (opens.works (λ is. alive (ap opened is)), λ works. ap (λ (p : pools.Pool E h). p.io.failed) other ∙ works);
       here_spares = λ no_reclaim. opens_spares (kept_pool old.here) (kept_pool new.here) refl opens.reads opens.body;
       there_spares = λ no_reclaim. subst (λ (p : pools.Pool E h). SparesBlocks (events.Reopen Here ≡ events.Reopen There) (kept_pool old.there) (kept_pool p)) (sym other) (none_spares (kept_pool old.there));
@@ -200,6 +201,7 @@ module _ {D E : Type 0} {g : Ghosts D} {h : Ghosts E} (old new : Engine D E g h)
       time = time;
       cause = λ is. inr (cause (fault_is is));
       open_still = λ works also is. still (failed_is is);
+      checks = λ of running is honest. absurd (cc is);
       works = λ alive. (λ works. ap (λ (p : pools.Pool D g). p.io.failed) other ∙ works, opens.works (λ is. alive (ap opened is)));
       here_spares = λ no_reclaim. subst (λ (p : pools.Pool D g). SparesBlocks (events.Reopen There ≡ events.Reopen Here) (kept_pool old.here) (kept_pool p)) (sym other) (none_spares (kept_pool old.here));
       there_spares = λ no_reclaim. opens_spares (kept_pool old.there) (kept_pool new.there) refl opens.reads opens.body;

@@ -295,6 +295,7 @@ module _ {D E : Type 0} {g : Ghosts D} {h : Ghosts E} (laws : Laws) (old : Engin
         time = refl;
         cause = λ is. inl (cause (sym told ∙ ap answer_of is));
         open_still = λ works also is. open_still works (sym told ∙ ap answer_of is);
+        checks = λ of running is honest. absurd (cc is);
         works = λ alive. (still (λ is. alive (lost_as result (told ∙ is))), λ works. works);
         here_spares = λ no_reclaim. kept_spares own first new (keeps (λ one. no_reclaim (ap (λ (other : Command). events.Step Here other) one)));
         there_spares = λ no_reclaim. none_spares second;
@@ -328,6 +329,7 @@ module _ {D E : Type 0} {g : Ghosts D} {h : Ghosts E} (laws : Laws) (old : Engin
         time = refl;
         cause = λ is. inr (cause (sym told ∙ ap answer_of is));
         open_still = λ also works is. open_still works (sym told ∙ ap answer_of is);
+        checks = λ of running is honest. absurd (cc is);
         works = λ alive. (λ works. works, still (λ is. alive (lost_as result (told ∙ is))));
         here_spares = λ no_reclaim. none_spares first;
         there_spares = λ no_reclaim. kept_spares own second new (keeps (λ one. no_reclaim (ap (λ (other : Command). events.Step There other) one)));

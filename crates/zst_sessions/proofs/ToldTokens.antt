@@ -108,6 +108,7 @@ module _ {D E : Type 0} {g : Ghosts D} {h : Ghosts E} (old : Engine D E g h) (si
     time = refl;
     cause = λ is. absurd (no_fault (only_refusal told refusals.DiskFault (sym answers ∙ ap answer_of is)));
     open_still = λ first second is. alive (works_at side (kept_pool {g = g} old.here) (kept_pool {g = h} old.there) first second) (only_refusal told refusals.Failed (sym answers ∙ ap answer_of is));
+    checks = λ of running is honest. absurd (cc is);
     works = λ alive. (λ works. works, λ works. works);
     here_spares = λ no_reclaim. none_spares (kept_pool old.here);
     there_spares = λ no_reclaim. none_spares (kept_pool old.there);

@@ -9,6 +9,7 @@ use Rattle.zst_model.specs.declared.refusals.refusal.Refusal.TheVariants as refu
 use Rattle.zst_pool.specs.declared.pool.Pool.{Pool}
 use Rattle.zst_script.specs.declared.event.Event.{Event}
 use Rattle.zst_script.specs.declared.event.Side.TheVariants.{Here, There}
+use Rattle.zst_sessions.proofs.OtherEvents.{IsOther, answers_by}
 use Rattle.zst_sessions.proofs.SparedBlocks.{none_spares}
 use Rattle.zst_sessions.specs.EngineSteps.{EngineFits, IsLaterPool, StandsFor, StepsEngine, kept_pool}
 use Rattle.zst_sessions.specs.Engines.{MayLeave}
@@ -29,15 +30,15 @@ pub record DoesNothing (now : ℕ) (event : Event) (world : World) (result : Res
   pub stays : world ≡ (moved now event world).world
 
 module _ {D E : Type 0} {g : Ghosts D} {h : Ghosts E} (event : Event) (old : Engine D E g h) (result : Result EventReply Refusal) where
-  -- so the engine answers it where it does nothing, and no disk was asked
-  pub nothing_done : EngineFits old → ((world : World) → StandsFor old world → DoesNothing old.now event world result) → ¬ (result ≡ Err refusals.DiskFault)
+  -- so the engine answers one that is no check where it does nothing, and no disk was asked
+  pub nothing_done : IsOther event → EngineFits old → ((world : World) → StandsFor old world → DoesNothing old.now event world result) → ¬ (result ≡ Err refusals.DiskFault)
       → (old.here.io.failed ≡ false → old.there.io.failed ≡ false → ¬ (result ≡ Err refusals.Failed)) → StepsEngine event old old result
-  nothing_done fits says no_fault open_still = record {
+  nothing_done other fits says no_fault open_still = record {
     steps = λ world honest also tells told stands.
         let is = says world stands in
         record {
           next = world;
-          moves = AsDefined is.answer is.stays;
+          moves = AsDefined (answers_by old.now event world (answer_of result) other is.answer) is.stays;
           stands = stands;
           here_moments = Leaves-none (disk_of old.here.io) (MayLeave true Here event (kept_pool old.here) world (moved old.now event world).world);
           there_moments = Leaves-none (disk_of old.there.io) (MayLeave true There event (kept_pool old.there) world (moved old.now event world).world);
@@ -48,6 +49,7 @@ module _ {D E : Type 0} {g : Ghosts D} {h : Ghosts E} (event : Event) (old : Eng
     time = refl;
     cause = λ is. absurd (no_fault is);
     open_still = open_still;
+    checks = λ of running is honest. absurd (other of is);
     works = λ alive. (λ works. works, λ works. works);
     here_spares = λ no_reclaim. none_spares (kept_pool old.here);
     there_spares = λ no_reclaim. none_spares (kept_pool old.there);

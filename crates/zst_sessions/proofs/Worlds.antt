@@ -388,6 +388,7 @@ module _ (claims : ClaimedStays) (leave : FeedsLeaveOthers) (stand : FeedsStand)
     unfolding moved
     moved_keeps (events.Step side command) = either (at_side side world).failed _ _ (stepped_keeps side command (stepped (held_at side world) now command (at_side side world).pool) refl)
     moved_keeps (events.Token side dataset) = either (at_side side world).failed _ _ (told_keeps (token_told dataset (at_side side world).pool))
+    moved_keeps (events.Check side) = is
     moved_keeps (events.Send side id ask) = either (at_side side world).failed _ _ (opened_keeps side id None (with_list (send_plan ask (at_side side world).pool)))
     moved_keeps (events.Resume side id dataset) =
         either (at_side side world).failed _ _ (either (at_side (other_side side) world).failed _ _ (resumed_keeps side id (token_told dataset (at_side (other_side side) world).pool)))
@@ -412,6 +413,7 @@ module _ (claims : ClaimedStays) (leave : FeedsLeaveOthers) (stand : FeedsStand)
   given_up_keeps : (now : ℕ) (world : World) → IsWorld world → (event : Event) → IsWorld (given_up event world)
   given_up_keeps now world is (events.Step side command) = is
   given_up_keeps now world is (events.Token side dataset) = is
+  given_up_keeps now world is (events.Check side) = is
   given_up_keeps now world is (events.Send side id ask) = is
   given_up_keeps now world is (events.Resume side id dataset) = is
   given_up_keeps now world is (events.Receive side id ask) = is
@@ -555,6 +557,7 @@ module _ (claims : ClaimedStays) (leave : FeedsLeaveOthers) (stand : FeedsStand)
       on_own_side (moved now (events.Step side command) world).world (moved_keeps now world is (events.Step side command)) side r
       (subst (λ (rs : List OpenReceive). Contains rs r) (sym (step_receives now side command world)) there) sides)
   lost_keeps now world next is (events.Token side dataset) fails = absurd fails
+  lost_keeps now world next is (events.Check side) fails = fails_keeps side world world next is fails (λ r there sides. on_own_side world is side r there sides)
   lost_keeps now world next is (events.Send side id ask) fails = fails_keeps side world world next is fails (λ r there sides. on_own_side world is side r there sides)
   lost_keeps now world next is (events.Resume side id dataset) fails = fails_keeps side world world next is fails (λ r there sides. on_own_side world is side r there sides)
   lost_keeps now world next is (events.Receive side id ask) fails = absurd fails

@@ -1,6 +1,7 @@
--- What a command makes of one open pool, and what a telling of its token answers.
+-- What a command makes of one open pool, and what a telling of its token and a check of it answer.
 use Rattle.std.specs.Prelude.{◌≡◌, ◌≢◌, ◌⊎◌, ◌<◌, ℕ, true, false, List, [], ◌∷◌, All, find, Option, None, Result, Ok, Err, if◌then◌else◌}
 use Rattle.zst_outside.specs.Images.{Leaves}
+use Rattle.zst_check.specs.declared.report.Report.{Report}
 use Rattle.zst_dir.specs.Rows.{Rows, is_for}
 use Rattle.zst_image.specs.Reads.{Reads}
 use Rattle.zst_model.specs.declared.pools.command.Command.{Command}
@@ -21,6 +22,8 @@ use Rattle.zst_sessions.specs.EngineSteps.{target_of}
 use Rattle.zst_sessions.specs.Engines.{Kept, PoolStands}
 use Rattle.zst_sessions.specs.Moves.{Answer}
 use Rattle.zst_sessions.specs.World.{OpenPool}
+use Rattle.zst_sessions.specs.declared.event_reply.EventReply.{EventReply}
+use Rattle.zst_sessions.specs.declared.event_reply.EventReply.TheVariants.{Checked}
 use Rattle.zst_sessions.specs.declared.open_sessions.OpenReceive.{OpenReceive}
 
 -- ---- answers
@@ -38,6 +41,11 @@ told_as (Err fault) = Err (refusal_of fault)
 abbrev pub token_answer : Result Token Refusal → Answer
 token_answer (Ok token) = Ok (token_text token ∷ [])
 token_answer (Err refusal) = Err refusal
+
+-- a report that is told, as the reply of its event
+abbrev pub report_told : Result Report PoolFault → Result EventReply Refusal
+report_told (Ok report) = Ok (Checked report)
+report_told (Err fault) = Err (pool_refusal fault)
 
 -- ---- commands
 

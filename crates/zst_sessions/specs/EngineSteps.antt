@@ -1,9 +1,11 @@
 -- What the engine keeps, whatever the images are, and what an event does to it.
-use Rattle.std.specs.Prelude.{◌≡◌, ◌≢◌, ◌⊎◌, ◌≤◌, IsTrue, ℕ, true, false, List, [], length, find, filter, map, ◌++◌, All, AllPairs, Result, Err}
+use Rattle.std.specs.Prelude.{◌≡◌, ◌≢◌, ◌⊎◌, ◌≤◌, IsTrue, ℕ, true, false, List, [], length, find, filter, map, ◌++◌, All, AllPairs, Result, Err, IfOk}
 use Rattle.zst_outside.specs.Causes.{Rose}
 use Rattle.zst_outside.specs.declared.disk.Disk.{Ghosts}
 use Rattle.zst_block.specs.Blocks.{KeepsBlocks}
 use Rattle.zst_block.specs.IoStates.{disk_of}
+use Rattle.zst_check.specs.Checks.{IsReportBy}
+use Rattle.zst_check.specs.declared.report.Report.{Report}
 use Rattle.zst_dir.specs.RowNames.{Match}
 use Rattle.zst_dir.specs.Rows.{Rows, IsLawful, is_for}
 use Rattle.zst_image.specs.Commits.{HasItsExtents, Ready}
@@ -11,7 +13,9 @@ use Rattle.zst_image.specs.Bodies.{free_by}
 use Rattle.zst_model.specs.declared.refusals.refusal.Refusal.{Refusal}
 use Rattle.zst_model.specs.declared.refusals.refusal.Refusal.TheVariants as refusals
 use Rattle.zst_model.specs.declared.pools.command.Command.TheVariants as commands
+use Rattle.zst_model.specs.pools.Pool.{Pool as Plain}
 use Rattle.zst_model.specs.pools.Sessions.{Held, Holds, Claims}
+use Rattle.zst_pool.specs.Calls.{IsAtRest}
 use Rattle.zst_pool.specs.Reclaims.{SparesReached}
 use Rattle.zst_pool.specs.declared.pool.Pool.{Pool}
 use Rattle.zst_recv.specs.GoingOn.{IsRow}
@@ -29,6 +33,7 @@ use Rattle.zst_sessions.specs.World.{OpenReceive, OpenSend, World, at_side, is_s
 use Rattle.zst_sessions.specs.declared.engine.Engine.{Engine}
 use Rattle.zst_sessions.specs.declared.engine.Room.{Room}
 use Rattle.zst_sessions.specs.declared.event_reply.EventReply.{EventReply}
+use Rattle.zst_sessions.specs.declared.event_reply.EventReply.TheVariants as replies
 use Rattle.zst_sessions.specs.declared.open_sessions.OpenReceive as kept_receives
 use Rattle.zst_sessions.specs.declared.open_sessions.OpenSend as kept_sends
 
@@ -41,6 +46,12 @@ pub record RoomFits (room : Room) : Type 0 where
   pub sends : room.sends.items ≡ []
   pub receives : room.receives.items ≡ []
   pub piece : length room.piece.items ≡ piece_limit
+
+-- a check of a pool that is kept so, and that is at rest, tells a report of it by its image, unless it is refused
+abbrev pub TellsCheck : Kept → Plain → Result EventReply Refusal → Type 0
+TellsCheck kept running result =
+    kept.failed ≡ false → IsAtRest true kept.disk kept.state running
+    → IfOk result (λ reply. (report : Report) × (reply ≡ replies.Checked report) × IsReportBy kept.disk.seen kept.state.body.uber kept.state.dir running report)
 
 -- ---- two pools of which one changes
 
@@ -211,6 +222,8 @@ module _ {D E : Type 0} {g : Ghosts D} {h : Ghosts E} where
     -- E28 comes only where the count of faults of a disk rose in this event, and E31 only where a disk had failed before
     pub cause : result ≡ Err refusals.DiskFault → Rose (disk_of old.here.io).faults (disk_of new.here.io).faults ⊎ Rose (disk_of old.there.io).faults (disk_of new.there.io).faults
     pub open_still : old.here.io.failed ≡ false → old.there.io.failed ≡ false → ¬ (result ≡ Err refusals.Failed)
+    -- a check of a pool that is at rest tells a report of it, with the count of blocks that its latest body reaches
+    pub checks : (side : Side) (running : Plain) → event ≡ events.Check side → (kept_at side (kept_pool new.here) (kept_pool new.there)).disk.honest → TellsCheck (kept_at side (kept_pool old.here) (kept_pool old.there)) running result
     -- unless it answers E28 no disk fails in it; and what stands of the blocks of both pools, of each where the event is no reclaim of it
     pub works : ¬ (result ≡ Err refusals.DiskFault) → NoneFailed old new
     pub here_spares : event ≢ events.Step Here commands.Reclaim → SparesBlocks (event ≡ events.Reopen Here) (kept_pool old.here) (kept_pool new.here)

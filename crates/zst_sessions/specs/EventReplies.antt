@@ -1,10 +1,11 @@
 -- The lines of a reply.
 use Rattle.std.specs.Prelude.{ℕ, ◌++◌, List, [], ◌∷◌, codes, Result, Ok, Err}
 use Rattle.zst_model.specs.declared.refusals.refusal.Refusal.{Refusal}
+use Rattle.zst_check.specs.Checks.{report_line}
 use Rattle.zst_model.specs.pools.AnswerLines.{ok_line, word}
 use Rattle.zst_model.specs.refusals.Texts.{guid_text}
 use Rattle.zst_sessions.specs.declared.event_reply.EventReply.{EventReply}
-use Rattle.zst_sessions.specs.declared.event_reply.EventReply.TheVariants.{Lines, Token, Opened, Pumped, Dropped, Closed}
+use Rattle.zst_sessions.specs.declared.event_reply.EventReply.TheVariants.{Lines, Token, Opened, Pumped, Dropped, Closed, Checked}
 use Rattle.zst_sessions.specs.declared.event_reply.Standing.{Standing}
 use Rattle.zst_sessions.specs.declared.event_reply.Standing.TheVariants.{Point, Done}
 use Rattle.zst_sessions.specs.Moves.{Answer, took}
@@ -23,6 +24,7 @@ reply_lines (Opened number) = ok_line number ∷ []
 reply_lines (Pumped taken applied standing) = (took taken ++ (codes " applied" ++ (word applied ++ standing_text standing))) ∷ []
 reply_lines (Dropped taken) = took taken ∷ []
 reply_lines Closed = codes "ok" ∷ []
+reply_lines (Checked report) = report_line report ∷ []
 
 -- an answer as its lines, or its refusal
 abbrev pub answer_of : Result EventReply Refusal → Answer

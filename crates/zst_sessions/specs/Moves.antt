@@ -1,6 +1,9 @@
 -- What one event of a script answers, and what it leaves of the world: where several refusals could come, the outermost test comes first.
-use Rattle.std.specs.Prelude.{ℕ, ◌+◌, ◌++◌, false, not, nat_lt, List, [], ◌∷◌, length, filter, codes, Option, Some, None, Result, Ok, Err, if◌then◌else◌}
+use Rattle.std.specs.Prelude.{◌≡◌, ◌⊎◌, ℕ, ◌+◌, ◌++◌, true, false, not, nat_lt, List, [], ◌∷◌, length, filter, codes, Option, Some, None, Result, Ok, Err, if◌then◌else◌}
 use Rattle.std.specs.Option.{option_map_or}
+use Rattle.zst_check.specs.Checks.{report_line}
+use Rattle.zst_check.specs.Reports.{IsReportOf}
+use Rattle.zst_check.specs.declared.report.Report.{Report}
 use Rattle.zst_model.specs.declared.refusals.faults.Quantity.TheVariants as quantities
 use Rattle.zst_model.specs.declared.refusals.plan_fault.PlanFault.{PlanFault}
 use Rattle.zst_model.specs.declared.refusals.plan_fault.PlanFault.TheVariants as plans
@@ -182,6 +185,8 @@ unfoldable pub moved : (now : ℕ) → Event → World → Moved
 moved now (events.Step side command) world =
     if_works side world (stepped_to side world (stepped (held_at side world) now command (at_side side world).pool))
 moved now (events.Token side dataset) world = if_works side world (told_by world (token_told dataset (at_side side world).pool))
+-- of a check this is only what it answers where the disk has failed
+moved now (events.Check side) world = refuses refusals.Failed world
 moved now (events.Send side id ask) world = if_works side world (opened_send side id None world (with_list (send_plan ask (at_side side world).pool)))
 moved now (events.Resume side id dataset) world =
     if_works side world (if_works (other_side side) world (resumed side id world (token_told dataset (at_side (other_side side) world).pool)))
@@ -195,3 +200,10 @@ moved now (events.Close id) world = on_send id world (λ send. answers (codes "o
 moved now (events.Cut id) world =
     on_receive id world (λ receive. refuses (refusals.Stream (Truncated (length receive.text))) (cut_off receive world))
 moved now (events.Reopen side) world = answers (number_line side world) (reopened side world)
+
+-- What an event answers by its definition. Of a check of a pool whose disk works that is any report of it: the world doesn't say how many blocks it has, and where more than one place fails any of them is named.
+abbrev pub AnswersBy : ℕ → Event → World → Answer → Type 0
+AnswersBy now (events.Check side) world answer =
+    (((at_side side world).failed ≡ true) × (answer ≡ Err refusals.Failed))
+    ⊎ (((at_side side world).failed ≡ false) × ((count : ℕ) × (report : Report) × IsReportOf (at_side side world).pool count report × (answer ≡ Ok (report_line report ∷ []))))
+AnswersBy now event world answer = answer ≡ (moved now event world).answer

@@ -1,3 +1,4 @@
+use zst_check::Report;
 use zst_model::{Point, Reply};
 use zst_token::Token;
 
@@ -17,6 +18,8 @@ pub enum EventReply {
     Lines(Reply),
     /// The token of a partial state.
     Token(Token),
+    /// What a check of a pool finds.
+    Checked(Report),
     /// A session was opened, or a pool again: the pool's number.
     Opened {
         number: u64,
