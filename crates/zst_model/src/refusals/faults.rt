@@ -43,8 +43,6 @@ pub enum Lack {
     Embedded,
     ObjectRange,
     LargeDnode,
-    /// Of a form that isn't built yet.
-    NotBuilt,
     /// A stream of another kind than the dataset that it would go into.
     Kind,
     /// A full stream into a clone of its origin that doesn't say what it leaves free (DRR_FLAG_FREERECORDS).
@@ -136,7 +134,6 @@ impl Lack {
             Lack::Embedded => plain("embedded"),
             Lack::ObjectRange => plain("object range"),
             Lack::LargeDnode => plain("large dnode"),
-            Lack::NotBuilt => plain("not built"),
             Lack::Kind => plain("kind"),
             Lack::FullWithoutFrees => plain("full without frees"),
             Lack::Relay => plain("relay"),

@@ -400,7 +400,6 @@ fn each_lack_has_its_words(rt: HostRuntime) {
         (Lack::Embedded, "embedded"),
         (Lack::ObjectRange, "object range"),
         (Lack::LargeDnode, "large dnode"),
-        (Lack::NotBuilt, "not built"),
         (Lack::Kind, "kind"),
         (Lack::FullWithoutFrees, "full without frees"),
         (Lack::Relay, "relay"),

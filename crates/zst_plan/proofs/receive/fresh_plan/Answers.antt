@@ -88,7 +88,7 @@ returns-clause-exact c = λ pool component are tells named.
 
 -- an answer that no check of E14 gives
 abbrev other : Result RecvPlan PlanFault
-other = Err (faults.Unsupported lacks.NotBuilt)
+other = Err (faults.Unsupported lacks.Kind)
 
 -- what passes the check of E14 is no resumed stream
 passes_plain : (target : List ℕ) (header : Header) → if_plain target header other ≡ other → bit_and header.features resuming ≡ 0
