@@ -15,18 +15,26 @@ use zst_run::{OpenMode, Opening, open, opening_of, run, run_on_file, run_on_file
 /// The status where a file can't be opened.
 const CANNOT_OPEN: u8 = 11;
 
-/// The standard streams, of which nothing was read or written yet.
+/// The status where no memory is left (E32).
+const NO_MEMORY: u8 = 10;
+
+/// The words of the command line, the time, and the standard streams, of which nothing was read or written yet: all that a
+/// run takes before its images are opened, so that want of memory for it leaves no image changed or made.
 #[derive(Drop)]
-struct Streams {
+struct Invocation {
+    words: Vec<String>,
+    now: u64,
     input: Input<Stdin>,
     out: Output<Stdout>,
     note: Output<Stderr>,
 }
 
-impl Streams {
-    fn new(rt: &HostRuntime) -> io::Result<Streams> {
+impl Invocation {
+    fn new(rt: &HostRuntime) -> io::Result<Invocation> {
         let alloc = rt.alloc();
-        Ok(Streams {
+        Ok(Invocation {
+            words: env::args(rt)?.skip(1).collect(alloc)?,
+            now: seconds(rt)?,
             input: Input::new(rt.stdin()),
             out: Output::new(alloc, rt.stdout())?,
             note: Output::new(alloc, rt.stderr())?,
@@ -46,75 +54,72 @@ fn seconds(rt: &HostRuntime) -> io::Result<u64> {
 /// Runs the words over this image, which was just opened, and the standard streams.
 fn run_over_file<F: Start>(
     rt: &HostRuntime,
-    words: &[String],
+    asked: &mut Invocation,
     here: &mut FileDisk<F>,
-) -> io::Result<ExitCode>
+) -> ExitCode
     requires { history_of here.old ≡ [] }
 {
     let mut there = SureDisk::new(Vec::new(rt.alloc()));
-    let mut streams = Streams::new(rt)?;
-    Ok(ExitCode::from(run_on_file(
+    ExitCode::from(run_on_file(
         rt.alloc(),
-        words,
-        seconds(rt)?,
+        &asked.words,
+        asked.now,
         here,
         &mut there,
-        &mut streams.input,
-        &mut streams.out,
-        &mut streams.note,
-    )))
+        &mut asked.input,
+        &mut asked.out,
+        &mut asked.note,
+    ))
 }
 
 /// Runs the words over these two images, which were just opened, and the standard streams.
 fn run_over_files<F: Start, G: Start>(
     rt: &HostRuntime,
-    words: &[String],
+    asked: &mut Invocation,
     here: &mut FileDisk<F>,
     there: &mut FileDisk<G>,
-) -> io::Result<ExitCode>
+) -> ExitCode
     requires here { history_of here.old ≡ [] }
     requires there { history_of there.old ≡ [] }
 {
-    let mut streams = Streams::new(rt)?;
-    Ok(ExitCode::from(run_on_files(
+    ExitCode::from(run_on_files(
         rt.alloc(),
-        words,
-        seconds(rt)?,
+        &asked.words,
+        asked.now,
         here,
         there,
-        &mut streams.input,
-        &mut streams.out,
-        &mut streams.note,
-    )))
+        &mut asked.input,
+        &mut asked.out,
+        &mut asked.note,
+    ))
 }
 
 /// Runs words that name no image over the standard streams.
-fn run_over_none(rt: &HostRuntime, words: &[String]) -> io::Result<ExitCode> {
+fn run_over_none(rt: &HostRuntime, asked: &mut Invocation) -> ExitCode {
     let mut here = SureDisk::new(Vec::new(rt.alloc()));
     let mut there = SureDisk::new(Vec::new(rt.alloc()));
-    let mut streams = Streams::new(rt)?;
-    Ok(ExitCode::from(run(
+    ExitCode::from(run(
         rt.alloc(),
-        words,
-        seconds(rt)?,
+        &asked.words,
+        asked.now,
         &mut here,
         &mut there,
-        &mut streams.input,
-        &mut streams.out,
-        &mut streams.note,
-    )))
+        &mut asked.input,
+        &mut asked.out,
+        &mut asked.note,
+    ))
 }
 
 /// Opens the image that the words name, and runs them over it.
 fn run_over_one(
     rt: &HostRuntime,
-    words: &[String],
+    asked: &mut Invocation,
     path: &str,
     mode: OpenMode,
 ) -> io::Result<ExitCode> {
     match open(rt, path, mode, UnknownStart) {
-        Ok(mut disk) => run_over_file(rt, words, &mut disk),
-        Err(_) => cannot_open(rt),
+        Ok(mut disk) => Ok(run_over_file(rt, asked, &mut disk)),
+        Err(error) => cannot_open(rt, error),
     }
 }
 
@@ -122,33 +127,48 @@ fn run_over_one(
 /// second can't be locked.
 fn run_over_two(
     rt: &HostRuntime,
-    words: &[String],
+    asked: &mut Invocation,
     here: &str,
     there: &str,
 ) -> io::Result<ExitCode> {
-    let Ok(mut first) = open(rt, here, OpenMode::Alone, UnknownStart) else {
-        return cannot_open(rt);
+    let mut first = match open(rt, here, OpenMode::Alone, UnknownStart) {
+        Ok(disk) => disk,
+        Err(error) => return cannot_open(rt, error),
     };
     match open(rt, there, OpenMode::Alone, UnknownStart) {
-        Ok(mut second) => run_over_files(rt, words, &mut first, &mut second),
-        Err(_) => cannot_open(rt),
+        Ok(mut second) => Ok(run_over_files(rt, asked, &mut first, &mut second)),
+        Err(error) => cannot_open(rt, error),
     }
 }
 
-/// Notes that an image can't be opened.
-fn cannot_open(rt: &HostRuntime) -> io::Result<ExitCode> {
+/// Runs the words of the command line.
+fn run_words(rt: &HostRuntime) -> io::Result<ExitCode> {
+    let mut asked = Invocation::new(rt)?;
+    match opening_of(rt.alloc(), &asked.words)? {
+        None => Ok(run_over_none(rt, &mut asked)),
+        Some(Opening::One(path, mode)) => run_over_one(rt, &mut asked, path.as_str(), mode),
+        Some(Opening::Two { here, there }) => {
+            run_over_two(rt, &mut asked, here.as_str(), there.as_str())
+        }
+    }
+}
+
+/// Notes that an image can't be opened, unless no memory was left for that.
+fn cannot_open(rt: &HostRuntime, error: io::Error) -> io::Result<ExitCode> {
+    if error.kind() == io::ErrorKind::OutOfMemory {
+        return Err(error);
+    }
     let _ = rt.stderr().write_all(b"zst: cannot open\n");
     Ok(ExitCode::from(CANNOT_OPEN))
 }
 
 fn main(rt: HostRuntime) -> io::Result<ExitCode> {
-    let alloc = rt.alloc();
-    let words: Vec<String> = env::args(&rt)?.skip(1).collect(alloc)?;
-    match opening_of(alloc, &words)? {
-        None => run_over_none(&rt, &words),
-        Some(Opening::One(path, mode)) => run_over_one(&rt, &words, path.as_str(), mode),
-        Some(Opening::Two { here, there }) => {
-            run_over_two(&rt, &words, here.as_str(), there.as_str())
+    match run_words(&rt) {
+        // before an image was opened: behind that a run tells it itself
+        Err(error) if error.kind() == io::ErrorKind::OutOfMemory => {
+            let _ = rt.stderr().write_all(b"zst: E32 no memory\n");
+            Ok(ExitCode::from(NO_MEMORY))
         }
+        other => other,
     }
 }
