@@ -82,6 +82,30 @@ module _ (images : List ℕ → Type 0) (size level : ℕ) (root leaf : Ptr) whe
   pub IsWithin-size : (other : ℕ) → size ≡ other → (fewer : List ℕ → Type 0) (lower : ℕ) (under : Ptr) → IsWithin images size level root leaf fewer lower under → IsWithin images other level root leaf fewer lower under
   IsWithin-size other same fewer lower under within = subst (λ (n : ℕ). IsWithin images n level root leaf fewer lower under) same within
 
+-- what may be told alone, of nodes that may not sum up what stands below them
+module _ (images : List ℕ → Type 0) (size level : ℕ) (root : Ptr) where
+  -- among fewer images
+  pub IsSummedBelow-fewer : (more fewer : List ℕ → Type 0) → ((image : List ℕ) → fewer image → more image) → (lower : ℕ) (under : Ptr) → IsSummedBelow images size level root more lower under → IsSummedBelow images size level root fewer lower under
+  IsSummedBelow-fewer more fewer up lower under below = λ sector stated found damage. below sector stated found (IsSummedBelow-more fewer more up size lower under sector stated found damage)
+
+  -- one change after another
+  pub IsSummedBelow-then : (mid : List ℕ → Type 0) (lower : ℕ) (under : Ptr) → IsSummedBelow images size level root mid lower under → (fewer : List ℕ → Type 0) (lowest : ℕ) (last : Ptr) → IsSummedBelow mid size lower under fewer lowest last
+      → IsSummedBelow images size level root fewer lowest last
+  IsSummedBelow-then mid lower under first fewer lowest last second = λ sector stated found damage. first sector stated found (second sector stated found damage)
+
+  -- nothing is told of a pointer that stands for all below it
+  pub IsSummedBelow-stands : (fewer : List ℕ → Type 0) (lower : ℕ) (under : Ptr) → (lower ≡ 0) ⊎ (is_flat under ≡ true) → IsSummedBelow images size level root fewer lower under
+  IsSummedBelow-stands fewer lower under stands = λ sector stated found damage. absurd (Reaches-stands (MayHave fewer) lower under damage.at damage.ptr stands damage.reached)
+
+  pub IsSummedBelow-size : (other : ℕ) → size ≡ other → (fewer : List ℕ → Type 0) (lower : ℕ) (under : Ptr) → IsSummedBelow images size level root fewer lower under → IsSummedBelow images other level root fewer lower under
+  IsSummedBelow-size other same fewer lower under below = subst (λ (n : ℕ). IsSummedBelow images n level root fewer lower under) same below
+
+-- a child of a node that was read, below this root among more images
+pub opened_summed : (images old now : List ℕ → Type 0) → ((image : List ℕ) → old image → images image) → ((image : List ℕ) → now image → old image) → (size level : ℕ) (root : Ptr) (lower : ℕ) (under : Ptr)
+    → IsSummedBelow old size level root old lower under → IsSummedBelow images size level root now lower under
+opened_summed images old now up down size level root lower under sums = IsSummedBelow-fewer images size level root old now down lower under
+    (λ sector stated found damage. IsSummedBelow-more old images up size level root sector stated found (sums sector stated found damage))
+
 -- a child of a node that was read, below this root among more images
 pub opened_within : (images old now : List ℕ → Type 0) → ((image : List ℕ) → old image → images image) → ((image : List ℕ) → now image → old image) → (size level : ℕ) (root leaf : Ptr) (lower : ℕ) (under : Ptr)
     → IsBelow old size NamesNode level root old lower under → ((found : Ptr) → HangsBelow (MayHave old) lower under found → HangsBelow (MayHave old) level root found)
@@ -129,32 +153,42 @@ module _ (seen : List ℕ) (space : FreeSectors) (size : ℕ) (long : length see
       (λ other. block_whole other.0 found other.1 (subst (λ (p : Ptr). IsDamage other.0 size p found) ptr_is other.2))
       (λ alike. alike.1 (subst (λ (n : ℕ). right n ptr) (sym at_is) (subst (λ (p : Ptr). right level p) (sym ptr_is) is))) told
 
+  abbrev Under : ℕ → ℕ → Ptr → Type 0
+  Under lower at ptr = (bytes : List ℕ) × MayHave (SparesTaken space seen) made bytes × (k : ℕ) × (k < 128) × Reaches (MayHave (SparesTaken space seen)) lower (child bytes k) at ptr
+
+  -- what is told below a child of it
+  under_child : (right : ℕ → Ptr → Type 0) (lower sector : ℕ) (stated found : List ℕ) (damage : IsDamagedNode (SparesTaken space seen) size right (suc lower) made sector stated found) → (under : Under lower damage.at damage.ptr)
+      → IsDamagedNode (SparesTaken space seen) size right lower (child node under.2) sector stated found
+  under_child right lower sector stated found damage under = record {
+    at = damage.at;
+    ptr = damage.ptr;
+    reached = subst (λ (bytes : List ℕ). Reaches (MayHave (SparesTaken space seen)) lower (child bytes under.2) damage.at damage.ptr) (block_same under.0 under.1) under.4;
+    sector_is = damage.sector_is;
+    stated_is = damage.stated_is;
+    found_is = damage.found_is;
+  }
+
+  module _ (images : List ℕ → Type 0) (upper : ℕ) (root : Ptr) where
+    summed_suc : (lower : ℕ) → SumsUp (SparesTaken space seen) (suc lower) made → ((k : ℕ) → k < 128 → IsSummedBelow images size upper root (SparesTaken space seen) lower (child node k)) → IsSummedBelow images size upper root (SparesTaken space seen) (suc lower) made
+    summed_suc lower sums children = λ sector stated found damage. ⊎_elim
+        (λ here. absurd (made_whole (SumsUp (SparesTaken space seen)) (suc lower) damage.at damage.ptr stated found sums here.0 here.1 damage.found_is))
+        (λ under. children under.2 under.3 sector stated found (under_child (SumsUp (SparesTaken space seen)) lower sector stated found damage under))
+        (reaches_cases (MayHave (SparesTaken space seen)) lower made damage.at damage.ptr damage.reached)
+
+    pub node_summed : (level : ℕ) → 0 < level → SumsUp (SparesTaken space seen) level made → ((k : ℕ) → k < 128 → IsSummedBelow images size upper root (SparesTaken space seen) (level - 1) (child node k)) → IsSummedBelow images size upper root (SparesTaken space seen) level made
+    node_summed zero some sums children = absurd (omega arith)
+    node_summed (suc lower) some sums children =
+        let same : suc lower - 1 ≡ lower = omega arith in
+        summed_suc lower sums (λ k under. rw same at (children k under))
+
   module _ (images : List ℕ → Type 0) (upper : ℕ) (root leaf : Ptr) where
-    abbrev Under : ℕ → ℕ → Ptr → Type 0
-    Under lower at ptr = (bytes : List ℕ) × MayHave (SparesTaken space seen) made bytes × (k : ℕ) × (k < 128) × Reaches (MayHave (SparesTaken space seen)) lower (child bytes k) at ptr
-
-    -- what is told below a child of it
-    under_child : (right : ℕ → Ptr → Type 0) (lower sector : ℕ) (stated found : List ℕ) (damage : IsDamagedNode (SparesTaken space seen) size right (suc lower) made sector stated found) → (under : Under lower damage.at damage.ptr)
-        → IsDamagedNode (SparesTaken space seen) size right lower (child node under.2) sector stated found
-    under_child right lower sector stated found damage under = record {
-      at = damage.at;
-      ptr = damage.ptr;
-      reached = subst (λ (bytes : List ℕ). Reaches (MayHave (SparesTaken space seen)) lower (child bytes under.2) damage.at damage.ptr) (block_same under.0 under.1) under.4;
-      sector_is = damage.sector_is;
-      stated_is = damage.stated_is;
-      found_is = damage.found_is;
-    }
-
     node_suc : (lower : ℕ) → SumsUp (SparesTaken space seen) (suc lower) made → ((k : ℕ) → k < 128 → IsWithin images size upper root leaf (SparesTaken space seen) lower (child node k)) → IsWithin images size upper root leaf (SparesTaken space seen) (suc lower) made
     node_suc lower sums children = record {
       below = λ sector stated found damage. ⊎_elim
           (λ here. absurd (made_whole NamesNode (suc lower) damage.at damage.ptr stated found sums.names here.0 here.1 damage.found_is))
           (λ under. (children under.2 under.3).below sector stated found (under_child NamesNode lower sector stated found damage under))
           (reaches_cases (MayHave (SparesTaken space seen)) lower made damage.at damage.ptr damage.reached);
-      sums = λ sector stated found damage. ⊎_elim
-          (λ here. absurd (made_whole (SumsUp (SparesTaken space seen)) (suc lower) damage.at damage.ptr stated found sums here.0 here.1 damage.found_is))
-          (λ under. (children under.2 under.3).sums sector stated found (under_child (SumsUp (SparesTaken space seen)) lower sector stated found damage under))
-          (reaches_cases (MayHave (SparesTaken space seen)) lower made damage.at damage.ptr damage.reached);
+      sums = summed_suc images upper root lower sums (λ k under. (children k under).sums);
       hangs = λ found hangs.
           let under = hangs_cases (MayHave (SparesTaken space seen)) lower made found (flat_kind made sums.names.kind) hangs in
           (children under.2 under.3).hangs found (subst (λ (bytes : List ℕ). HangsBelow (MayHave (SparesTaken space seen)) lower (child bytes under.2) found) (block_same under.0 under.1) under.4);
@@ -165,6 +199,14 @@ module _ (seen : List ℕ) (space : FreeSectors) (size : ℕ) (long : length see
     node_within (suc lower) some sums children =
         let same : suc lower - 1 ≡ lower = omega arith in
         node_suc lower sums (λ k under. rw same at (children k under))
+
+-- one child was put into a node
+pub one_summed : (images : List ℕ → Type 0) (size upper : ℕ) (root : Ptr) (now : List ℕ → Type 0) (lower : ℕ) (old new : List ℕ) (place : ℕ) (made : Ptr) → PutsChild old new place made
+    → ((k : ℕ) → k < 128 → IsSummedBelow images size upper root now lower (child old k)) → IsSummedBelow images size upper root now lower made → (k : ℕ) → k < 128 → IsSummedBelow images size upper root now lower (child new k)
+one_summed images size upper root now lower old new place made puts others here k under = ⊎_elim
+    (λ before. subst (λ (p : Ptr). IsSummedBelow images size upper root now lower p) (sym (puts.others k under (omega arith)).child_is) (others k under))
+    (⊎_elim (λ is. subst (λ (p : Ptr). IsSummedBelow images size upper root now lower p) (sym (ap (child new) is ∙ puts.here.child_is)) here)
+    (λ behind. subst (λ (p : Ptr). IsSummedBelow images size upper root now lower p) (sym (puts.others k under (omega arith)).child_is) (others k under))) (sides k place)
 
 module _ (images : List ℕ → Type 0) (size upper : ℕ) (root leaf : Ptr) (now : List ℕ → Type 0) (lower : ℕ) where
   at_child : (there here : Ptr) → here ≡ there → IsWithin images size upper root leaf now lower there → IsWithin images size upper root leaf now lower here

@@ -4,7 +4,7 @@ ghost use Rattle.zst_space.specs.FreeSectors.{FreeSectors};
 ghost use Rattle.zst_block.specs.Blocks.{Has};
 ghost use Rattle.zst_block.specs.IoStates.{IsHonest, blocks_of, disk_of, io_of, IsSparedBy};
 ghost use Rattle.zst_block.specs.IoCalls.{Works, stop_of};
-ghost use Rattle.zst_tree.specs.Damage.{NamesDamage, NamesNode};
+ghost use Rattle.zst_tree.specs.Damage.{IsSummedBelow, NamesDamage, NamesNode};
 ghost use Rattle.zst_tree.specs.Indices.{Delivers, Map, Subtree, span};
 ghost use Rattle.zst_tree.specs.Changes.{Parts};
 ghost use Rattle.zst_tree.specs.Leaves.{IsOf, with_leaves};
@@ -51,6 +51,7 @@ fn put_leaves<D: Disk>(
         → Delivers (λ made. Subtree (blocks_of io.new) level made base (with_leaves map leaves.now)) result }
     ensures damaged { IsHonest io.new → NamesDamage (IsSparedBy io.old) (disk_of io.old).size NamesNode level ptr result }
     ensures names { IfOk result (NamesNode level) }
+    ensures sums { IsHonest io.new → IfOk result (IsSummedBelow (IsSparedBy io.old) (disk_of io.old).size level ptr (IsSparedBy io.new) level) }
     ensures works { Works (16 * level) 16 (io_of io.old) (io_of io.new) (stop_of result) }
 {
     if level == 1 {
@@ -69,7 +70,7 @@ impl Tree {
     ghost use Rattle.std.specs.Prelude.{◌≡◌, ◌+◌, ◌*◌, ◌^◌, ◌<◌, ◌≤◌, ℕ, All, OnErr, OnOk};
     ghost use Rattle.zst_block.specs.IoCalls.{Works, stop_of};
     ghost use Rattle.zst_tree.specs.Changes.{TreeDatedUpTo};
-    ghost use Rattle.zst_tree.specs.Damage.{NamesDamage, NamesNode};
+    ghost use Rattle.zst_tree.specs.Damage.{IsSummedBelow, NamesDamage, NamesNode};
     ghost use Rattle.zst_tree.specs.Indices.{Delivers, Map, TreeIs};
     ghost use Rattle.zst_tree.specs.Leaves.{IsOf, with_leaves};
 
@@ -91,6 +92,8 @@ impl Tree {
             → Delivers (λ done. TreeIs (blocks_of io.new) self.new (with_leaves map leaves.now)) result }
         // Damage is told of a node below the root alone.
         ensures damaged { IsHonest io.new → NamesDamage (IsSparedBy io.old) (disk_of io.old).size NamesNode self.old.levels self.old.root result }
+        // And afterwards no more may be, of a node that has to sum up what stands below it.
+        ensures sums { IsHonest io.new → OnOk result (IsSummedBelow (IsSparedBy io.old) (disk_of io.old).size self.old.levels self.old.root (IsSparedBy io.new) self.new.levels self.new.root) }
         ensures kept { OnErr result (self.new ≡ self.old) }
         ensures levels { self.new.levels ≤ 7 }
         ensures root { OnOk result ((0 < self.new.levels) × NamesNode self.new.levels self.new.root) }

@@ -116,6 +116,9 @@ pub(crate) fn mend_one<D: Disk>(
     ensures within { (leaf : Ptr) (image : List ℕ) (space : FreeSectors) → IsHonest io.new → ((c : List ℕ) → IsSparedBy io.old c → SparesTaken space image c)
         → IsWithin (SparesTaken space image) (disk_of io.old).size level ptr leaf (IsSparedBy io.old) (level - 1) new
         → IfOk result (IsWithin (SparesTaken space image) (disk_of io.old).size level ptr leaf (IsSparedBy io.new) level) }
+    ensures sums { (image : List ℕ) (space : FreeSectors) → IsHonest io.new → ((c : List ℕ) → IsSparedBy io.old c → SparesTaken space image c)
+        → IsSummedBelow (SparesTaken space image) (disk_of io.old).size level ptr (IsSparedBy io.old) (level - 1) new
+        → IfOk result (IsSummedBelow (SparesTaken space image) (disk_of io.old).size level ptr (IsSparedBy io.new) level) }
     ensures works { Works 16 16 (io_of io.old) (io_of io.new) (stop_of result) }
 {
     open(io, level, ptr)?;

@@ -1,5 +1,5 @@
-use Rattle.std.proofs.Common.{◌-◌, ◌<◌, arith}
-use Rattle.std.proofs.lemmas.Result.{err_from_is_err_and}
+use Rattle.std.proofs.Common.{◌-◌, ◌<◌, ◌∙◌, inl, sym, arith}
+use Rattle.std.proofs.lemmas.Result.{IfOk-weaker, err_from_is_err_and}
 use Rattle.zst_block.proofs.BlocksLaws.{FillsFree-then}
 use Rattle.zst_block.proofs.IoCallLemmas.{Works-after, Works-then, Works-more}
 use Rattle.zst_tree.specs.Damage.{NamesNode}
@@ -7,7 +7,9 @@ use Rattle.zst_tree.specs.Leaves.{with_leaves}
 use Rattle.zst_tree.proofs.IndicesLaws.{Subtree-grows}
 use Rattle.zst_tree.proofs.SubtreeCases.{kept_looks, kept_works}
 use Rattle.zst_tree.proofs.BuiltSubtrees.{Parts-grows, child_stands}
-use Rattle.zst_tree.proofs.LaterDamage.{fills_looks, same_now, told_after}
+use Rattle.zst_tree.proofs.LaterDamage.{fills_looks, same_now, spares_before, told_after}
+use Rattle.zst_tree.proofs.Results.{IfOk-both}
+use Rattle.zst_tree.proofs.ChangedTrees.{IsSummedBelow-size, IsSummedBelow-stands, IsSummedBelow-then, node_summed, opened_summed}
 use Rattle.zst_tree.proofs.LeafMaps.{beside, first_parts, part_at, part_ends}
 use Rattle.zst_tree.proofs.leaf_puts.+put_leaves.Goals as goal
 
@@ -47,6 +49,27 @@ returns-clause-damaged g t c = λ honest.
     let opened = fills_looks c.in_ok-open-2.ensures.looks in
     let filled = FillsFree-then _ _ _ _ _ _ opened c.in_ok-made.ensures.works.fills in
     told_after _ _ _ _ filled NamesNode c.args.level c.args.ptr c.args.level c.args.ptr (same_now _ _ _ _ filled NamesNode c.args.level c.args.ptr) c.mend_one.result (c.mend_one.ensures.damaged honest)
+
+pub returns-then-level-eq1-clause-sums : goal.returns-then-level-eq1-clause-sums
+returns-then-level-eq1-clause-sums g t c = λ honest.
+    let fills = FillsFree-then _ _ _ _ _ _ (fills_looks c.in_ok-open.ensures.looks) c.close.ensures.works.fills in
+    IfOk-both _ _ _ c.close.result
+    (λ made wrote sums. node_summed _ _ _ (g.met.D.Disk.seen_size c.close.new.io.disk.now ∙ fills.size) made _ wrote _ c.args.level c.args.ptr c.args.level c.requires.inner sums
+    (λ k under. IsSummedBelow-stands _ _ _ _ _ (c.args.level - 1) _ (inl (omega (arith, c.if-level-eq1.true)))))
+    c.close.ensures.wrote c.close.ensures.sums
+
+pub returns-clause-sums : goal.returns-clause-sums
+returns-clause-sums g t c = λ honest.
+    let place = c.place_of-place in
+    let told = c.mend_one.ensures.works.fills.honest honest in
+    let read = c.in_ok-made.ensures.works.fills.honest told in
+    let opened = fills_looks c.in_ok-open-2.ensures.looks in
+    let filled = FillsFree-then _ _ _ _ _ _ opened c.in_ok-made.ensures.works.fills in
+    let low = opened_summed _ _ _ (λ image spares. spares) (spares_before _ _ _ _ opened) _ c.args.level c.args.ptr (c.args.level - 1) c.child_at-low.result
+    (rw c.child_at-low.ensures.child (c.in_ok-open-2.ensures.sums read place.result.child place.ensures.child)) in
+    let made = IsSummedBelow-then _ _ _ _ _ _ _ low _ _ _ (IsSummedBelow-size _ _ _ _ _ opened.size _ _ _ (c.in_ok-made.ensures.sums told)) in
+    IfOk-weaker c.mend_one.result _ _ (λ done below. IsSummedBelow-size _ _ _ _ _ filled.size _ _ _ below)
+    (c.mend_one.ensures.sums _ _ honest (spares_before _ _ _ _ filled) (IsSummedBelow-size _ _ _ _ _ (sym filled.size) _ _ _ made))
 
 pub returns-clause-works : goal.returns-clause-works
 returns-clause-works g t c =

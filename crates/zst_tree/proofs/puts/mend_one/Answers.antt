@@ -12,7 +12,7 @@ use Rattle.zst_block.proofs.BlocksLaws.{FillsFree-then}
 use Rattle.zst_tree.specs.Indices.{child}
 use Rattle.zst_tree.proofs.Results.{IfOk-both}
 use Rattle.zst_tree.proofs.LaterDamage.{fills_looks, spares_before}
-use Rattle.zst_tree.proofs.ChangedTrees.{IsWithin-fewer, node_within, one_within, opened_within}
+use Rattle.zst_tree.proofs.ChangedTrees.{IsSummedBelow-fewer, IsWithin-fewer, node_summed, node_within, one_summed, one_within, opened_summed, opened_within}
 use Rattle.zst_tree.proofs.puts.mend_one.Goals as goal
 
 pub returns-clause-mended : goal.returns-clause-mended
@@ -43,6 +43,19 @@ returns-clause-within g c = λ leaf image space honest up within.
     (IsWithin-fewer _ _ _ _ _ _ _ down _ _ within)))
     c.close.ensures.wrote c.close.ensures.sums
 
+pub returns-clause-sums : goal.returns-clause-sums
+returns-clause-sums g c = λ image space honest up below.
+    let opened = c.in_ok-open.ensures in
+    let read = c.close.ensures.works.fills.honest honest in
+    let fills = FillsFree-then _ _ _ _ _ _ (fills_looks opened.looks) c.close.ensures.works.fills in
+    let down = spares_before _ _ _ _ fills in
+    IfOk-both _ _ _ c.close.result
+    (λ made wrote sums. node_summed _ _ _ (g.met.D.Disk.seen_size c.close.new.io.disk.now ∙ fills.size) made _ wrote (SparesTaken space image) c.args.level c.args.ptr c.args.level c.requires.inner sums
+    (one_summed _ _ _ _ _ _ _ _ c.args.child c.args.new c.put_child.ensures.puts
+    (λ k under. opened_summed (SparesTaken space image) _ _ up down _ c.args.level c.args.ptr (c.args.level - 1) (child c.open.new.io.node k) (opened.sums read k under))
+    (IsSummedBelow-fewer _ _ _ _ _ _ down _ _ below)))
+    c.close.ensures.wrote c.close.ensures.sums
+
 pub returns-in_err-open-clause-damaged : goal.returns-in_err-open-clause-damaged
 returns-in_err-open-clause-damaged g c = λ honest.
     let p = err_from_is_err_and c.from_residual.result c.from_residual.ensures.1 in
@@ -65,3 +78,8 @@ returns-in_err-open-clause-works g c =
 
 pub returns-clause-names : goal.returns-clause-names
 returns-clause-names g c = c.close.ensures.names
+
+pub returns-in_err-open-clause-sums : goal.returns-in_err-open-clause-sums
+returns-in_err-open-clause-sums g c = λ image space honest spares below.
+    let p = err_from_is_err_and c.from_residual.result c.from_residual.ensures.1 in
+    rw p.1 tt

@@ -3,6 +3,7 @@ use Rattle.std.proofs.lemmas.Result.{err_from_is_err_and}
 use Rattle.zst_block.proofs.IoCallLemmas.{Works-then, Works-more}
 use Rattle.zst_tree.specs.Damage.{NamesNode}
 use Rattle.zst_tree.specs.Leaves.{with_leaves}
+use Rattle.zst_tree.proofs.ChangedTrees.{IsSummedBelow-size, IsSummedBelow-then}
 use Rattle.zst_tree.proofs.LaterDamage.{fault_after}
 use Rattle.zst_tree.proofs.LeafMaps.{dated, has_level, leaves_hold, part_below}
 use Rattle.zst_tree.proofs.TreeDates.{all_dated, below_dated, past_dated}
@@ -35,6 +36,10 @@ returns-clause-holds g c = λ map honest holds.
     let stands = c.in_ok-grown.ensures.grown holds.whole holds.stands in
     leaves_hold _ _ _ _ holds.whole map c.args.group c.args.leaves.now c.requires.leaves c.in_ok-grown.ensures.size.0 stands.past holds.agrees
     (c.in_ok-root.ensures.put c.args.group 0 holds.whole honest (omega arith) c.requires.leaves stands.below)
+
+pub returns-clause-sums : goal.returns-clause-sums
+returns-clause-sums g c = λ honest.
+    IsSummedBelow-then _ _ _ _ _ _ _ (c.in_ok-grown.ensures.within c.in_ok-grown.grown.root).sums _ _ _ (IsSummedBelow-size _ _ _ _ _ c.in_ok-grown.ensures.works.fills.size _ _ _ (c.in_ok-root.ensures.sums honest))
 
 pub returns-clause-root : goal.returns-clause-root
 returns-clause-root g c = (has_level _ c.args.group c.in_ok-grown.ensures.size.0, c.in_ok-root.ensures.names)
