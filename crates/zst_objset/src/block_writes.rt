@@ -163,6 +163,7 @@ fn put_blocks<D: Disk>(
     ensures levels { IfOk result (λ made. made.levels ≤ 7) }
     ensures root { IfOk result (λ made. (0 < made.levels) × NamesNode made.levels made.root) }
     ensures damaged { IsHonest io.new → NamesDamage (IsSparedBy io.old) (disk_of io.old).size NamesNode tree.levels tree.root result }
+    ensures trees { IsHonest io.new → IfOk result (λ made. IsSummedBelow (IsSparedBy io.old) (disk_of io.old).size tree.levels tree.root (IsSparedBy io.new) made.levels made.root) }
     ensures works { Works (count * (size / 512) + 224) (size / 512) (io_of io.old) (io_of io.new) (block_stop result) }
 {
     write_each(io, index, size, bytes, number, leaves)?;
@@ -189,6 +190,7 @@ pub fn write_blocks<D: Disk>(
     requires run { IsBlockRun index size count (length bytes.now) }
     ensures changes { ChangesTightSet SetHas SetHasTight SetFits number (blocks_written number object size count index bytes.now) NotLimit
         (IsDamagedObject (IsSparedBy io.old) (disk_of io.old).size NamesNode set.old) (count * (size / 512) + 464) (size / 512) (io_of io.old) (io_of io.new) set.old set.new result }
+    ensures trees { IsHonest io.new → OnOk result (AreTreesWithin (IsSparedBy io.old) (disk_of io.old).size set.old (IsSparedBy io.new) set.new) }
 {
     applied_is_state();
     let dnode = match object_there(set, io, object) {

@@ -8,6 +8,7 @@ use Rattle.zst_tree.proofs.LaterDamage.{fault_after, same_now}
 use Rattle.zst_tree.proofs.IndicesLaws.{TreeIs-grows}
 use Rattle.zst_objset.specs.BlockRuns.{AreSoFar}
 use Rattle.zst_objset.proofs.RunLaws.{AreWritten-grows, are_written}
+use Rattle.zst_objset.proofs.TreesWithin.{sums_before}
 use Rattle.zst_objset.proofs.block_writes.put_blocks.Goals as goal
 
 pub returns-in_err-set_all-clause-puts : goal.returns-in_err-set_all-clause-puts
@@ -41,6 +42,10 @@ returns-in_err-set_all-clause-damaged g c = λ honest.
     let p = err_from_is_err_and c.from_residual-in_err-set_all.result c.from_residual-in_err-set_all.ensures.1 in
     let fills = c.in_ok-write_each.ensures.works.fills in
     rw (p.1, p.2) (fault_after _ _ _ _ fills NamesNode c.args.tree.levels c.args.tree.root c.args.tree.levels c.args.tree.root (same_now _ _ _ _ fills NamesNode c.args.tree.levels c.args.tree.root) _ (c.in_err-set_all.ensures.damaged honest))
+
+pub returns-clause-trees : goal.returns-clause-trees
+returns-clause-trees g c = λ honest.
+    sums_before _ _ _ _ c.in_ok-write_each.ensures.works.fills c.args.tree.levels c.args.tree.root _ _ _ (c.in_ok-set_all.ensures.sums honest)
 
 pub returns-clause-dated : goal.returns-clause-dated
 returns-clause-dated g c = λ map honest is dated.

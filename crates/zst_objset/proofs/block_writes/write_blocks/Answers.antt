@@ -10,6 +10,7 @@ use Rattle.zst_model.specs.declared.refusals.refusal.Refusal.{Refusal}
 use Rattle.zst_model.specs.states.DatedState.{DatedState}
 use Rattle.zst_tree.specs.Damage.{NamesNode}
 use Rattle.zst_tree.specs.Indices.{TreeIs}
+use Rattle.zst_tree.proofs.LaterDamage.{fills_looks}
 use Rattle.zst_tree.specs.declared.tree.Tree.{Tree}
 use Rattle.zst_objset.specs.Answers.{Changes}
 use Rattle.zst_objset.specs.Sets.{SetHolds}
@@ -21,6 +22,7 @@ use Rattle.zst_objset.proofs.SetGrowth.{SetHolds-grows}
 use Rattle.zst_objset.proofs.SpillLaws.{stops}
 use Rattle.zst_objset.proofs.TightLaws.{tight_grows}
 use Rattle.zst_objset.proofs.TreeFits.{with_tree}
+use Rattle.zst_objset.proofs.TreesWithin.{sums_before, trees_changed}
 use Rattle.zst_objset.proofs.WriteLaws.{whole_block}
 use Rattle.zst_objset.proofs.SetChangeLaws.{refused}
 use Rattle.zst_objset.proofs.block_writes.write_blocks.Goals as goal
@@ -33,6 +35,7 @@ returns-in-Err g c = record {
       (λ honest.
       object_told _ _ NamesNode c.args.set.now {T = Unit {0}} (Err c.in-Err.fault) (set_spared _ _ _ c.args.set.now Dnode (Unit {0}) c.in-Err.fault (c.in-Err.ensures.damaged honest)))
       (Works-looks c.in-Err.ensures.looks.looks);
+  trees = λ honest. tt;
 }
 
 pub returns-then-dnode-size : goal.returns-then-dnode-size
@@ -41,6 +44,7 @@ returns-then-dnode-size g c = record {
       let differs : c.args.size ≢ c.in-Ok.dnode.block_size = omega (arith, c.if-dnode-size.true) in
       blocks_differ (blocks_of c.object_there.new.io) c.args.number c.args.object c.args.size c.args.count c.args.index c.args.bytes.now state c.in-Ok.dnode (c.in-Ok.ensures.found state honest holds) holds.lawful differs c.requires.some c.requires.run.long_is)
       tt tt (λ honest. tt) (Works-looks c.in-Ok.ensures.looks.looks);
+  trees = λ honest. tt;
 }
 
 pub returns-in-Err-outcome : goal.returns-in-Err-outcome
@@ -59,6 +63,7 @@ returns-in-Err-outcome g c = record {
       (told_before (λ space seen. NamesNode) c.in-Ok.dnode.levels c.in-Ok.dnode.root c.in-Ok.ensures.looks.looks _
       (rw c.tree_of.ensures at (c.in-Err-outcome.ensures.damaged honest))))
       (Works-after c.in-Ok.ensures.looks.looks (Works-more (omega arith) c.in-Err-outcome.ensures.works));
+  trees = λ honest. tt;
 }
 
 pub returns : goal.returns
@@ -106,6 +111,17 @@ returns g c = record {
         (c.put_there.ensures.tight state ends.now honest grown ends.puts (ends.tight dated was early) (ends.rises dated));
     levels = c.put_there.ensures.puts.levels;
   };
+  trees = λ honest.
+      let puts = c.put_there.ensures.puts in
+      let wrote = c.in-Ok-outcome.ensures in
+      let looked = c.in-Ok.ensures.looks.looks in
+      let was_put = puts.keeps.works.fills.honest honest in
+      let made = c.with_tree.ensures.made in
+      trees_changed _ _ _ _ _ _ (Works-after looked wrote.works).fills puts.keeps.works.fills c.args.set.now c.put_there.new.set c.put_there.result
+      c.in-Ok.dnode c.with_tree.result c.in-Ok-outcome.tree.levels c.in-Ok-outcome.tree.root (ap (λ (d : Dnode). d.levels) made) (ap (λ (d : Dnode). d.root) made)
+      (c.in-Ok.ensures.stands (wrote.works.fills.honest was_put))
+      (sums_before _ _ _ _ (fills_looks looked) c.in-Ok.dnode.levels c.in-Ok.dnode.root _ c.in-Ok-outcome.tree.levels c.in-Ok-outcome.tree.root (rw c.tree_of.ensures at (wrote.trees was_put)))
+      (puts.within honest) (puts.stands honest);
 }
 
 pub put_blocks-outcome-requires-clause-block : goal.put_blocks-outcome-requires-clause-block
