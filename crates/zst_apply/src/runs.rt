@@ -1,11 +1,12 @@
 //! WRITE records of neighbouring blocks of an object, applied at once.
-ghost use Rattle.std.specs.Prelude.{◌≡◌, ◌+◌, ◌*◌, ◌/◌, ◌^◌, ◌<◌, ℕ, List, Some, length, true, false};
+ghost use Rattle.std.specs.Prelude.{◌≡◌, ◌+◌, ◌*◌, ◌/◌, ◌^◌, ◌<◌, ℕ, List, OnOk, Some, length, true, false};
 ghost use Rattle.zst_block.specs.IoStates.{IsHonest, IsSparedBy, blocks_of, disk_of, io_of};
 ghost use Rattle.zst_model.specs.pools.Soundness.{DatedUpTo};
 ghost use Rattle.zst_model.specs.states.DatedState.{DatedState};
 ghost use Rattle.zst_model.specs.states.State.{Object, is_block_size, is_odd_size};
 ghost use Rattle.zst_tree.specs.Sets.{SetFits};
 ghost use Rattle.zst_objset.specs.BlockRuns.{IsBlockRun};
+ghost use Rattle.zst_objset.specs.Damage.{AreTreesWithin};
 ghost use Rattle.zst_objset.specs.SetChanges.{KeepsSet};
 ghost use Rattle.zst_objset.specs.Sets.{SetHolds};
 ghost use Rattle.zst_objset.specs.TightSets.{SetIsTight};
@@ -43,6 +44,7 @@ pub fn write_run<D: Disk>(
         → Applies 0 (SetIsTight (blocks_of io.new) set.new) (run_received number object size (index * size) records bytes.now state) result }
     ensures keeps { KeepsSet LimitOfIndex (apply_damage (IsSparedBy io.old) (disk_of io.old).size set.old) (count * (size / 512) + 464) (size / 512)
         (io_of io.old) (io_of io.new) set.old set.new result }
+    ensures trees { IsHonest io.new → OnOk result (AreTreesWithin (IsSparedBy io.old) (disk_of io.old).size set.old (IsSparedBy io.new) set.new) }
     ensures levels { SetFits set.old → SetFits set.new }
 {
     applied_is_state();

@@ -28,6 +28,9 @@ returns-clause-keeps g c =
     let result = c.write_blocks.result in
     keeps_by result (no_limit result) (names_told _ _ c.args.set.now result) c.write_blocks.ensures.changes.set.keeps
 
+pub returns-clause-trees : goal.returns-clause-trees
+returns-clause-trees g c = c.write_blocks.ensures.trees
+
 pub returns-clause-levels : goal.returns-clause-levels
 returns-clause-levels g c =
     let wrote = c.write_blocks.ensures.changes in
