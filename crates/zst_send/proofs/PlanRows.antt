@@ -20,10 +20,7 @@ use Rattle.zst_objset.specs.TightSets.{SetIsTightIn}
 use Rattle.zst_plan.specs.Plans.{IsPlanOf}
 use Rattle.zst_plan.specs.declared.plan.SendPlan.{SendPlan}
 use Rattle.zst_plan.proofs.AlikeAnswers.{at_names}
-use Rattle.zst_block.specs.declared.fault.BlockFault.{BlockFault}
-use Rattle.zst_block.specs.declared.fault.BlockFault.TheVariants as blocks
 use Rattle.zst_pool.specs.Damage.{IsOf}
-use Rattle.zst_pool.specs.Faults.{of_block}
 use Rattle.zst_pool.specs.Lists.{IsUnread}
 use Rattle.zst_pool.specs.declared.fault.PoolFault.{PoolFault}
 use Rattle.zst_pool.specs.declared.fault.PoolFault.TheVariants.{Plan, CannotApply, Redacted, Full, Damaged, DiskFault, Failed, OutOfMemory}
@@ -47,12 +44,6 @@ set_at rows passes place row stands here =
     let at = position-Some passes rows.snapshots place row stands in
     ap (λ (o : Option Snapshot). option_map (λ (snapshot : Snapshot). snapshot.objects) o) (found_at passes row rows.snapshots place at.0 at.1 at.2)
     ∙ ap (λ (r : Snapshot). Some r.objects) (sym here)
-
--- a block's fault is no plan's
-pub never_planned : (block : BlockFault) (fault : PlanFault) → of_block block ≡ Plan fault → ⊥
-never_planned (blocks.Full need largest) fault is = absurd (cc is)
-never_planned (blocks.Damaged sector stated found) fault is = absurd (cc is)
-never_planned blocks.DiskFault fault is = absurd (cc is)
 
 -- what is asked, by its parts
 abbrev choice : Option ℕ → Pairs → Pairs → Choice

@@ -1,5 +1,6 @@
-use Rattle.std.proofs.Common.{Bool, ◌||◌, ◌∙◌, Err, false, length, ap, refl}
+use Rattle.std.proofs.Common.{Bool, ◌||◌, ◌∙◌, Err, false, length, ap, refl, subst}
 use Rattle.std.proofs.lemmas.Bool.{ltb-true}
+use Rattle.zst_send.specs.Takes.{IsReadFault}
 use Rattle.zst_run.proofs.LaterDisks.{later_looked}
 use Rattle.zst_run.proofs.SendLemmas.{hands_end, passed, piece_ends, take_failed}
 use Rattle.zst_run.proofs.send.pass_piece.Goals as goal
@@ -37,7 +38,7 @@ returns-in-Err-clause-why g c =
     let hands = rw (c.from.ensures) at c.hand_on.ensures in
     let e = c.in-Err.ensures in
     hands_end c.args.pool.now c.take.new.pool c.args.send.now c.in-Err.fault _ _ c.hand_on.result hands e.pool.looks (λ is. e.pool.open_still c.requires.gives.works (ap (λ f. Err f) is))
-    (λ plan is. e.pool.unplanned plan (ap (λ f. Err f) is)) e.damaged
+    (λ plan is. subst IsReadFault is e.pool.known) e.damaged
 
 pub returns-in-Err-clause-leaves : goal.returns-in-Err-clause-leaves
 returns-in-Err-clause-leaves g c =

@@ -26,8 +26,8 @@ use Rattle.zst_send.specs.Records.{AreLeft, HasPut, touched}
 use Rattle.zst_send.proofs.ItemCosts.{take_pays, take_puts}
 use Rattle.zst_send.specs.Damage.{IsDamagedSend}
 use Rattle.zst_send.specs.KnownPointers.{IsAmong}
-use Rattle.zst_send.proofs.PlanRows.{never_planned}
-use Rattle.zst_pool.specs.declared.fault.PoolFault.TheVariants.{Plan, Failed}
+use Rattle.zst_send.specs.Takes.{IsReadFault}
+use Rattle.zst_pool.specs.declared.fault.PoolFault.TheVariants.{Failed}
 use Rattle.zst_pool.specs.Queries.{stop_of}
 use Rattle.std.specs.Prelude.{Err, Ok}
 use Rattle.std.proofs.lemmas.Bool.{true≢false}
@@ -100,11 +100,17 @@ never_failed (blocks.Full need largest) is = absurd (cc is)
 never_failed (blocks.Damaged sector stated found) is = absurd (cc is)
 never_failed blocks.DiskFault is = absurd (cc is)
 
+-- a call that takes no room is refused as a read is
+read_refused : (fault : BlockFault) → ((need largest : ℕ) → ¬ (Some fault ≡ Some (blocks.Full need largest))) → IsReadFault (of_block fault)
+read_refused (blocks.Full need largest) never = absurd (never need largest refl)
+read_refused (blocks.Damaged sector stated found) never = tt
+read_refused blocks.DiskFault never = tt
+
 pub returns-then-pool-clause-pool : goal.returns-then-pool-clause-pool
 returns-then-pool-clause-pool g c = record {
   failed_pool = λ is. refl;
   open_still = λ still is. true≢false (sym c.if-pool.true ∙ still);
-  unplanned = λ fault is. absurd (cc);
+  known = tt;
   looks = Looks-none _;
   kept = refl;
 }
@@ -116,7 +122,7 @@ returns-in_err-count-clause-pool g c =
     rw (p.1, p.2) (record {
       failed_pool = λ failed. absurd (true≢false (sym failed ∙ c.if-pool.false));
       open_still = λ still is. let same : of_block fault ≡ Failed = cc is in never_failed fault same;
-      unplanned = λ plan is. let same : of_block fault ≡ Plan plan = cc is in never_planned fault plan same;
+      known = read_refused fault c.in_err-count.ensures.reads.looks.never_full;
       looks = subst (λ (stop : Option BlockFault). Looks (io_of c.args.pool.now.io) (io_of c.fill.new.io) stop) (block_stops fault) c.in_err-count.ensures.reads.looks;
       kept = refl;
     })
@@ -125,7 +131,7 @@ pub returns-clause-pool : goal.returns-clause-pool
 returns-clause-pool g c = record {
   failed_pool = λ failed. absurd (true≢false (sym failed ∙ c.if-pool.false));
   open_still = λ still is. absurd (cc);
-  unplanned = λ fault is. absurd (cc);
+  known = tt;
   looks = c.in_ok-count.ensures.reads.looks;
   kept = refl;
 }
