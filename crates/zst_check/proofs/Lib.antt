@@ -25,3 +25,5 @@ mod OwnSnapshots
 mod RedactionSets
 mod CheckedLists
 mod ListDamage
+mod ReportNames
+mod DamagedPools

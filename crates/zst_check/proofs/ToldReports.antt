@@ -8,8 +8,6 @@ use Rattle.zst_block.specs.declared.fault.BlockFault.{BlockFault}
 use Rattle.zst_block.specs.declared.fault.BlockFault.TheVariants as blocks
 use Rattle.zst_block.specs.declared.io.Io.{Io}
 use Rattle.zst_dir.specs.Rows.{Rows}
-use Rattle.zst_extents.specs.StoredExtents.{extent_bytes}
-use Rattle.zst_dir.specs.Spelling.{dir_bytes}
 use Rattle.zst_image.specs.Bodies.{free_by}
 use Rattle.zst_image.specs.Commits.{Ready}
 use Rattle.zst_image.specs.Reads.{HasDir, RunsBy}

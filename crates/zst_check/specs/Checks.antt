@@ -9,6 +9,7 @@ use Rattle.zst_laws.specs.RedactionLists.{AreListed}
 use Rattle.zst_pool.specs.declared.fault.PoolFault.{PoolFault}
 use Rattle.zst_pool.specs.declared.fault.PoolFault.TheVariants as faults
 use Rattle.zst_uber.specs.declared.uber.Uber.{Uber}
+use Rattle.zst_count.specs.CountedRows.{AreAllRead}
 use Rattle.zst_count.specs.FirstSectors.{CountsBlocks}
 use Rattle.zst_check.specs.Reports.{IsUnsoundAt}
 use Rattle.zst_check.specs.declared.report.Report.{Report}
@@ -25,6 +26,12 @@ TellsReport image uber rows pool (Ok report) = IsReportBy image uber rows pool r
 TellsReport image uber rows pool (Err faults.OutOfMemory) = Unit {0}
 TellsReport image uber rows pool (Err faults.DiskFault) = Unit {0}
 TellsReport image uber rows pool (Err fault) = ⊥
+
+-- What holds of any image where its pool is told to be sound with so many blocks: each block that the body with this directory reaches was read, with the sums of
+-- its pointer; and they are so many, by their first sectors.
+pub record IsSoundOn (image : List ℕ) (uber : Uber) (rows : Rows) (blocks : ℕ) : Type 0 where
+  pub read : AreAllRead image uber rows
+  pub counts : CountsBlocks (IsBlock image) uber rows blocks
 
 -- the line of a report
 abbrev pub report_line : Report → List ℕ

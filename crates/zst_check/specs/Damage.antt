@@ -2,6 +2,7 @@
 use Rattle.std.specs.Prelude.{◌⊎◌, ℕ, ◌<◌, List, Err}
 use Rattle.zst_block.specs.declared.fault.BlockFault.TheVariants.{Damaged}
 use Rattle.zst_compare.specs.Damage.{IsDamagedIn, OfEither}
+use Rattle.zst_count.specs.CountedRows.{IsDamagedReached}
 use Rattle.zst_dir.specs.Rows.{Rows}
 use Rattle.zst_dir.specs.declared.rows.Bookmark.{Bookmark}
 use Rattle.zst_dir.specs.declared.rows.Dataset.{Dataset}
@@ -15,6 +16,7 @@ use Rattle.zst_traverse.specs.Damage.{IsDamagedCell}
 use Rattle.zst_tree.specs.Damage.{IsSeen}
 use Rattle.zst_tree.specs.declared.or_memory.OrMemory.TheVariants.{Fault}
 use Rattle.zst_tree.specs.declared.tree.ObjSet.{ObjSet}
+use Rattle.zst_uber.specs.declared.uber.Uber.{Uber}
 
 module _ (images : List ℕ → Type 0) (size : ℕ) where
   -- of a state's set: what a comparison tells of it, or a walk by its dates, to which a node is damaged that doesn't sum up what stands below it
@@ -44,3 +46,7 @@ IsDamagedList end image size row sector stated found = (0 < row.runs) × TellsLi
 -- of all that a check looks at: that of the states of the directory, or of the list of one of its bookmarks
 abbrev pub IsDamagedInChecked : ℕ → List ℕ → ℕ → Rows → DamageFact
 IsDamagedInChecked end image size rows = OfEither (IsDamagedInStates (IsSeen image) size rows) (IsToldOfSome rows.bookmarks (IsDamagedList end image size))
+
+-- of a pool by a body and these rows: of what the search for a part that fails looks at, or of what the count of blocks reads
+abbrev pub IsDamagedPool : List ℕ → ℕ → Uber → Rows → DamageFact
+IsDamagedPool image size uber rows = OfEither (IsDamagedInChecked uber.end image size rows) (IsDamagedReached (IsSeen image) size uber rows)

@@ -1,4 +1,5 @@
 pub mod FailingPlaces
+pub mod ReportNames
 pub mod Reports
 pub mod NumbersInTurn
 pub mod NumberedPlaces

@@ -9,6 +9,7 @@ ghost use Rattle.zst_model.specs.pools.Soundness.{IsBookmarkOf};
 ghost use Rattle.zst_names.specs.Names.{dataset_of};
 ghost use Rattle.zst_check.specs.FailingPlaces.{BadBookmark};
 ghost use Rattle.zst_check.specs.Findings.{Finds};
+ghost use Rattle.zst_check.specs.ReportNames.{FindsNamed};
 ghost use Rattle.zst_check.specs.Reports.{AreBookmarks};
 ghost use Rattle.zst_check.specs.RowTests.{has_its_guid};
 ghost use Rattle.zst_check.specs.declared.report.Report.TheVariants.{Unsound};
@@ -65,6 +66,7 @@ fn told(row: &Bookmark) -> Report
 /// The first bookmark that isn't so.
 pub(crate) fn misplaced_bookmark(dir: &Dir, number: u64) -> Option<Report>
     ensures found { (pool : Pool) → AreNamed dir.now pool → pool.number ≡ number → Finds (AreBookmarks pool) (BadBookmark pool) result }
+    ensures named { FindsNamed dir.now result }
 {
     for row in dir.bookmarks() {
         if !is_placed(dir, row, number) {

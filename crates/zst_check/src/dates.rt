@@ -1,5 +1,5 @@
 // Part 2 of soundness, of dates.
-ghost use Rattle.std.specs.Prelude.{◌≡◌, ◌<◌, ◌≤◌, ℕ, All, [], true, Some, None};
+ghost use Rattle.std.specs.Prelude.{◌≡◌, ◌<◌, ◌≤◌, ℕ, All, IfOk, [], true, Some, None};
 ghost use Rattle.zst_block.specs.IoCalls.{Looks, stop_of};
 ghost use Rattle.zst_block.specs.IoStates.{IsHonest, blocks_of, disk_of, io_of};
 ghost use Rattle.zst_image.specs.Reads.{RunsBy};
@@ -19,6 +19,7 @@ ghost use Rattle.zst_tree.specs.declared.tree.ObjSet.{ObjSet};
 ghost use Rattle.zst_check.specs.Damage.{IsDamagedInStates};
 ghost use Rattle.zst_check.specs.FailingPlaces.{LateDate};
 ghost use Rattle.zst_check.specs.Findings.{Finds, FindsLate};
+ghost use Rattle.zst_check.specs.ReportNames.{FindsNamed};
 
 use crate::names::alone;
 use crate::report::Report;
@@ -103,6 +104,7 @@ pub(crate) fn late_state<D: Disk>(
 ) -> Result<Option<Report>, BlockFault>
     ensures found { (pool : Pool) → IsHonest io.new → RunsBy None (blocks_of io.old) dir.now pool → pool.number ≡ number
         → Delivers (Finds (All (λ row. DatedUpTo row.number row.objects) (rows pool)) (LateDate pool)) result }
+    ensures named { IfOk result (FindsNamed dir.now) }
     ensures damaged { IsHonest io.new → IfDamaged result (IsDamagedInStates (IsSeen (disk_of io.old).seen) (disk_of io.old).size dir.now) }
     ensures looks { Looks (io_of io.old) (io_of io.new) (stop_of result) }
 {

@@ -1,5 +1,5 @@
 // Part 1 of soundness: each state is compared with the nearest snapshots before it.
-ghost use Rattle.std.specs.Prelude.{None};
+ghost use Rattle.std.specs.Prelude.{IfOk, None};
 ghost use Rattle.zst_block.specs.IoCalls.{Looks, stop_of};
 ghost use Rattle.zst_block.specs.IoStates.{IsHonest, blocks_of, disk_of, io_of};
 ghost use Rattle.zst_image.specs.Reads.{RunsBy};
@@ -14,6 +14,7 @@ ghost use Rattle.zst_tree.specs.Indices.{Delivers};
 ghost use Rattle.zst_check.specs.Damage.{IsDamagedInStates};
 ghost use Rattle.zst_check.specs.FailingPlaces.{Differs};
 ghost use Rattle.zst_check.specs.Findings.{Finds, IsStateOf, StandsAtPlace, StandsFor};
+ghost use Rattle.zst_check.specs.ReportNames.{FindsNamed};
 
 use crate::nearest::nearest_of;
 use crate::report::Report;
@@ -34,6 +35,7 @@ fn differing_from<D: Disk>(
     ensures found { (pool : Pool) (row : Row) → IsHonest io.new → RunsBy None (blocks_of io.old) dir.now pool → StandsFor (blocks_of io.old) pool state.now row
         → ((earlier : plain.Snapshot) → StandsAtPlace pool.snapshots place earlier → IsNearest pool earlier row.place)
         → Delivers (Finds ((earlier : plain.Snapshot) → StandsAtPlace pool.snapshots place earlier → Agrees earlier row.objects) (Differs pool)) result }
+    ensures named { IsStateOf dir.now state.now → IfOk result (FindsNamed dir.now) }
     ensures damaged { IsHonest io.new → IsStateOf dir.now state.now
         → IfDamaged result (IsDamagedInStates (IsSeen (disk_of io.old).seen) (disk_of io.old).size dir.now) }
     ensures looks { Looks (io_of io.old) (io_of io.new) (stop_of result) }
@@ -62,6 +64,7 @@ pub(crate) fn differing_state<D: Disk>(
 ) -> Result<Option<Report>, BlockFault>
     ensures found { (pool : Pool) → IsHonest io.new → RunsBy None (blocks_of io.old) dir.now pool → IsPool pool → Dated pool
         → Delivers (Finds (AgreesWithNearest pool) (Differs pool)) result }
+    ensures named { IfOk result (FindsNamed dir.now) }
     ensures damaged { IsHonest io.new → IfDamaged result (IsDamagedInStates (IsSeen (disk_of io.old).seen) (disk_of io.old).size dir.now) }
     ensures looks { Looks (io_of io.old) (io_of io.new) (stop_of result) }
 {

@@ -1,5 +1,5 @@
 // Part 4 of soundness: the lists of redaction bookmarks.
-ghost use Rattle.std.specs.Prelude.{◌≡◌, ◌∷◌, Contains, None};
+ghost use Rattle.std.specs.Prelude.{◌≡◌, ◌∷◌, Contains, IfOk, None};
 ghost use Rattle.std.specs.List.{AllZip};
 ghost use Rattle.zst_block.specs.IoCalls.{Looks};
 ghost use Rattle.zst_block.specs.IoStates.{IsHonest, blocks_of, disk_of, io_of};
@@ -20,6 +20,7 @@ ghost use Rattle.zst_check.specs.Damage.{IsDamagedInChecked, IsDamagedList};
 ghost use Rattle.zst_check.specs.FailingPlaces.{ListDiffers};
 ghost use Rattle.zst_check.specs.Findings.{Finds};
 ghost use Rattle.zst_check.specs.Redactions.{DiffersFrom, IsListed, Redactions};
+ghost use Rattle.zst_check.specs.ReportNames.{FindsNamed};
 
 use crate::list_pairs::differing_pair;
 use crate::redactions::{own_of, redaction_sets};
@@ -45,6 +46,7 @@ fn differing_from<D: Disk>(
     ensures found { (bookmark : plain.Bookmark) (snapshot : plain.Snapshot) (redactions : Redactions) → IsHonest io.new → BookmarkIs (blocks_of io.old) row.now bookmark
         → SnapshotIs None (blocks_of io.old) own.now snapshot → AllZip (SetHolds (blocks_of io.old)) sets.now (objects_of redactions)
         → GivesOrTells (Finds (Lists bookmark snapshot redactions) (DiffersFrom bookmark snapshot redactions)) IsNoDamage result }
+    ensures named { IfOk result (Finds (Unit {0}) (λ earlier later object block. (row.now.name ≡ earlier) × (own.now.name ≡ later))) }
     ensures damaged { IsHonest io.new → IfFault result (λ fault. IfDamage fault (OfEither
         (IsDamagedAmong (IsSeen (disk_of io.old).seen) (disk_of io.old).size (own.now.objects ∷ sets.now))
         (IsDamagedList io.old.space.end (disk_of io.old).seen (disk_of io.old).size row.now))) }
@@ -73,6 +75,7 @@ fn differing_row<D: Disk>(
 ) -> Result<Option<Report>, OrMemory<BlockFault>>
     ensures found { (pool : Pool) (bookmark : plain.Bookmark) → IsHonest io.new → RunsBy None (blocks_of io.old) dir.now pool → IsPool pool → Sound pool → Contains pool.bookmarks bookmark
         → BookmarkIs (blocks_of io.old) row.now bookmark → GivesOrTells (Finds (IsListed pool bookmark) (ListDiffers pool)) IsNoDamage result }
+    ensures named { Contains dir.now.bookmarks row.now → IfOk result (FindsNamed dir.now) }
     ensures damaged { IsHonest io.new → Contains dir.now.bookmarks row.now
         → IfFault result (λ fault. IfDamage fault (IsDamagedInChecked io.old.space.end (disk_of io.old).seen (disk_of io.old).size dir.now)) }
     ensures looks { Looks (io_of io.old) (io_of io.new) (fault_of result) }
@@ -98,6 +101,7 @@ pub(crate) fn differing_list<D: Disk>(
 ) -> Result<Option<Report>, OrMemory<BlockFault>>
     ensures found { (pool : Pool) → IsHonest io.new → RunsBy None (blocks_of io.old) dir.now pool → IsPool pool → Sound pool
         → GivesOrTells (Finds (AreListed pool) (ListDiffers pool)) IsNoDamage result }
+    ensures named { IfOk result (FindsNamed dir.now) }
     ensures damaged { IsHonest io.new → IfFault result (λ fault. IfDamage fault (IsDamagedInChecked io.old.space.end (disk_of io.old).seen (disk_of io.old).size dir.now)) }
     ensures looks { Looks (io_of io.old) (io_of io.new) (fault_of result) }
 {

@@ -6,6 +6,7 @@ ghost use Rattle.zst_check.specs.FailingPlaces.{IsMisnumbered, LateSnapshot};
 ghost use Rattle.zst_check.specs.Findings.{Finds};
 ghost use Rattle.zst_check.specs.NumberedPlaces.{IsNumberedAt};
 ghost use Rattle.zst_check.specs.NumbersInTurn.{AreNumberedInTurn};
+ghost use Rattle.zst_check.specs.ReportNames.{FindsNamed};
 ghost use Rattle.zst_check.specs.declared.report.Report.TheVariants.{Unsound};
 
 use crate::names::alone;
@@ -38,6 +39,7 @@ fn told(row: &Snapshot) -> Report
 /// The first snapshot that isn't numbered so.
 pub(crate) fn misnumbered_snapshot(dir: &Dir, number: u64) -> Option<Report>
     ensures found { (pool : Pool) → AreNamed dir.now pool → pool.number ≡ number → Finds (AreNumberedInTurn pool) (LateSnapshot pool) result }
+    ensures named { FindsNamed dir.now result }
 {
     let rows = dir.snapshots();
     for place in 0..rows.len() {

@@ -1,5 +1,5 @@
 // The four parts of soundness, in the order in which a check decides them.
-ghost use Rattle.std.specs.Prelude.{◌≡◌, None};
+ghost use Rattle.std.specs.Prelude.{◌≡◌, IfOk, None};
 ghost use Rattle.zst_block.specs.IoCalls.{Looks, stop_of};
 ghost use Rattle.zst_block.specs.IoStates.{IsHonest, blocks_of, disk_of, io_of};
 ghost use Rattle.zst_image.specs.Reads.{RunsBy};
@@ -11,6 +11,7 @@ ghost use Rattle.zst_tree.specs.Faults.{GivesOrTells, IfFault, fault_of};
 ghost use Rattle.zst_tree.specs.Indices.{Delivers, IsNoDamage};
 ghost use Rattle.zst_check.specs.Damage.{IsDamagedInChecked, IsDamagedInStates};
 ghost use Rattle.zst_check.specs.Findings.{FindsLatePlace, FindsUnsound};
+ghost use Rattle.zst_check.specs.ReportNames.{FindsNamed};
 
 use crate::bookmarks::misplaced_bookmark;
 use crate::dates::late_state;
@@ -32,6 +33,7 @@ fn late_place<D: Disk>(
     number: u64,
 ) -> Result<Option<Report>, BlockFault>
     ensures found { (pool : Pool) → IsHonest io.new → RunsBy None (blocks_of io.old) dir.now pool → IsPool pool → pool.number ≡ number → Delivers (FindsLatePlace pool) result }
+    ensures named { IfOk result (FindsNamed dir.now) }
     ensures damaged { IsHonest io.new → IfDamaged result (IsDamagedInStates (IsSeen (disk_of io.old).seen) (disk_of io.old).size dir.now) }
     ensures looks { Looks (io_of io.old) (io_of io.new) (stop_of result) }
 {
@@ -55,7 +57,9 @@ pub fn find_unsound<D: Disk>(
     // Where the rows stand for a lawful pool with this number, what is found is so of it, and no damage is told.
     ensures found { (pool : Pool) → IsHonest io.new → RunsBy None (blocks_of io.old) dir.now pool → IsPool pool → pool.number ≡ number
         → GivesOrTells (FindsUnsound pool) IsNoDamage result }
-    // Whatever the image is, what is told as damaged is a block that the rows reach: one of a state's set, or of a bookmark's list.
+    // Whatever the image is, what is found has names of the rows, and what is told as damaged is a block that they reach: one of a
+    // state's set, or of a bookmark's list.
+    ensures named { IfOk result (FindsNamed dir.now) }
     ensures damaged { IsHonest io.new → IfFault result (λ fault. IfDamage fault (IsDamagedInChecked io.old.space.end (disk_of io.old).seen (disk_of io.old).size dir.now)) }
     // It only reads.
     ensures looks { Looks (io_of io.old) (io_of io.new) (fault_of result) }

@@ -1,9 +1,11 @@
 -- What the line `check` tells of a pool.
-use Rattle.std.specs.Prelude.{ℕ, ◌≡◌, ◌≢◌, ◌≤◌, IfErr, IfOk, [], ◌∷◌, false, Result, Ok, Err}
+use Rattle.std.specs.Prelude.{ℕ, ◌≡◌, ◌≢◌, ◌≤◌, IfErr, IfOk, List, [], ◌∷◌, false, Result, Ok, Err}
 use Rattle.std.specs.Result.{result_map_both}
 use Rattle.zst_outside.specs.Images.{DiskState, OnlyReads}
 use Rattle.zst_outside.specs.States.{SinkState}
-use Rattle.zst_check.specs.Checks.{IsReportBy, report_line}
+use Rattle.zst_check.specs.Checks.{IsReportBy, IsSoundOn, report_line}
+use Rattle.zst_check.specs.Damage.{IsDamagedPool}
+use Rattle.zst_check.specs.ReportNames.{AreNamesIn}
 use Rattle.zst_check.specs.declared.report.Report.{Report}
 use Rattle.zst_check.specs.declared.report.Report.TheVariants.{Sound, Unsound}
 use Rattle.zst_dir.specs.Rows.{Rows}
@@ -31,12 +33,21 @@ AnswersReport here body rows pool (Err refusal) = ⊥
 abbrev pub OfCheck : Refusal → Type 0
 OfCheck refusal = OfStepping refusal × ((need largest : ℕ) → refusal ≢ refusals.Full need largest)
 
+-- A check of the pool that was opened by this body and these rows, whether or not the image reads as a pool: sound comes only where each block that they reach was read with
+-- the right sums, with their count; what fails is told with names of the rows; and E25 tells a block that was looked at.
+pub record CheckRan (here : DiskState) (answer : Result Report Refusal) (body : Body) (rows : Rows) : Type 0 where
+  pub opens : Opens here body rows
+  pub sound : (blocks : ℕ) → answer ≡ Ok (Sound blocks) → IsSoundOn here.seen body.uber (kept_rows rows) blocks
+  pub named : (earlier later : List ℕ) (object block : ℕ) → answer ≡ Ok (Unsound earlier later object block) → AreNamesIn (kept_rows rows) earlier later
+  pub damaged : (sector : ℕ) (stated found : List ℕ) → answer ≡ Err (refusals.Damaged sector stated found)
+      → IsDamagedPool here.seen here.size body.uber (kept_rows rows) sector stated found
+
 -- The report on the pool of an image, whatever the image is. The image is only read. E26 comes where there is no latest body, E27 where it has another version, E25 where
--- it, its free extents or its directory isn't of the layout, or where a block is damaged of a pool that was opened; a report comes where all of them are.
+-- it, its free extents or its directory isn't of the layout; any other answer, and E25 too, is one of a check of the pool that was opened, but for E28 and E32 of opening it.
 pub record TellsReportOn (here here' : DiskState) (answer : Result Report Refusal) : Type 0 where
   pub reads : OnlyReads here here'
   pub answers : (body : Body) (rows : Rows) (pool : Pool) → here'.honest → ReadsAs false body rows pool here.seen → AnswersReport here body rows pool answer
-  pub opened : here'.honest → SaysOfOpening (OnlyReads here here') here (Opens here) answer
+  pub opened : here'.honest → SaysOfOpening (OnlyReads here here') here (CheckRan here answer) answer
   pub refused : IfErr answer (IsPoolRefusal OfCheck here here')
   pub later : here.faults ≤ here'.faults
 

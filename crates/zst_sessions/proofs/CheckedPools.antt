@@ -1,11 +1,13 @@
 -- What a check of a pool makes of a world, and of what the engine keeps: its disk is only read, and what is told is a report of it.
 use Rattle.std.proofs.Common.{◌≡◌, ◌||◌, inl, inr, ℕ, Bool, true, false, List, Result, Ok, Err, refl, sym, ap, ◌∙◌, subst}
-use Rattle.std.specs.Prelude.{IfOk}
+use Rattle.std.specs.Prelude.{IfErr}
 use Rattle.zst_outside.specs.Images.{Leaves, Leaves-none}
 use Rattle.zst_outside.specs.declared.disk.Disk.{Ghosts}
 use Rattle.zst_block.specs.IoCalls.{fails}
 use Rattle.zst_block.specs.IoStates.{disk_of}
-use Rattle.zst_check.specs.Checks.{IsReportBy, TellsReport}
+use Rattle.zst_check.specs.Checks.{IsReportBy, IsSoundOn, TellsReport}
+use Rattle.zst_check.specs.Damage.{IsDamagedPool}
+use Rattle.zst_check.specs.ReportNames.{AreNamesIn}
 use Rattle.zst_check.specs.Reports.{IsReportOf}
 use Rattle.zst_check.specs.declared.report.Report.{Report}
 use Rattle.zst_check.specs.declared.report.Report.TheVariants.{Sound, Unsound}
@@ -14,6 +16,7 @@ use Rattle.zst_uber.specs.declared.uber.Uber.{Uber}
 use Rattle.zst_model.specs.declared.refusals.refusal.Refusal.TheVariants as refusals
 use Rattle.zst_model.specs.pools.Pool.{Pool as Plain}
 use Rattle.zst_pool.specs.Calls.{IsAtRest}
+use Rattle.zst_pool.specs.Damage.{IsOf}
 use Rattle.zst_pool.specs.Events.{OnlyAnswers, Settles}
 use Rattle.zst_pool.specs.Faults.{is_disk_fault, pool_refusal}
 use Rattle.zst_pool.specs.Queries.{stop_of}
@@ -24,11 +27,12 @@ use Rattle.zst_script.specs.declared.event.Event.TheVariants as events
 use Rattle.zst_script.specs.declared.event.Side.{Side}
 use Rattle.zst_sessions.proofs.LookedPools.{Looked, LookedAt, StepsTo, fits_still, honest_on, mark_on, open_on, rest_on, same_lists}
 use Rattle.zst_sessions.proofs.OpenedSends.{both_stay}
-use Rattle.zst_sessions.proofs.PoolRefusals.{fault_of_disk, fault_of_failed}
+use Rattle.zst_sessions.proofs.PoolRefusals.{fault_of_damage, fault_of_disk, fault_of_failed}
 use Rattle.zst_sessions.proofs.ReadEvents.{loses, stays}
 use Rattle.zst_sessions.proofs.SparedBlocks.{read_spares}
+use Rattle.zst_sessions.specs.CheckReports.{TellsCheck}
 use Rattle.zst_sessions.specs.CommandSteps.{report_told}
-use Rattle.zst_sessions.specs.EngineSteps.{EngineFits, StandsFor, StepsEngine, TellsCheck, kept_pool}
+use Rattle.zst_sessions.specs.EngineSteps.{EngineFits, StandsFor, StepsEngine, kept_pool}
 use Rattle.zst_sessions.specs.Engines.{Kept}
 use Rattle.zst_sessions.specs.EventReplies.{answer_of}
 use Rattle.zst_sessions.specs.Lawfulness.{MovesKeepWorlds}
@@ -50,6 +54,12 @@ count_of (Unsound earlier later object block) = 0
 report_of : (image : List ℕ) (uber : Uber) (rows : Rows) (pool : Plain) (report : Report) → IsReportBy image uber rows pool report → IsReportOf pool (count_of report) report
 report_of image uber rows pool (Sound blocks) is = (refl, is.1, is.2)
 report_of image uber rows pool (Unsound earlier later object block) is = is
+
+-- what is told of a pool that is kept so, whatever its image is
+pub record SaysOfAny (kept : Kept) (honest : Type 0) (answer : Result Report PoolFault) : Type 0 where
+  pub sound : (blocks : ℕ) → honest → answer ≡ Ok (Sound blocks) → IsSoundOn kept.disk.seen kept.state.body.uber kept.state.dir blocks
+  pub named : (earlier later : List ℕ) (object block : ℕ) → answer ≡ Ok (Unsound earlier later object block) → AreNamesIn kept.state.dir earlier later
+  pub damaged : honest → IfErr answer (IsOf (IsDamagedPool kept.disk.seen kept.disk.size kept.state.body.uber kept.state.dir))
 
 -- ---- answers
 
@@ -152,17 +162,29 @@ module _ {D E : Type 0} {g : Ghosts D} {h : Ghosts E} (side : Side) (old new : E
         (AsDefined (inl (sym (mark_on side old world stands) ∙ fell, refl)) (check_stays old.now side world)))
     check_world false works tells = by_report told works (look.own ∙ ap (λ (b : Bool). b || fails (stop_of told)) works) (tells works)
 
-  -- a report that is told is the event's
-  told_check : (running : Plain) (answer : Result Report PoolFault) → Tells running answer
-      → IfOk (report_told answer) (λ reply. (report : Report) × (reply ≡ Checked report) × IsReportBy kept.disk.seen kept.state.body.uber kept.state.dir running report)
-  told_check running (Ok report) is = (report, refl, is)
-  told_check running (Err fault) is = tt
+  -- what is told is the event's, whatever the image is
+  told_check : (running : Plain) (answer : Result Report PoolFault) → (kept_on side new).disk.honest → (kept.failed ≡ false → IsAtRest true kept.disk kept.state running → Tells running answer)
+      → SaysOfAny kept (kept_on side new).disk.honest answer → TellsCheck kept running (report_told answer)
+  told_check running (Ok report) honest tells says = record {
+    told = λ works rest. (report, refl, tells works rest);
+    sound = λ blocks is. let which : report ≡ Sound blocks = cc is in says.sound blocks honest (ap (λ (r : Report). Ok r) which);
+    named = λ earlier later object block is. let which : report ≡ Unsound earlier later object block = cc is in says.named earlier later object block (ap (λ (r : Report). Ok r) which);
+    damaged = λ sector stated found is. absurd (cc is);
+  }
+  told_check running (Err fault) honest tells says = record {
+    told = λ works rest. tt;
+    sound = λ blocks is. absurd (cc is);
+    named = λ earlier later object block is. absurd (cc is);
+    damaged = λ sector stated found is.
+        let same : pool_refusal fault ≡ refusals.Damaged sector stated found = cc is in
+        says.damaged honest sector stated found (fault_of_damage fault sector stated found same);
+  }
 
   -- What a check of the pool on a side makes of a world, and of what the engine keeps.
   pub check_steps : EngineFits old
       → ((running : Plain) → (kept_on side new).disk.honest → kept.failed ≡ false → IsAtRest true kept.disk kept.state running → Tells running told)
-      → StepsEngine (events.Check side) old new (report_told told)
-  check_steps fits tells = record {
+      → SaysOfAny kept (kept_on side new).disk.honest told → StepsEngine (events.Check side) old new (report_told told)
+  check_steps fits tells says = record {
     steps = λ world honest also here there stands.
         same_lists (events.Check side) old new world (answer_of (report_told told)) old.sends.items new.sends.items old.receives.items new.receives.items look.sends look.receives
         (check_world world stands kept.failed refl (λ works. tells (at_side side world).pool (honest_on side new honest also) works (rest_on side old world stands works)));
@@ -174,7 +196,7 @@ module _ {D E : Type 0} {g : Ghosts D} {h : Ghosts E} (side : Side) (old new : E
     open_still = λ works also is. look.open_still (open_on side old works also) (failed_as told is);
     checks = λ of running is.
         let same : side ≡ of = cc is in
-        subst (λ (s : Side). (kept_on s new).disk.honest → TellsCheck (kept_on s old) running (report_told told)) same (λ honest works rest. told_check running told (tells running honest works rest));
+        subst (λ (s : Side). (kept_on s new).disk.honest → TellsCheck (kept_on s old) running (report_told told)) same (λ honest. told_check running told honest (tells running honest) says);
     works = λ alive. look.works (λ is. alive (ap report_told is));
     here_spares = λ no_reclaim. read_spares (kept_pool old.here) (kept_pool new.here) look.here;
     there_spares = λ no_reclaim. read_spares (kept_pool old.there) (kept_pool new.there) look.there;

@@ -1,5 +1,5 @@
 -- Which answer of a pool a refusal comes from.
-use Rattle.std.proofs.Common.{◌≡◌, Ok, Err, None, refl, ap}
+use Rattle.std.proofs.Common.{◌≡◌, ℕ, List, Ok, Err, None, refl, ap}
 use Rattle.std.specs.Prelude.{IfOk, Result}
 use Rattle.zst_model.proofs.PlanFaults.{plan_is, plan_of}
 use Rattle.zst_model.specs.declared.refusals.refusal.Refusal.{Refusal}
@@ -34,6 +34,17 @@ fault_of_failed (faults.Damaged sector stated found) is = absurd (cc)
 fault_of_failed faults.DiskFault is = absurd (cc)
 fault_of_failed faults.Failed is = refl
 fault_of_failed faults.OutOfMemory is = absurd (cc)
+
+-- and E25 where a block was damaged
+pub fault_of_damage : (fault : PoolFault) (sector : ℕ) (stated found : List ℕ) → pool_refusal fault ≡ refusals.Damaged sector stated found → fault ≡ faults.Damaged sector stated found
+fault_of_damage (faults.Plan plan) sector stated found is = absurd (let none : plan_of (refusal_of plan) ≡ None = ap plan_of is in cc (plan_is plan))
+fault_of_damage (faults.CannotApply fault) sector stated found is = absurd (cc)
+fault_of_damage (faults.Redacted object block) sector stated found is = absurd (cc)
+fault_of_damage (faults.Full need largest) sector stated found is = absurd (cc)
+fault_of_damage (faults.Damaged at said parts) sector stated found is = cc
+fault_of_damage faults.DiskFault sector stated found is = absurd (cc)
+fault_of_damage faults.Failed sector stated found is = absurd (cc)
+fault_of_damage faults.OutOfMemory sector stated found is = absurd (cc)
 
 -- so is the answer
 pub answer_of_disk : {T : Type 0} (result : Result T PoolFault) → refused result ≡ Err refusals.DiskFault → result ≡ Err faults.DiskFault

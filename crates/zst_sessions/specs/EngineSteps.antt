@@ -4,8 +4,6 @@ use Rattle.zst_outside.specs.Causes.{Rose}
 use Rattle.zst_outside.specs.declared.disk.Disk.{Ghosts}
 use Rattle.zst_block.specs.Blocks.{KeepsBlocks}
 use Rattle.zst_block.specs.IoStates.{disk_of}
-use Rattle.zst_check.specs.Checks.{IsReportBy}
-use Rattle.zst_check.specs.declared.report.Report.{Report}
 use Rattle.zst_dir.specs.RowNames.{Match}
 use Rattle.zst_dir.specs.Rows.{Rows, IsLawful, is_for}
 use Rattle.zst_image.specs.Commits.{HasItsExtents, Ready}
@@ -15,7 +13,6 @@ use Rattle.zst_model.specs.declared.refusals.refusal.Refusal.TheVariants as refu
 use Rattle.zst_model.specs.declared.pools.command.Command.TheVariants as commands
 use Rattle.zst_model.specs.pools.Pool.{Pool as Plain}
 use Rattle.zst_model.specs.pools.Sessions.{Held, Holds, Claims}
-use Rattle.zst_pool.specs.Calls.{IsAtRest}
 use Rattle.zst_pool.specs.Reclaims.{SparesReached}
 use Rattle.zst_pool.specs.declared.pool.Pool.{Pool}
 use Rattle.zst_recv.specs.GoingOn.{IsRow}
@@ -27,13 +24,13 @@ use Rattle.zst_script.specs.declared.event.Side.TheVariants.{Here, There}
 use Rattle.zst_roots.specs.declared.held.HeldBlocks.{HeldBlocks}
 use Rattle.zst_send.specs.HeldPointers.{held_of}
 use Rattle.zst_send.specs.Sends.{SendFits}
+use Rattle.zst_sessions.specs.CheckReports.{TellsCheck}
 use Rattle.zst_sessions.specs.Engines.{Kept, ReceiveStandsOn, SendStandsOn, Stands, Steps, kept_at}
 use Rattle.zst_sessions.specs.EventReplies.{answer_of}
 use Rattle.zst_sessions.specs.World.{OpenReceive, OpenSend, World, at_side, is_side}
 use Rattle.zst_sessions.specs.declared.engine.Engine.{Engine}
 use Rattle.zst_sessions.specs.declared.engine.Room.{Room}
 use Rattle.zst_sessions.specs.declared.event_reply.EventReply.{EventReply}
-use Rattle.zst_sessions.specs.declared.event_reply.EventReply.TheVariants as replies
 use Rattle.zst_sessions.specs.declared.open_sessions.OpenReceive as kept_receives
 use Rattle.zst_sessions.specs.declared.open_sessions.OpenSend as kept_sends
 
@@ -46,12 +43,6 @@ pub record RoomFits (room : Room) : Type 0 where
   pub sends : room.sends.items ≡ []
   pub receives : room.receives.items ≡ []
   pub piece : length room.piece.items ≡ piece_limit
-
--- a check of a pool that is kept so, and that is at rest, tells a report of it by its image, unless it is refused
-abbrev pub TellsCheck : Kept → Plain → Result EventReply Refusal → Type 0
-TellsCheck kept running result =
-    kept.failed ≡ false → IsAtRest true kept.disk kept.state running
-    → IfOk result (λ reply. (report : Report) × (reply ≡ replies.Checked report) × IsReportBy kept.disk.seen kept.state.body.uber kept.state.dir running report)
 
 -- ---- two pools of which one changes
 
@@ -222,7 +213,7 @@ module _ {D E : Type 0} {g : Ghosts D} {h : Ghosts E} where
     -- E28 comes only where the count of faults of a disk rose in this event, and E31 only where a disk had failed before
     pub cause : result ≡ Err refusals.DiskFault → Rose (disk_of old.here.io).faults (disk_of new.here.io).faults ⊎ Rose (disk_of old.there.io).faults (disk_of new.there.io).faults
     pub open_still : old.here.io.failed ≡ false → old.there.io.failed ≡ false → ¬ (result ≡ Err refusals.Failed)
-    -- a check of a pool that is at rest tells a report of it, with the count of blocks that its latest body reaches
+    -- a check tells a report of a pool that is at rest, with the count of blocks that its latest body reaches, and of any other what its image shows
     pub checks : (side : Side) (running : Plain) → event ≡ events.Check side → (kept_at side (kept_pool new.here) (kept_pool new.there)).disk.honest → TellsCheck (kept_at side (kept_pool old.here) (kept_pool old.there)) running result
     -- unless it answers E28 no disk fails in it; and what stands of the blocks of both pools, of each where the event is no reclaim of it
     pub works : ¬ (result ≡ Err refusals.DiskFault) → NoneFailed old new

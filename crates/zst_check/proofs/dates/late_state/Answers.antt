@@ -1,4 +1,4 @@
-use Rattle.std.proofs.Common.{◌≡◌, ℕ, List, sym, ◌∙◌, ap, subst, All}
+use Rattle.std.proofs.Common.{◌≡◌, ℕ, List, refl, sym, ◌∙◌, ap, subst, All}
 use Rattle.std.specs.Prelude.{Option, None, Some}
 use Rattle.std.proofs.lemmas.Result.{err_from_is_err_and}
 use Rattle.std.proofs.lemmas.List.Elements.{AllWithin-more}
@@ -18,9 +18,11 @@ use Rattle.zst_tree.proofs.Damage.{seen_before}
 use Rattle.zst_check.specs.Damage.{IsDamagedInStates}
 use Rattle.zst_check.specs.FailingPlaces.{LateDate}
 use Rattle.zst_check.specs.Findings.{Finds, FindsLate, name_of, number_of}
+use Rattle.zst_check.specs.ReportNames.{FindsNamed, Twice}
 use Rattle.zst_check.specs.declared.report.Report.{Report}
 use Rattle.zst_check.specs.declared.report.Report.TheVariants.{Unsound}
 use Rattle.zst_check.proofs.LateStates.{IsDated, all_dated, early_at, late_at, told_at}
+use Rattle.zst_check.proofs.ReportNames.{state_named}
 use Rattle.zst_check.proofs.StateDamage.{walk_told}
 use Rattle.zst_check.proofs.dates.late_state.Goals as goal
 
@@ -84,3 +86,10 @@ returns-clause-found g c = λ pool honest runs same.
     let io = c.loop-state.io in
     let on = look_on (λ (seen : List ℕ) (space : FreeSectors). RunsBy None (Has seen space) c.args.dir.now pool) c.loop-state.invariant.looks runs in
     all_dated pool c.loop-state.place (c.loop-state.invariant.early pool honest runs same) (c.in_default.ensures.at (disk_of io).seen io.space pool on)
+
+pub returns-in-Some-found-clause-named : goal.returns-in-Some-found-clause-named
+returns-in-Some-found-clause-named g c =
+    let state = c.in-Some.state in
+    let told : c.alone.result ≡ Unsound (name_of state) (name_of state) c.in-Some-found.object c.in-Some-found.block =
+    c.alone.ensures ∙ ap (λ (name : List ℕ). Unsound name name c.in-Some-found.object c.in-Some-found.block) c.name.ensures in
+    subst (λ (report : Report). FindsNamed c.args.dir.now (Some report)) (sym told) (Twice (state_named c.args.dir.now state c.in-Some.ensures.own) refl)

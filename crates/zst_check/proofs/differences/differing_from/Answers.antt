@@ -1,4 +1,4 @@
-use Rattle.std.proofs.Common.{◌≡◌, ◌≤◌, ◌<◌, ℕ, List, length, Option, None, HoldsAt, sym, ◌∙◌, subst}
+use Rattle.std.proofs.Common.{◌≡◌, ◌≤◌, ◌<◌, ℕ, List, length, Option, None, Contains, HoldsAt, sym, ◌∙◌, subst}
 use Rattle.std.proofs.lemmas.Result.{err_from_is_err_and}
 use Rattle.zst_block.specs.IoStates.{blocks_of, disk_of}
 use Rattle.zst_compare.specs.Agreement.{ComparesSets}
@@ -11,7 +11,9 @@ use Rattle.zst_tree.specs.Damage.{IsSeen}
 use Rattle.zst_tree.specs.declared.tree.ObjSet.{ObjSet}
 use Rattle.zst_check.specs.FailingPlaces.{Differs}
 use Rattle.zst_check.specs.Findings.{StandsAtPlace}
+use Rattle.zst_check.specs.ReportNames.{IsStateName, WithState}
 use Rattle.zst_check.proofs.ComparedStates.{none_behind, agrees_at, differs_at, undamaged_at}
+use Rattle.zst_check.proofs.ReportNames.{state_named}
 use Rattle.zst_check.proofs.StateDamage.{compared_told}
 use Rattle.zst_check.proofs.differences.differing_from.Goals as goal
 
@@ -61,3 +63,10 @@ returns-in-Some-2-clause-found g c = λ pool row honest runs stands nearest.
     (differs_at has c.args.dir.now pool runs c.in-Some.place c.in-Some-get.earlier.now here.0 here.1 c.args.state.now row found stands
     (λ was was_holds. subst (λ (told : Option Difference). ComparesSets c.in-Some-get.earlier.now.number was row.objects told) c.in-Some-2.is (c.in_ok-compare_sets.ensures.compared was row.objects honest holds was_holds))
     (λ earlier at. nearest earlier (subst (λ (p : Option ℕ). StandsAtPlace pool.snapshots p earlier) (sym c.in-Some.is) at))))
+
+pub returns-in-Some-2-clause-named : goal.returns-in-Some-2-clause-named
+returns-in-Some-2-clause-named g c = λ own.
+    let here = stands_there c.snapshots.result.now c.args.dir.now.snapshots c.in-Some.place c.in-Some-get.earlier.now c.snapshots.ensures c.in-Some-get.ensures.lookup.3 in
+    let listed : Contains c.args.dir.now.snapshots c.in-Some-get.earlier.now = (c.in-Some.place, here.0, sym (here.1 c.in-Some-get.earlier.now)) in
+    WithState c.in-Some-get.earlier.now listed (sym (c.new.ensures.same ∙ c.as_bytes.ensures.value ∙ c.text.ensures.same))
+    (subst (IsStateName c.args.dir.now) (sym c.name.ensures) (state_named c.args.dir.now c.args.state.now own))

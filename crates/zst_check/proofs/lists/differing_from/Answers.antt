@@ -73,3 +73,7 @@ returns-clause-found g c = λ bookmark snapshot redactions honest is own hold.
       differs = subst (λ (n : ℕ). has_pair bookmark.runs c.in-Some.object c.in-Some.block ≢ red_set snapshot.objects.state n (objects_of redactions) c.in-Some.object c.in-Some.block) (sym own.named.number)
           (subst (λ (runs : Runs). has_pair runs c.in-Some.object c.in-Some.block ≢ red_set snapshot.objects.state c.args.own.now.number (objects_of redactions) c.in-Some.object c.in-Some.block) read other);
     }
+
+pub returns-clause-named : goal.returns-clause-named
+returns-clause-named g c =
+    (sym c.text.ensures.same ∙ (sym c.as_bytes.ensures.value ∙ sym c.new-in-Some.ensures.same), sym c.text-in-Some.ensures.same ∙ (sym c.as_bytes-in-Some.ensures.value ∙ sym c.new-in-Some-2.ensures.same))

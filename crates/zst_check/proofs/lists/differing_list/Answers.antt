@@ -14,9 +14,11 @@ use Rattle.zst_laws.specs.RedactionLists.{AreListed}
 use Rattle.zst_check.specs.FailingPlaces.{ListDiffers}
 use Rattle.zst_check.specs.Findings.{Finds}
 use Rattle.zst_check.specs.Redactions.{IsListed}
+use Rattle.zst_check.specs.ReportNames.{FindsNamed}
 use Rattle.zst_check.specs.declared.report.Report.{Report}
 use Rattle.zst_check.proofs.CheckedLists.{all_listed, fails_too, row_stands, told_too}
 use Rattle.zst_check.proofs.ListDamage.{checked_before}
+use Rattle.zst_check.proofs.ReportNames.{listed_at}
 use Rattle.zst_check.proofs.lists.differing_list.Goals as goal
 
 pub loop-row-preserved : goal.loop-row-preserved
@@ -72,3 +74,8 @@ returns-clause-found g c = λ pool honest runs lawful sound.
     let past : c.loop-row.row-index ≡ length c.args.dir.now.bookmarks = omega (arith, ap length c.bookmarks-row-items.ensures) in
     let long = length-Match (BookmarkIs (blocks_of c.args.io.now)) c.args.dir.now.bookmarks pool.bookmarks runs.bookmarks in
     all_listed pool (λ k d under. c.loop-row.invariant.listed pool honest runs lawful sound k d (omega (arith, under, past, long)))
+
+pub returns-in-Some-clause-named : goal.returns-in-Some-clause-named
+returns-in-Some-clause-named g c =
+    let listed = listed_at c.args.dir.now.bookmarks c.bookmarks-row-items.result.now c.loop-row.row-index c.row-item.result c.bookmarks-row-items.ensures c.loop-row-test.true c.row-item.is in
+    subst (FindsNamed c.args.dir.now) c.in-Some.is (c.in_ok-report.ensures.named listed)

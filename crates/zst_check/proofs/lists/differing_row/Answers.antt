@@ -17,6 +17,7 @@ use Rattle.zst_check.specs.Redactions.{DiffersFrom, IsListed, IsSetOfRow}
 use Rattle.zst_check.proofs.CheckedLists.{at_place, differs_there, finds_more, lists_all, lists_none, row_is, sets_hold}
 use Rattle.zst_check.proofs.ListDamage.{checked_told, result_within}
 use Rattle.zst_check.proofs.NamedRows.{rows_name}
+use Rattle.zst_check.proofs.ReportNames.{listed_at, own_named}
 use Rattle.zst_check.proofs.lists.differing_row.Goals as goal
 
 pub returns-in_default-clause-found : goal.returns-in_default-clause-found
@@ -77,3 +78,10 @@ returns-in-Some-2-clause-found g c = λ pool bookmark honest runs lawful sound t
   where
     not_empty : (list : List ℕ) → (length list == 0) ≡ false → 0 < length list
     not_empty list isnt = grind (arith, nat_tests)
+
+-- the names are those of the bookmark and of its own snapshot
+pub returns-in-Some-2-clause-named : goal.returns-in-Some-2-clause-named
+returns-in-Some-2-clause-named g c = λ listed.
+    let own = listed_at c.args.dir.now.snapshots c.snapshots.result.now c.in-Some.place c.index-snapshots-place.result c.snapshots.ensures
+    (let inside = c.in-Some.ensures.inside in omega (arith, inside, ap length c.snapshots.ensures)) c.index-snapshots-place.is in
+    own_named c.args.dir.now c.args.row.now c.index-snapshots-place.result listed own c.differing_from.result c.differing_from.ensures.named
