@@ -1,6 +1,6 @@
 -- What the commands that make content leave of an image, from what opening the pool and running them say.
 use Rattle.std.specs.Prelude.{Result, Ok, Err, IfErr}
-use Rattle.std.proofs.Common.{◌≡◌, ◌≢◌, inl, inr, ℕ, ◌<◌, ◌≤◌, Bool, false, List, refl, sym, ap, ◌∙◌, subst, arith}
+use Rattle.std.proofs.Common.{◌≡◌, ◌≢◌, inl, inr, ℕ, ◌≤◌, Bool, false, List, refl, sym, ap, ◌∙◌, subst, arith}
 use Rattle.zst_outside.specs.Causes.{Rose-earlier}
 use Rattle.zst_outside.specs.Images.{DiskState, IsSynced, Leaves, Leaves-then, Leaves-weaker, OnlyReads}
 use Rattle.zst_block.specs.Blocks.{KeepsBlocks}
@@ -19,7 +19,7 @@ use Rattle.zst_image.specs.declared.open_fault.OpenFault.TheVariants as opens
 use Rattle.zst_image.specs.declared.pool_state.PoolState.{PoolState}
 use Rattle.zst_pool.specs.Calls.{IsAtRest}
 use Rattle.zst_run.specs.Commands.{IsPoolRefusal, OfStepping}
-use Rattle.zst_run.specs.Generating.{GenEnds, GenRan, Generating, OldOrMade, ReadsMade, StoppedAt}
+use Rattle.zst_run.specs.Generating.{GenEnds, GenRan, Generating, OldOrMade, OneIsShort, ReadsMade, StoppedAt}
 use Rattle.zst_run.specs.GeneratorTurns.{AllDid, IsStepRefusal, lines_of}
 use Rattle.zst_run.proofs.CommandLemmas.{images_after, open_alive, open_disk, rests_read}
 use Rattle.zst_run.proofs.GeneratorRuns.{none_made}
@@ -61,7 +61,7 @@ unopened whole now steps here here' fault there answer reads synced cause = reco
   ends = λ tight pool told is.
       unopened_ends tight now steps here' is.0 is.1 pool fault (whole.0 pool (whole.1 tight is.0 is.1 pool here.seen is.2)) (there tight is.0 is.1 pool told is.2)
       (λ alive. rests_read here here' is.0 is.1 pool is.2 reads (synced alive));
-  opened = λ told. idle_says (List (List ℕ)) (OnlyReads here here') here (GenRan here here' (Err (open_refusal fault))) fault reads (answer told);
+  opened = λ told. idle_says (List (List ℕ)) (OnlyReads here here') here (GenRan steps here here' (Err (open_refusal fault))) fault reads (answer told);
   refused = record { one = inl (fault, refl); alive = open_alive fault; cause = λ is. cause.fault (ap (λ (f : OpenFault). Err f) (open_disk fault is)) };
   later = cause.later;
 }
@@ -76,10 +76,6 @@ lines_refused steps P (Err refusal) is = is
 lines_err : (steps : ℕ) (result : Result ℕ Refusal) (refusal : Refusal) → lines_of steps result ≡ Err refusal → result ≡ Err refusal
 lines_err steps (Ok number) refusal is = absurd (cc is)
 lines_err steps (Err other) refusal is = let same : other ≡ refusal = cc is in ap (λ (r : Refusal). Err r) same
-
-full_only : (old new : DiskState) (result : Result ℕ Refusal) (need largest : ℕ) → IfErr result (IsStepRefusal old new) → result ≡ Err (refusals.Full need largest) → largest < need
-full_only old new (Ok number) need largest why is = absurd (cc is)
-full_only old new (Err refusal) need largest why is = let same : refusal ≡ refusals.Full need largest = cc is in why.full need largest same
 
 behind_opening : (old new : DiskState) (result : Result ℕ Refusal) → IfErr result (IsStepRefusal old new) → IfErr result (λ refusal. is_of_opening refusal ≡ false)
 behind_opening old new (Ok number) why = tt
@@ -96,7 +92,8 @@ module _ (now steps : ℕ) (here mid here' : DiskState) (kept : PoolState) (resu
     (at_rest : (tight : Bool) (rows : Rows) (pool : Pool) → Rests tight mid kept.body rows pool → kept.dir ≡ kept_rows rows → IsAtRest tight mid kept pool)
     (later : here.faults ≤ mid.faults) (falls : here'.honest → mid.honest)
     (says : (tight : Bool) (pool : Pool) → here'.honest → IsAtRest tight mid kept pool → AllDid tight now steps pool mid here' (lines_of steps result))
-    (stood : ¬ (result ≡ Err refusals.DiskFault) → KeepsBlocks mid.seen (free_by kept.body) here'.seen (free_by kept.body)) (why : IfErr result (IsStepRefusal mid here'))
+    (stood : ¬ (result ≡ Err refusals.DiskFault) → KeepsBlocks mid.seen (free_by kept.body) here'.seen (free_by kept.body))
+    (full : (need largest : ℕ) → result ≡ Err (refusals.Full need largest) → OneIsShort steps kept here' need largest) (why : IfErr result (IsStepRefusal mid here'))
     (only : (c : List ℕ) → here.left_since here.moment c → here.images c) (now_left : (t : ℕ) (c : List ℕ) → t ≤ here'.moment → here'.images c → here'.left_since t c) where
   did : (tight : Bool) (pool : Pool) → here'.honest → Reads tight pool here.seen → AllDid tight now steps pool mid here' (lines_of steps result)
   did tight pool told is =
@@ -114,13 +111,14 @@ module _ (now steps : ℕ) (here mid here' : DiskState) (kept : PoolState) (resu
     images = λ tight pool told is. images_after here here' (OldOrMade tight here now steps pool) (moments tight pool told is) (λ c image. inl image) only now_left;
     ends = λ tight pool told is. (did tight pool told is).ends;
     opened = λ told. let was = answers (falls told) in
-        ran_says (OnlyReads here here') here (GenRan here here' (lines_of steps result)) (lines_of steps result) (
+        ran_says (OnlyReads here here') here (GenRan steps here here' (lines_of steps result)) (lines_of steps result) (
           kept.body,
           was.1,
           record {
             opens = (was.0, was.2, was.3);
             stood = λ apart. subst (λ (s : List ℕ). KeepsBlocks s (free_by kept.body) here'.seen (free_by kept.body)) reads.seen (stood (λ is. apart (ap (lines_of steps) is)));
-            full = λ need largest is. full_only mid here' result need largest why (lines_err steps result (refusals.Full need largest) is);
+            full = λ need largest is.
+                subst (λ (r : Rows). OneIsShort steps (record { body = kept.body; dir = r }) here' need largest) was.4 (full need largest (lines_err steps result (refusals.Full need largest) is));
           },
         ) (lines_refused steps (λ refusal. is_of_opening refusal ≡ false) result (behind_opening mid here' result why));
     refused = lines_refused steps (IsPoolRefusal OfStepping here here') result (whole_refusal here mid here' result later why);

@@ -24,13 +24,14 @@ use Rattle.zst_image.specs.declared.pool_state.PoolState.{PoolState}
 use Rattle.zst_pool.specs.Calls.{IsAtRest}
 use Rattle.zst_pool.specs.Cost.{HasNoRoom, cost_of}
 use Rattle.zst_pool.specs.Events.{Settles, StepDid}
-use Rattle.zst_pool.specs.Faults.{HasDiskCause, StepFault, pool_refusal}
+use Rattle.zst_pool.specs.Faults.{HasDiskCause, StepFault, is_disk_fault, pool_refusal}
+use Rattle.zst_pool.specs.PartialRows.{rows_after}
 use Rattle.zst_pool.specs.StepAnswers.{BeforeOrAfter, StepAnswer}
 use Rattle.zst_pool.proofs.PoolsAtRest.{rest_plain}
 use Rattle.zst_pool.specs.declared.fault.PoolFault.{PoolFault}
 use Rattle.zst_pool.specs.declared.fault.PoolFault.TheVariants as faults
 use Rattle.zst_pool.specs.declared.pool.Pool.{Pool as OpenedPool}
-use Rattle.zst_run.specs.Generating.{GenEnds, NextFindsNoRoom, ReadsMade, StoppedAt, first_made, gen_line, stepped_all}
+use Rattle.zst_run.specs.Generating.{CommandGrew, GenEnds, GrewAlong, NextFindsNoRoom, ReadsMade, StoppedAt, first_made, gen_line, stepped_all}
 use Rattle.zst_run.specs.GeneratorTurns.{IsStepRefusal, NextDid, RunsAll, RunsNext, RunsOn}
 use Rattle.zst_run.proofs.CommandLemmas.{disk_fault, failed_before, full_only}
 use Rattle.zst_run.proofs.LaterDisks.{later_none, later_then}
@@ -149,13 +150,11 @@ is_other steps number command at =
 
 -- ---- why it is refused
 
-pub step_refused : {T : Type 0} → (old new : DiskState) (fault : PoolFault) → HasDiskCause {T = T} old.faults new.faults (Err fault) → fault ≢ faults.Failed
-    → ((need largest : ℕ) → fault ≡ faults.Full need largest → largest < need) → IsStepRefusal old new (pool_refusal fault)
-step_refused old new fault cause alive short = record {
+pub step_refused : {T : Type 0} → (old new : DiskState) (fault : PoolFault) → HasDiskCause {T = T} old.faults new.faults (Err fault) → fault ≢ faults.Failed → IsStepRefusal old new (pool_refusal fault)
+step_refused old new fault cause alive = record {
   one = (fault, refl);
   alive = λ is. alive (failed_before fault is);
   cause = λ is. cause.fault (ap (λ f. Err f) (disk_fault fault is));
-  full = λ need largest is. short need largest (full_only fault need largest is);
 }
 
 pub memory_refused : (here : DiskState) → IsStepRefusal here here refusals.OutOfMemory
@@ -163,8 +162,18 @@ memory_refused here = record {
   one = (faults.OutOfMemory, refl);
   alive = λ is. absurd (cc is);
   cause = λ is. absurd (cc is);
-  full = λ need largest is. absurd (cc is);
 }
+
+-- ---- what is taken
+
+-- one more command is done behind the others
+grew_more : (made : List Command) (n : ℕ) (command : Command) (first kept next : PoolState) → slice_get made n ≡ Some command → GrewAlong (take n made) first kept → CommandGrew command kept next
+    → GrewAlong (take (suc n) made) first next
+grew_more [] n command first kept next at grew one = absurd (cc at)
+grew_more (x ∷ rest) zero command first kept next at grew one =
+    let same : x ≡ command = cc at in
+    (next, subst (λ (c : Command). CommandGrew c first next) (sym same) (subst (λ (k : PoolState). CommandGrew command k next) grew one), refl)
+grew_more (x ∷ rest) (suc n) command first kept next at grew one = (grew.0, grew.1, grew_more rest n command grew.0 kept next at grew.2 one)
 
 module _ {D : Type 0} {g : Ghosts D} (now steps number : ℕ) (command : Command) (at : slice_get (generated steps) number ≡ Some command) (less : number < length (generated steps))
     (old new : OpenedPool D g) (works : old.io.failed ≡ false) where
@@ -176,8 +185,8 @@ module _ {D : Type 0} {g : Ghosts D} (now steps number : ℕ) (command : Command
       (left, subst (λ (k : PoolState). HasNoRoom (cost_of command).cells ((cost_of command).block running) ((cost_of command).list running) k.body k.dir left need largest) (sym same) short)
 
   -- a step that went well
-  pub step_done : (reply : List (List ℕ)) → StepDid now command [] old new (Ok reply) → Settles {T = List (List ℕ)} old new (Ok reply) → RunsNext now steps number old new (Ok tt)
-  step_done reply did settles =
+  pub step_done : (reply : List (List ℕ)) → StepDid now command [] old new (Ok reply) → Settles {T = List (List ℕ)} old new (Ok reply) → new.kept.dir.partials ≡ rows_after command old.kept.dir.partials → RunsNext now steps number old new (Ok tt)
+  step_done reply did settles partials =
       let still : new.io.failed ≡ false = settles.failed ∙ ap (λ (failed : Bool). failed || false) works in
       record {
         says = λ tight pool running told is rests.
@@ -185,6 +194,12 @@ module _ {D : Type 0} {g : Ghosts D} (now steps number : ℕ) (command : Command
         works = still;
         ready = settles.ready still;
         blocks = λ apart. did.blocks (is_other steps number command at) (λ is. absurd (cc is));
+        spends = record {
+          grew =
+              let spent = did.spends (is_other steps number command at) works in
+              (command, at, record { block = spent.0; most = spent.1; grows = spent.2.grows; partials = partials });
+          short = λ need largest is. absurd (cc is);
+        };
         why = tt;
         later = record { faults = settles.cause.later; honest = settles.honest; same = settles.same };
       }
@@ -193,7 +208,6 @@ module _ {D : Type 0} {g : Ghosts D} (now steps number : ℕ) (command : Command
   pub step_fails : (fault : PoolFault) → StepDid now command [] old new (Err fault) → Settles {T = List (List ℕ)} old new (Err fault) → RunsNext now steps number old new (Err fault)
   step_fails fault did settles =
       let other = is_other steps number command at in
-      let short : (need largest : ℕ) → fault ≡ faults.Full need largest → largest < need = λ need largest is. ((did.spends other works).2.full need largest is).shorter in
       let room = λ (tight : Bool) (running : Pool) (told : IsHonest new.io) (rests : IsAtRest tight (disk_of old.io) old.kept running) (need largest : ℕ) (is : fault ≡ faults.Full need largest).
       left_then old.kept new.kept running new.io.space need largest settles.stays ((did.exact other running told works (rest_plain (disk_of old.io) old.kept running rests)).full need largest is) in
       record {
@@ -203,7 +217,19 @@ module _ {D : Type 0} {g : Ghosts D} (now steps number : ℕ) (command : Command
         works = tt;
         ready = tt;
         blocks = λ apart. did.blocks other (λ is. let same : fault ≡ faults.DiskFault = cc is in apart (ap (λ (f : PoolFault). Err f) same));
-        why = step_refused (disk_of old.io) (disk_of new.io) fault settles.cause (λ is. did.open_still works (ap (λ (f : PoolFault). Err f) is)) short;
+        spends = record {
+          grew = tt;
+          short = λ need largest is.
+              let spent = did.spends other works in
+              let same : fault ≡ faults.Full need largest = cc is in
+              let still : new.io.failed ≡ false = settles.failed ∙ ap (λ (failed : Bool). failed || is_disk_fault {T = List (List ℕ)} (Err fault)) works ∙ ap (λ (f : PoolFault). is_disk_fault {T = List (List ℕ)} (Err f)) same in (
+                command,
+                at,
+                record { block = spent.0; most = spent.1; short = spent.2.full need largest same },
+                subst (λ (k : PoolState). Ready (disk_of new.io) k.body) settles.stays (settles.ready still),
+              );
+        };
+        why = step_refused (disk_of old.io) (disk_of new.io) fault settles.cause (λ is. did.open_still works (ap (λ (f : PoolFault). Err f) is));
         later = record { faults = settles.cause.later; honest = settles.honest; same = settles.same };
       }
 
@@ -212,7 +238,6 @@ refused_earlier start old new refusal later why = record {
   one = why.one;
   alive = why.alive;
   cause = λ is. Rose-earlier start.faults old.faults new.faults later (why.cause is);
-  full = why.full;
 }
 
 -- ---- all commands
@@ -230,6 +255,7 @@ module _ {D : Type 0} {g : Ghosts D} (now steps : ℕ) where
     works = works;
     ready = ready;
     blocks = λ ptr bytes has. has;
+    grew = refl;
     later = later_none (io_of pool.io);
   }
 
@@ -250,6 +276,10 @@ module _ {D : Type 0} {g : Ghosts D} (now steps : ℕ) where
       works = n.works;
       ready = n.ready;
       blocks = λ ptr bytes has. n.blocks (λ is. absurd (cc is)) ptr bytes (on.blocks ptr bytes has);
+      grew =
+          let done = n.spends.grew in
+          let next_is : count + 1 ≡ suc count = omega arith in
+          subst (λ (k : ℕ). GrewAlong (take k (generated steps)) first.kept next.kept) (sym next_is) (grew_more (generated steps) count done.0 first.kept pool.kept next.kept done.1 on.grew done.2);
       later = later_then (io_of first.io) (io_of pool.io) (io_of next.io) on.later n.later;
     }
 
@@ -266,6 +296,18 @@ module _ {D : Type 0} {g : Ghosts D} (now steps : ℕ) where
       stood = λ apart ptr bytes has.
           let there = n.blocks (λ is. let same : fault ≡ faults.DiskFault = cc is in apart (ap (λ (f : PoolFault). Err (pool_refusal f)) same)) ptr bytes (on.blocks ptr bytes has) in
           record { block = there.block; behind = has.behind; taken = has.taken };
+      full = λ need largest is.
+          let fell = n.spends.short need largest (ap (λ (f : PoolFault). Err f) (full_only fault need largest (let same : pool_refusal fault ≡ refusals.Full need largest = cc is in same))) in
+          record {
+            number = count;
+            command = fell.0;
+            is_next = fell.1;
+            kept = pool.kept;
+            grew = on.grew;
+            ready = fell.3;
+            left = next.io.space;
+            short = fell.2;
+          };
       why = refused_earlier (disk_of first.io) (disk_of pool.io) (disk_of next.io) (pool_refusal fault) on.later.faults n.why;
       later = later_then (io_of first.io) (io_of pool.io) (io_of next.io) on.later n.later;
     }
@@ -288,6 +330,7 @@ module _ {D : Type 0} {g : Ghosts D} (now steps : ℕ) where
             );
           };
       stood = λ apart ptr bytes has. let there = on.blocks ptr bytes has in record { block = there.block; behind = has.behind; taken = has.taken };
+      full = λ need largest is. absurd (cc is);
       why = tt;
       later = on.later;
     }

@@ -1,7 +1,7 @@
 -- What a receive into an image leaves, from what opening the pool and feeding say.
 use Rattle.std.specs.Prelude.{Result, Ok, Err, IfErr}
 use Rattle.std.specs.List.{concat}
-use Rattle.std.proofs.Common.{◌≡◌, ◌≢◌, inl, inr, ℕ, ◌<◌, ◌≤◌, Bool, false, List, [], refl, sym, ap, ◌∙◌, subst, arith}
+use Rattle.std.proofs.Common.{◌≡◌, ◌≢◌, inl, inr, ℕ, ◌≤◌, Bool, false, List, [], refl, sym, ap, ◌∙◌, subst, arith}
 use Rattle.std.proofs.lemmas.List.{append-nil}
 use Rattle.zst_outside.specs.Causes.{Rose-earlier}
 use Rattle.zst_outside.specs.Images.{DiskState, IsSynced, Leaves, Leaves-then, Leaves-weaker, OnlyReads}
@@ -142,11 +142,6 @@ module _ (here mid here' : DiskState) (input input' : SourceState) where
   is_open refusal (inr (inl cut)) = ap is_of_opening cut.1
   is_open refusal (inr (inr source)) = ap is_of_opening source.0
 
-  ends_full : (refusal : Refusal) (need largest : ℕ) → IsEnd mid here' input input' refusal → refusal ≡ refusals.Full need largest → largest < need
-  ends_full refusal need largest (inl r) full = r.full need largest full
-  ends_full refusal need largest (inr (inl cut)) full = absurd (let e = cut.1 in cc (e, full))
-  ends_full refusal need largest (inr (inr source)) full = absurd (let e = source.0 in cc (e, full))
-
   whole_refusal : (refusal : Refusal) → here.faults ≤ mid.faults → IsEnd mid here' input input' refusal → IsReceiveRefusal here here' input input' refusal
   whole_refusal refusal later (inl r) = record {
     pool = record { one = inr (inl r.one); alive = r.alive; cause = λ e. Rose-earlier here.faults mid.faults here'.faults later (r.cause e) };
@@ -164,10 +159,6 @@ module _ (here mid here' : DiskState) (input input' : SourceState) where
   behind_opening : (answer : Result (List (List ℕ)) Refusal) → IfErr answer (IsEnd mid here' input input') → IfErr answer (λ refusal. is_of_opening refusal ≡ false)
   behind_opening (Ok lines) is = tt
   behind_opening (Err refusal) is = is_open refusal is
-
-  full_in : (answer : Result (List (List ℕ)) Refusal) (need largest : ℕ) → IfErr answer (IsEnd mid here' input input') → answer ≡ Err (refusals.Full need largest) → largest < need
-  full_in (Ok lines) need largest is full = absurd (cc full)
-  full_in (Err refusal) need largest is full = let same : refusal ≡ refusals.Full need largest = cc full in ends_full refusal need largest is same
 
   refused_in : (answer : Result (List (List ℕ)) Refusal) → here.faults ≤ mid.faults → IfErr answer (IsEnd mid here' input input') → IfErr answer (IsReceiveRefusal here here' input input')
   refused_in (Ok lines) later is = tt
@@ -214,7 +205,6 @@ module _ (ask : RecvAsk) (here mid here' : DiskState) (input input' : SourceStat
               was.1,
               record {
                 opens = (was.0, was.2, was.3);
-                full = λ need largest is. full_in here mid here' input input' (told result) need largest ends is;
                 planned = subst (λ (r : Rows). SaysOfPlan r ask (concat f.pieces) (told result)) was.4 (plans (concat f.pieces) f.consumed);
                 damaged = λ sector stated found is.
                     damaged_here here.seen mid.seen here.size mid.size kept.body kept.dir (kept_rows was.1) ask (concat f.pieces) sector stated found reads.seen reads.size was.4

@@ -64,33 +64,30 @@ recv_full (faults.Stream fault) need largest is = absurd (cc is)
 recv_full (faults.CannotApply index fault) need largest is = absurd (cc is)
 
 -- what a feed refuses
-pub feed_refused : (old now : DiskState) (fault : RecvFault) → IsFeedFault fault → HasCause old.faults now.faults (stop_at fault)
-    → ((need largest : ℕ) → fault ≡ faults.Pool (pools.Full need largest) → largest < need) → IsFeedRefusal old now (recv_refusal fault)
-feed_refused old now fault known cause full = record {
+pub feed_refused : (old now : DiskState) (fault : RecvFault) → IsFeedFault fault → HasCause old.faults now.faults (stop_at fault) → IsFeedRefusal old now (recv_refusal fault)
+feed_refused old now fault known cause = record {
   one = (fault, known, refl);
   alive = λ is. subst IsFeedFault (recv_failed fault is) known;
   cause = λ is. cause.fault (ap stop_at (recv_disk fault is));
-  full = λ need largest is. full need largest (recv_full fault need largest is);
 }
 
--- a refusal that isn't the disk's, nor of a full disk
+-- a refusal that isn't the disk's
 pub plain_refused : (old now : DiskState) (fault : RecvFault) (refusal : Refusal) → IsFeedFault fault → refusal ≡ recv_refusal fault → refusal ≢ refusals.DiskFault → refusal ≢ refusals.Failed
-    → ((need largest : ℕ) → refusal ≢ refusals.Full need largest) → IsFeedRefusal old now refusal
-plain_refused old now fault refusal known is disk alive full = record {
+    → IsFeedRefusal old now refusal
+plain_refused old now fault refusal known is disk alive = record {
   one = (fault, known, is);
   alive = alive;
   cause = λ e. absurd (disk e);
-  full = λ need largest e. absurd (full need largest e);
 }
 
 -- no memory was left
 pub without_memory : (old now : DiskState) (input input' : SourceState) → IsEnd old now input input' refusals.OutOfMemory
 without_memory old now input input' =
-    inl (plain_refused old now (faults.Pool pools.OutOfMemory) refusals.OutOfMemory tt refl (λ e. absurd (cc e)) (λ e. absurd (cc e)) (λ need largest e. absurd (cc e)))
+    inl (plain_refused old now (faults.Pool pools.OutOfMemory) refusals.OutOfMemory tt refl (λ e. absurd (cc e)) (λ e. absurd (cc e)))
 
 -- it is one of a whole in which more faults were counted
 pub refused_earlier : (old mid now : DiskState) (refusal : Refusal) → old.faults ≤ mid.faults → IsFeedRefusal mid now refusal → IsFeedRefusal old now refusal
-refused_earlier old mid now refusal later is = record { one = is.one; alive = is.alive; cause = λ e. Rose-earlier old.faults mid.faults now.faults later (is.cause e); full = is.full }
+refused_earlier old mid now refusal later is = record { one = is.one; alive = is.alive; cause = λ e. Rose-earlier old.faults mid.faults now.faults later (is.cause e) }
 
 -- what cuts a receive
 pub cut_refused : (old now : DiskState) (input input' : SourceState) (end : End) (count : ℕ) (refusal : Refusal) → refusal ≡ cut_refusal end count → (end ≡ Failed → Rose input.faults input'.faults)

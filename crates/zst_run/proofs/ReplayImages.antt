@@ -250,7 +250,6 @@ module _ {D E : Type 0} {g : Ghosts D} {h : Ghosts E} where
           events = all.events;
           answers = all.answers;
           consumed = all.consumed;
-          one_each = all.runs.one_each;
           kept = old.here.kept;
           other = old.there.kept;
           opens = λ honest honest_there. (first.has.answer (later.honest honest), second.has.answer (later_there.honest honest_there));
@@ -258,7 +257,11 @@ module _ {D E : Type 0} {g : Ghosts D} {h : Ghosts E} where
           there_stood = all_stood There there (kept_pool old.there) (kept_pool new.there) all.events all.answers second.has.reads.seen second.works all.runs.there_spares;
           script = all.script;
           writes = all.writes;
-          lost = all_lost now here there old new first second all.events all.answers all.runs time only_here only_there counts_here counts_there;
+          says = record {
+            one_each = all.runs.one_each;
+            lost = all_lost now here there old new first second all.events all.answers all.runs time only_here only_there counts_here counts_there;
+            full = all.runs.full;
+          };
           pools = λ plain other honest honest_there tells others reads reads_there.
               runs_over now here there old new first second all.events all.answers all.runs time only_here only_there counts_here counts_there plain other honest honest_there tells others
               (stands_for rests_here rests_there here there old plain other first second no_sends no_receives (later.honest honest) (later_there.honest honest_there) reads reads_there);

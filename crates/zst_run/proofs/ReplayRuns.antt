@@ -1,11 +1,15 @@
 -- Runs of events of the engine, one after another.
 use Rattle.std.specs.Prelude.{Contains, Result, Ok, Err}
-use Rattle.std.proofs.Common.{sym, ◌≡◌, ◌≢◌, ◌≤◌, inl, inr, ℕ, true, false, All, List, [], ◌∷◌, ◌++◌, refl, ap, ◌∙◌, subst, arith, ◌+◌, length, length-append}
+use Rattle.std.proofs.Common.{sym, ◌≡◌, ◌≢◌, ◌≤◌, inl, inr, ℕ, ◌⊎◌, true, false, All, List, [], ◌∷◌, ◌++◌, refl, ap, ◌∙◌, subst, arith, ◌+◌, length, length-append}
 use Rattle.std.proofs.lemmas.List.Elements.{All-append, All-cons, All-head, All-nil, All-tail, All-weaker, Contains-append_left, Contains-append_right, Contains-push}
 use Rattle.zst_outside.specs.Causes.{Rose, Rose-earlier}
 use Rattle.zst_outside.specs.Images.{DiskState, Leaves, Leaves-none, Leaves-then, Leaves-weaker}
 use Rattle.zst_outside.specs.declared.disk.Disk.{Ghosts}
+use Rattle.zst_space.specs.FreeSectors.{FreeSectors}
 use Rattle.zst_block.specs.IoStates.{disk_of}
+use Rattle.zst_dir.specs.RowNames.{Match}
+use Rattle.zst_roots.specs.declared.held.HeldBlocks.{HeldBlocks}
+use Rattle.zst_model.specs.declared.pools.command.Command.{Command}
 use Rattle.zst_model.specs.declared.pools.command.Command.TheVariants as commands
 use Rattle.zst_model.specs.declared.refusals.refusal.Refusal.{Refusal}
 use Rattle.zst_model.specs.declared.refusals.refusal.Refusal.TheVariants as refusals
@@ -13,16 +17,17 @@ use Rattle.zst_script.specs.declared.event.Event.{Event}
 use Rattle.zst_script.specs.declared.event.Event.TheVariants as events
 use Rattle.zst_script.specs.declared.event.Side.{Side}
 use Rattle.zst_script.specs.declared.event.Side.TheVariants.{Here, There}
-use Rattle.zst_sessions.specs.Engines.{BeforeOrAfter, Kept, MayLeave}
-use Rattle.zst_sessions.specs.EngineSteps.{EngineFits, IsLaterPool, SparesBlocks, StepsEngine, kept_pool}
+use Rattle.zst_sessions.specs.Engines.{BeforeOrAfter, Kept, MayLeave, kept_at}
+use Rattle.zst_sessions.specs.EngineSteps.{EngineFits, EventIsShort, IsLaterPool, SparesBlocks, StepsEngine, held_blocks, kept_pool, left_on}
 use Rattle.zst_sessions.specs.EventReplies.{answer_of}
+use Rattle.zst_sessions.specs.FullPools.{StepIsShort}
 use Rattle.zst_sessions.specs.Moves.{Answer, moved}
 use Rattle.zst_sessions.specs.Replay.{AtStart, GoesOn, InEvent, Replay, Stays, WaysFollow, WaysGoOn}
 use Rattle.zst_sessions.specs.World.{World}
 use Rattle.zst_sessions.specs.declared.engine.Engine.{Engine}
 use Rattle.zst_sessions.specs.declared.event_reply.EventReply.{EventReply}
 use Rattle.zst_pool.specs.declared.pool.Pool.{Pool}
-use Rattle.zst_run.specs.Replays.{ReadsOnWay, StoodOrReads}
+use Rattle.zst_run.specs.Replays.{MayLack, ReadsOnWay, StoodOrReads}
 use Rattle.zst_run.specs.ReplayTurns.{Lost, RunsEvents, RunsFrom, SparesAll}
 use Rattle.zst_run.proofs.CommandLemmas.{images_after}
 
@@ -117,6 +122,43 @@ lost_of : (reply : Result EventReply Refusal) → answer_of reply ≡ Err refusa
 lost_of (Ok reply) is = absurd (cc is)
 lost_of (Err refusal) is = let same : refusal ≡ refusals.DiskFault = cc is in ap (λ (r : Refusal). Err r) same
 
+full_of : (reply : Result EventReply Refusal) (need largest : ℕ) → answer_of reply ≡ Err (refusals.Full need largest) → reply ≡ Err (refusals.Full need largest)
+full_of (Ok reply) need largest is = absurd (cc is)
+full_of (Err refusal) need largest is = let same : refusal ≡ refusals.Full need largest = cc is in ap (λ (r : Refusal). Err r) same
+
+-- lists that match do so behind others
+Match-append : {A B : Type 0} (Is : A → B → Type 0) (xs more : List A) (ys also : List B) → Match Is xs ys → Match Is more also → Match Is (xs ++ more) (ys ++ also)
+Match-append Is [] more [] also m rest = rest
+Match-append Is [] more (y ∷ ys) also m rest = absurd m
+Match-append Is (x ∷ xs) more [] also m rest = absurd m
+Match-append Is (x ∷ xs) more (y ∷ ys) also m rest = (m.0, Match-append Is xs more ys also m.1 rest)
+
+-- ---- what a full pool tells
+
+-- a command is a reclaim, or another
+is_reclaim : (command : Command) → (command ≡ commands.Reclaim) ⊎ (command ≢ commands.Reclaim)
+is_reclaim commands.Reclaim = inl refl
+is_reclaim command = inr (λ is. absurd (cc is))
+
+step_lacks : (side : Side) (command : Command) (held : List HeldBlocks) (old new : Kept) (left : FreeSectors) (need largest : ℕ) → new.disk.honest → StepIsShort command held old new left need largest
+    → MayLack (events.Step side command) need largest
+step_lacks side command held old new left need largest honest is = go (is_reclaim command)
+  where
+    go : (command ≡ commands.Reclaim) ⊎ (command ≢ commands.Reclaim) → MayLack (events.Step side command) need largest
+    go (inl one) = let found = (is.reclaims one honest).full_after in (found.shorter, is.commits, (0, omega arith, inl found.needed))
+    go (inr other) = let found = is.runs other in (found.short.shorter, is.commits, (found.block, found.most, found.short.needed))
+
+module _ {D E : Type 0} {g : Ghosts D} {h : Ghosts E} (old new : Engine D E g h) (need largest : ℕ) (honest : (disk_of new.here.io).honest) (also : (disk_of new.there.io).honest) where
+  honest_at : (side : Side) → (kept_at side (kept_pool new.here) (kept_pool new.there)).disk.honest
+  honest_at Here = honest
+  honest_at There = also
+
+  may_lack : (event : Event) → EventIsShort event old new need largest → MayLack event need largest
+  may_lack (events.Step side command) is =
+      step_lacks side command (held_blocks side old.sends.items) (kept_at side (kept_pool old.here) (kept_pool old.there)) (kept_at side (kept_pool new.here) (kept_pool new.there)) (left_on side new) need largest (honest_at side) is
+  may_lack (events.Pump send receive count) is = (is.short is.fed.0 is.fed.1).shorter
+  may_lack event is = absurd is
+
 same_pool : {D : Type 0} {g : Ghosts D} → (pool : Pool D g) → IsLaterPool pool pool
 same_pool pool = record { faults = omega arith; honest = λ is. is; same = refl }
 
@@ -184,6 +226,7 @@ module _ {D E : Type 0} {g : Ghosts D} {h : Ghosts E} where
     time = refl;
     one_each = refl;
     lost = All-nil (λ answer. answer ≡ Err refusals.DiskFault → Lost engine engine);
+    full = λ honest also. tt;
     here_spares = none_spare Here (kept_pool engine.here);
     there_spares = none_spare There (kept_pool engine.there);
   }
@@ -205,11 +248,12 @@ module _ {D E : Type 0} {g : Ghosts D} {h : Ghosts E} where
               images_of_one old.now There world event (answer_of reply) (kept_pool old.there) (kept_pool new.there) (knows_there.only old.there.io.disk.now) (knows_there.counts new.there.io.disk.now) s.there_moments;
         };
     fits = did.fits;
-    here_later = did.here_later;
-    there_later = did.there_later;
-    time = did.time;
+    here_later = did.later.here;
+    there_later = did.later.there;
+    time = did.later.time;
     one_each = refl;
     lost = let P : Answer → Type 0 = λ answer. answer ≡ Err refusals.DiskFault → Lost old new in All-cons P (answer_of reply) [] (λ is. did.cause (lost_of reply is)) (All-nil P);
+    full = λ honest also. (λ need largest is. may_lack old new need largest honest also event (did.full need largest (full_of reply need largest is)), tt);
     here_spares = one_spares Here event (kept_pool old.here) (kept_pool new.here) (answer_of reply) (λ alive. (did.works (λ is. alive (ap answer_of is))).0) did.here_spares;
     there_spares = one_spares There event (kept_pool old.there) (kept_pool new.there) (answer_of reply) (λ alive. (did.works (λ is. alive (ap answer_of is))).1) did.there_spares;
   }
@@ -248,6 +292,9 @@ module _ {D E : Type 0} {g : Ghosts D} {h : Ghosts E} where
         let P : Answer → Type 0 = λ answer. answer ≡ Err refusals.DiskFault → Lost old new in
         All-append P answers told (All-weaker (λ answer. answer ≡ Err refusals.DiskFault → Lost old mid) P (λ answer was is. lost_later old mid new second.here_later second.there_later (was is)) answers first.lost)
         (All-weaker (λ answer. answer ≡ Err refusals.DiskFault → Lost mid new) P (λ answer was is. lost_earlier old mid new first.here_later first.there_later (was is)) told second.lost);
+    full = λ honest also.
+        Match-append (λ event answer. (need largest : ℕ) → answer ≡ Err (refusals.Full need largest) → MayLack event need largest) events more answers told
+        (first.full (second.here_later.honest honest) (second.there_later.honest also)) (second.full honest also);
     here_spares = spares_then Here (kept_pool old.here) (kept_pool mid.here) (kept_pool new.here) events more answers told second.here_later.honest first.here_spares second.here_spares;
     there_spares = spares_then There (kept_pool old.there) (kept_pool mid.there) (kept_pool new.there) events more answers told second.there_later.honest first.there_spares second.there_spares;
   }

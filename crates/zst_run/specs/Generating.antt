@@ -14,11 +14,14 @@ use Rattle.zst_model.specs.pools.Step.{stepped}
 use Rattle.zst_model.specs.states.AppliedItems.{◌>>=◌}
 use Rattle.zst_gen.specs.Generated.{generated}
 use Rattle.zst_dir.specs.Rows.{Rows}
+use Rattle.zst_image.specs.Commits.{Ready}
 use Rattle.zst_image.specs.Reads.{Reads}
 use Rattle.zst_image.specs.declared.pool_state.PoolState.{PoolState}
 use Rattle.zst_pool.specs.Calls.{IsAtRest}
-use Rattle.zst_pool.specs.Cost.{HasNoRoom, cost_of}
-use Rattle.zst_run.specs.Commands.{IsPoolRefusal, OfStepping, Opens, SaysOfOpening}
+use Rattle.zst_pool.specs.Cost.{Grows, HasNoRoom, cost_of, most_sectors}
+use Rattle.zst_pool.specs.PartialRows.{rows_after}
+use Rattle.zst_sessions.specs.FullPools.{CommandIsShort}
+use Rattle.zst_run.specs.Commands.{IsPoolRefusal, OfStepping, Opens, SaysOfOpening, as_kept}
 use Rattle.zst_run.specs.Receives.{Keeps}
 
 -- commands one after another, each of which is accepted
@@ -80,12 +83,35 @@ GenEnds tight now steps pool here' (Err refusals.NoPool) = ⊥
 GenEnds tight now steps pool here' (Err (refusals.BadVersion number)) = ⊥
 GenEnds tight now steps pool here' (Err refusal) = (stop : StoppedAt tight now steps pool here') × (first_made now steps (stop.count + 1) pool ≡ Err refusal)
 
+-- What a command that was done makes of what a pool keeps, whatever the image is: with data of so many sectors, no more than it may write whatever is there, it takes no more than it costs at most.
+pub record CommandGrew (command : Command) (before after : PoolState) : Type 0 where
+  pub block : ℕ
+  pub most : block ≤ (cost_of command).most
+  pub grows : Grows (most_sectors (cost_of command).cells block (cost_of command).most_list before.dir (length before.body.free)) block before.body after.body
+  pub partials : after.dir.partials ≡ rows_after command before.dir.partials
+
+-- so it grows from what is kept at first to what is kept then, as these commands are done one after another
+abbrev pub GrewAlong : List Command → (first kept : PoolState) → Type 0
+GrewAlong [] first kept = kept ≡ first
+GrewAlong (command ∷ rest) first kept = (next : PoolState) × CommandGrew command first next × GrewAlong rest next kept
+
+-- E24 of one of the commands, whatever the image is: those before it were done, and it found no room by what was kept then, by whose body a commit can still be made
+pub record OneIsShort (steps : ℕ) (first : PoolState) (here' : DiskState) (need largest : ℕ) : Type 0 where
+  pub number : ℕ
+  pub command : Command
+  pub is_next : slice_get (generated steps) number ≡ Some command
+  pub kept : PoolState
+  pub grew : GrewAlong (take number (generated steps)) first kept
+  pub ready : Ready here' kept.body
+  pub left : FreeSectors
+  pub short : CommandIsShort command kept left need largest
+
 -- The commands on a pool that was opened by this body and these rows, whether or not the image reads as a pool: whatever the answer, but for E28, each
--- block still stands that stood in sectors which the body left not free, and E24 comes only where the longest extent is shorter than what is needed.
-pub record GenRan (here here' : DiskState) (answer : Result (List (List ℕ)) Refusal) (body : Body) (rows : Rows) : Type 0 where
+-- block still stands that stood in sectors which the body left not free, and E24 is that of one of them.
+pub record GenRan (steps : ℕ) (here here' : DiskState) (answer : Result (List (List ℕ)) Refusal) (body : Body) (rows : Rows) : Type 0 where
   pub opens : Opens here body rows
   pub stood : ¬ (answer ≡ Err refusals.DiskFault) → KeepsBlocks here.seen (free_by body) here'.seen (free_by body)
-  pub full : (need largest : ℕ) → answer ≡ Err (refusals.Full need largest) → largest < need
+  pub full : (need largest : ℕ) → answer ≡ Err (refusals.Full need largest) → OneIsShort steps (as_kept body rows) here' need largest
 
 -- The commands that make content of so many objects, on the pool of an image: at every moment, and in the end, each image stood before them, or reads as
 -- what is kept of the pool that some first ones make, by tight object sets where it stood so.
@@ -93,6 +119,6 @@ pub record Generating (now steps : ℕ) (here here' : DiskState) (answer : Resul
   pub moments : (tight : Bool) (pool : Pool) → here'.honest → Reads tight pool here.seen → Leaves here here' (OldOrMade tight here now steps pool)
   pub images : (tight : Bool) (pool : Pool) → here'.honest → Reads tight pool here.seen → (c : List ℕ) → here'.images c → OldOrMade tight here now steps pool c
   pub ends : (tight : Bool) (pool : Pool) → here'.honest → Reads tight pool here.seen → GenEnds tight now steps pool here' answer
-  pub opened : here'.honest → SaysOfOpening (OnlyReads here here') here (GenRan here here' answer) answer
+  pub opened : here'.honest → SaysOfOpening (OnlyReads here here') here (GenRan steps here here' answer) answer
   pub refused : IfErr answer (IsPoolRefusal OfStepping here here')
   pub later : here.faults ≤ here'.faults

@@ -1,10 +1,14 @@
 -- The commands that make content, one after another on a pool that runs.
-use Rattle.std.specs.Prelude.{ℕ, ◌+◌, ◌≡◌, ◌≢◌, ◌<◌, Bool, false, IfErr, OnOk, List, [], ◌∷◌, Result, Ok, Err}
+use Rattle.std.specs.Prelude.{ℕ, ◌+◌, ◌≡◌, ◌≢◌, Bool, false, IfErr, OnOk, List, [], ◌∷◌, take, Some, Result, Ok, Err}
+use Rattle.std.specs.List.{slice_get}
 use Rattle.zst_outside.specs.Causes.{Rose}
 use Rattle.zst_outside.specs.Images.{DiskState, Leaves}
 use Rattle.zst_outside.specs.declared.disk.Disk.{Ghosts}
+use Rattle.zst_space.specs.FreeSectors.{FreeSectors}
 use Rattle.zst_block.specs.Blocks.{KeepsBlocks}
 use Rattle.zst_block.specs.IoStates.{IsHonest, disk_of, io_of}
+use Rattle.zst_gen.specs.Generated.{generated}
+use Rattle.zst_model.specs.declared.pools.command.Command.{Command}
 use Rattle.zst_model.specs.declared.refusals.refusal.Refusal.{Refusal}
 use Rattle.zst_model.specs.declared.refusals.refusal.Refusal.TheVariants as refusals
 use Rattle.zst_model.specs.pools.Pool.{Pool}
@@ -16,7 +20,8 @@ use Rattle.zst_pool.specs.Faults.{pool_refusal}
 use Rattle.zst_pool.specs.declared.fault.PoolFault.{PoolFault}
 use Rattle.zst_pool.specs.declared.fault.PoolFault.TheVariants as faults
 use Rattle.zst_pool.specs.declared.pool.Pool.{Pool as OpenedPool}
-use Rattle.zst_run.specs.Generating.{GenEnds, ReadsMade, first_made, gen_line}
+use Rattle.zst_sessions.specs.FullPools.{CommandIsShort}
+use Rattle.zst_run.specs.Generating.{CommandGrew, GenEnds, GrewAlong, OneIsShort, ReadsMade, first_made, gen_line}
 use Rattle.zst_run.specs.LaterDisks.{IsLater}
 
 -- the line that tells the pool's number, or the refusal
@@ -51,7 +56,12 @@ pub record IsStepRefusal (old new : DiskState) (refusal : Refusal) : Type 0 wher
   pub one : (fault : PoolFault) × (refusal ≡ pool_refusal fault)
   pub alive : refusal ≢ refusals.Failed
   pub cause : refusal ≡ refusals.DiskFault → Rose old.faults new.faults
-  pub full : (need largest : ℕ) → refusal ≡ refusals.Full need largest → largest < need
+
+-- What the command with this number takes of the free sectors, whatever the image is: where it was done no more than it costs at most; where it found no room it was short of them, and what was kept stays.
+pub record NextSpends (steps number : ℕ) (old new : PoolState) (left : FreeSectors) (here' : DiskState) (result : Result (Unit {0}) PoolFault) : Type 0 where
+  pub grew : OnOk result ((command : Command) × (slice_get (generated steps) number ≡ Some command) × CommandGrew command old new)
+  pub short : (need largest : ℕ) → result ≡ Err (faults.Full need largest)
+      → (command : Command) × (slice_get (generated steps) number ≡ Some command) × CommandIsShort command old left need largest × Ready here' old.body
 
 module _ {D : Type 0} {g : Ghosts D} where
   -- the command with this number, on a pool that the commands before it made
@@ -62,6 +72,7 @@ module _ {D : Type 0} {g : Ghosts D} where
     pub ready : OnOk result (Ready (disk_of new.io) new.kept.body)
     -- unless the disk failed, the blocks that were there still are, over the sectors that the latest body then leaves free
     pub blocks : ¬ (result ≡ Err faults.DiskFault) → KeepsBlocks (disk_of old.io).seen (free_by old.kept.body) (disk_of new.io).seen (free_by new.kept.body)
+    pub spends : NextSpends steps number old.kept new.kept new.io.space (disk_of new.io) result
     pub why : IfErr result (λ fault. IsStepRefusal (disk_of old.io) (disk_of new.io) (pool_refusal fault))
     pub later : IsLater (io_of old.io) (io_of new.io)
 
@@ -72,11 +83,13 @@ module _ {D : Type 0} {g : Ghosts D} where
     pub works : pool.io.failed ≡ false
     pub ready : Ready (disk_of pool.io) pool.kept.body
     pub blocks : KeepsBlocks (disk_of first.io).seen (free_by first.kept.body) (disk_of pool.io).seen (free_by pool.kept.body)
+    pub grew : GrewAlong (take count (generated steps)) first.kept pool.kept
     pub later : IsLater (io_of first.io) (io_of pool.io)
 
   -- all commands ran, up to the first that is refused
   pub record RunsAll (now steps : ℕ) (old new : OpenedPool D g) (result : Result ℕ Refusal) : Type 0 where
     pub says : (tight : Bool) (pool : Pool) → IsHonest new.io → IsAtRest tight (disk_of old.io) old.kept pool → AllDid tight now steps pool (disk_of old.io) (disk_of new.io) (lines_of steps result)
     pub stood : ¬ (result ≡ Err refusals.DiskFault) → KeepsBlocks (disk_of old.io).seen (free_by old.kept.body) (disk_of new.io).seen (free_by old.kept.body)
+    pub full : (need largest : ℕ) → result ≡ Err (refusals.Full need largest) → OneIsShort steps old.kept (disk_of new.io) need largest
     pub why : IfErr result (IsStepRefusal (disk_of old.io) (disk_of new.io))
     pub later : IsLater (io_of old.io) (io_of new.io)

@@ -194,7 +194,6 @@ pub record IsFeedRefusal (old now : DiskState) (refusal : Refusal) : Type 0 wher
   pub one : (fault : RecvFault) × IsFeedFault fault × (refusal ≡ recv_refusal fault)
   pub alive : refusal ≡ refusals.Failed → ⊥
   pub cause : refusal ≡ refusals.DiskFault → Rose old.faults now.faults
-  pub full : (need largest : ℕ) → refusal ≡ refusals.Full need largest → largest < need
 
 -- a refusal tells a damaged block
 abbrev pub is_damaged : Refusal → Bool

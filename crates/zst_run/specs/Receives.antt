@@ -200,13 +200,11 @@ pub record IsDamagedReceive (image : List ℕ) (size : ℕ) (body : Body) (rows 
   pub made : MadeBy pieces image size (free_by body) rows ask text seen left set
   pub damaged : apply_damage (SparesTaken left seen) size set sector stated found
 
--- a receive of what is asked, by these pieces, into a pool that was opened by this body and these rows, whether or not the image reads as a pool: E24 comes only
--- where the longest extent is shorter than what is needed; and whatever it answers, but for E28, each block still stands that stood in sectors which the body
--- left not free
+-- a receive of what is asked, by these pieces, into a pool that was opened by this body and these rows, whether or not the image reads as a pool: whatever it
+-- answers, but for E28, each block still stands that stood in sectors which the body left not free
 pub record ReceiveRan (ask : RecvAsk) (pieces : List (List ℕ)) (here here' : DiskState) (answer : Result (List (List ℕ)) Refusal) (body : Body) (rows : Rows) : Type 0 where
   pub opens : Opens here body rows
   pub stood : ¬ (answer ≡ Err refusals.DiskFault) → KeepsBlocks here.seen (free_by body) here'.seen (free_by body)
-  pub full : (need largest : ℕ) → answer ≡ Err (refusals.Full need largest) → largest < need
   pub planned : SaysOfPlan (kept_rows rows) ask (concat pieces) answer
   pub damaged : (sector : ℕ) (stated found : List ℕ) → answer ≡ Err (refusals.Damaged sector stated found) → IsDamagedReceive here.seen here.size body (kept_rows rows) ask (concat pieces) sector stated found
 

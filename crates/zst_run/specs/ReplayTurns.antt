@@ -30,7 +30,7 @@ use Rattle.zst_sessions.specs.declared.engine.Engine.{Engine}
 use Rattle.zst_sessions.specs.declared.event_reply.EventReply.{EventReply}
 use Rattle.zst_sessions.specs.declared.open_sessions.OpenReceive as kept_receives
 use Rattle.zst_sessions.specs.declared.open_sessions.OpenSend as kept_sends
-use Rattle.zst_run.specs.Replays.{GoOn, NoneFails, NoneReclaims, FindsItsExtents, StoodOrReads, RunsScript, WritesReplies, finds_no_memory, replies_text, reply_of}
+use Rattle.zst_run.specs.Replays.{EachMayLack, GoOn, NoneFails, NoneReclaims, FindsItsExtents, StoodOrReads, RunsScript, WritesReplies, finds_no_memory, replies_text, reply_of}
 use Rattle.zst_run.specs.Replies.{reply_text}
 use Rattle.zst_run.specs.declared.replay.Behind.{Behind}
 use Rattle.zst_run.specs.declared.replay.Behind.TheVariants as behind
@@ -74,6 +74,7 @@ module _ {D E : Type 0} {g : Ghosts D} {h : Ghosts E} where
     pub time : new.now ≡ old.now
     pub one_each : length answers ≡ length events
     pub lost : All (λ answer. answer ≡ Err refusals.DiskFault → Lost old new) answers
+    pub full : (disk_of new.here.io).honest → (disk_of new.there.io).honest → EachMayLack events answers
     pub here_spares : SparesAll Here (kept_pool old.here) (kept_pool new.here) events answers
     pub there_spares : SparesAll There (kept_pool old.there) (kept_pool new.there) events answers
 

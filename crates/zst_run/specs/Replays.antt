@@ -1,10 +1,12 @@
 -- What a replay runs of a script, what it writes, and what it leaves of its two images.
-use Rattle.std.specs.Prelude.{ℕ, ◌≡◌, ◌⊎◌, ◌≤◌, Bool, true, false, IsTrue, All, Contains, List, [], ◌∷◌, ◌++◌, length, take, flat_map, nat_le, if◌then◌else◌, Result, Ok, Err}
+use Rattle.std.specs.Prelude.{ℕ, ◌≡◌, ◌⊎◌, ◌<◌, ◌≤◌, Bool, true, false, IsTrue, All, Contains, List, [], ◌∷◌, ◌++◌, length, take, flat_map, nat_le, if◌then◌else◌, Result, Ok, Err}
 use Rattle.zst_outside.specs.Causes.{Rose}
 use Rattle.zst_outside.specs.Images.{DiskState, Leaves, OnlyReads}
 use Rattle.zst_outside.specs.Printing.{Printed, Wrote}
 use Rattle.zst_outside.specs.States.{SourceState, SinkState, Gave, HandedOn}
 use Rattle.zst_block.specs.Blocks.{KeepsBlocks}
+use Rattle.zst_block.specs.IoCalls.{IsBlockLength}
+use Rattle.zst_dir.specs.RowNames.{Match}
 use Rattle.zst_image.specs.Bodies.{Body, free_by}
 use Rattle.zst_image.specs.Commits.{HasItsExtents}
 use Rattle.zst_image.specs.Faults.{open_refusal}
@@ -19,10 +21,12 @@ use Rattle.zst_model.specs.declared.refusals.refusal.Refusal.{Refusal}
 use Rattle.zst_model.specs.declared.refusals.refusal.Refusal.TheVariants as refusals
 use Rattle.zst_model.specs.pools.KeptPool.{kept_of}
 use Rattle.zst_model.specs.pools.Pool.{Pool}
+use Rattle.zst_model.specs.pools.Step.{commits}
+use Rattle.zst_pool.specs.Cost.{cost_of}
 use Rattle.zst_script.specs.ScriptLines.{EndIn}
 use Rattle.zst_script.specs.Scripts.{AllRead, IsScript, Misread, Says, TooLong, ended_lines, lines_of, script_limit}
 use Rattle.zst_script.specs.declared.event.Event.{Event}
-use Rattle.zst_script.specs.declared.event.Event.TheVariants.{Reopen, Step}
+use Rattle.zst_script.specs.declared.event.Event.TheVariants.{Pump, Reopen, Step}
 use Rattle.zst_script.specs.declared.event.Side.{Side}
 use Rattle.zst_script.specs.declared.event.Side.TheVariants.{Here, There}
 use Rattle.zst_sessions.specs.Moves.{Answer}
@@ -143,6 +147,23 @@ NoneReclaims side events = ¬ Contains events (Step side commands.Reclaim)
 abbrev pub Stood : (here here' : DiskState) → Body → Side → List Event → List Answer → Type 0
 Stood here here' body side events answers = here'.honest → NoneFails answers → NoneReclaims side events → FindsItsExtents side events here body → KeepsBlocks here.seen (free_by body) here'.seen (free_by body)
 
+-- E24 of an event tells this, whatever the images are: the longest extent was shorter than what was needed, by a command that commits, of 16 sectors or of its data, which has no more than it
+-- may write whatever is there; or by a pump.
+abbrev pub MayLack : Event → (need largest : ℕ) → Type 0
+MayLack (Step side command) need largest = (largest < need) × (commits command ≡ true) × ((block : ℕ) × (block ≤ (cost_of command).most) × IsBlockLength block need)
+MayLack (Pump send receive count) need largest = largest < need
+MayLack event need largest = ⊥
+
+-- so each of them answers
+abbrev pub EachMayLack : List Event → List Answer → Type 0
+EachMayLack events answers = Match (λ event answer. (need largest : ℕ) → answer ≡ Err (refusals.Full need largest) → MayLack event need largest) events answers
+
+-- Each event has its answer: E28 only where a disk failed meanwhile, and E24 only of a command that commits or of a pump.
+pub record SaysOfAnswers (here here' there there' : DiskState) (events : List Event) (answers : List Answer) : Type 0 where
+  pub one_each : length answers ≡ length events
+  pub lost : All (λ answer. answer ≡ Err refusals.DiskFault → Rose here.faults here'.faults ⊎ Rose there.faults there'.faults) answers
+  pub full : here'.honest → there'.honest → EachMayLack events answers
+
 -- ---- a replay
 
 -- Nothing is run: no memory was left at first, or an image can't be opened as a pool (E25 to E28, E32): the first one, or the second where the first one can. Then both are
@@ -157,7 +178,7 @@ pub record IsUnopened (here here' there there' : DiskState) (input input' : Sour
   pub there_reads : OnlyReads there there'
   pub streams : (input' ≡ input) × (out' ≡ out)
 
--- Both are opened, and the events of the script are run, one after another, each with its answer. An event answers E28 only where a disk failed meanwhile; where none does, what
+-- Both are opened, and the events of the script are run, one after another, each with its answer. Where no event answers E28, what
 -- stood in sectors that the first body of an image left not free still stands, unless an event reclaims them, if an event opened it again where that body's extents stood in such sectors. Of disks that tell
 -- their images, and that read as pools by tight object sets, the events and their answers are a run of worlds from these pools on.
 pub record IsReplayed (now : ℕ) (here here' : DiskState) (tells : Bool) (there there' : DiskState) (others : Bool) (input input' : SourceState) (out out' : SinkState) (result : Result (Unit {0}) Refusal) : Type 0 where
@@ -165,7 +186,6 @@ pub record IsReplayed (now : ℕ) (here here' : DiskState) (tells : Bool) (there
   pub events : List Event
   pub answers : List Answer
   pub consumed : Gave input input' text
-  pub one_each : length answers ≡ length events
   pub kept : PoolState
   pub other : PoolState
   pub opens : here'.honest → there'.honest → OpenAnswers here (Ok kept) × OpenAnswers there (Ok other)
@@ -173,7 +193,7 @@ pub record IsReplayed (now : ℕ) (here here' : DiskState) (tells : Bool) (there
   pub there_stood : Stood there there' other.body There events answers
   pub script : RunsScript text events answers input input' result
   pub writes : WritesReplies answers out out' result
-  pub lost : All (λ answer. answer ≡ Err refusals.DiskFault → Rose here.faults here'.faults ⊎ Rose there.faults there'.faults) answers
+  pub says : SaysOfAnswers here here' there there' events answers
   pub pools : (pool other : Pool) → here'.honest → there'.honest → IsTrue tells → IsTrue others → Reads true pool here.seen → Reads true other there.seen
       → RunsOver now here here' there there' (opened pool other) events answers
 

@@ -188,7 +188,7 @@ module _ (fitting : FittingReceive) (own : List ℕ → Type 0) where
   fits_on : (old new : Kept) → LeavesRows own old new → (one : kept_receives.OpenReceive) → ¬ (own (target_of one)) → ReceiveFits old.state.dir one → ReceiveFits new.state.dir one
   fits_on old new leaves one other is =
       let row = row_on old.state.dir new.state.dir (ask_of one.recv).target (stage_of one.recv) (leaves.rows (target_of one) other) is.row in
-      record { live = is.live; fits = fitting old.state.dir new.state.dir one.recv leaves.lawful row is.fits; row = row }
+      record { live = is.live; fits = fitting old.state.dir new.state.dir one.recv leaves.lawful row is.fits; row = row; fed = is.fed }
 
   -- a receive on either
   pub fits_beside : (side at : Side) (here there new : Kept) → LeavesRows own (kept_at side here there) new → (one : kept_receives.OpenReceive) → (at ≡ side → ¬ (own (target_of one)))

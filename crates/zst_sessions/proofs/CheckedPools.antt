@@ -27,7 +27,7 @@ use Rattle.zst_script.specs.declared.event.Event.TheVariants as events
 use Rattle.zst_script.specs.declared.event.Side.{Side}
 use Rattle.zst_sessions.proofs.LookedPools.{Looked, LookedAt, StepsTo, fits_still, honest_on, mark_on, open_on, rest_on, same_lists}
 use Rattle.zst_sessions.proofs.OpenedSends.{both_stay}
-use Rattle.zst_sessions.proofs.PoolRefusals.{fault_of_damage, fault_of_disk, fault_of_failed}
+use Rattle.zst_sessions.proofs.PoolRefusals.{fault_of_damage, fault_of_disk, fault_of_failed, fault_of_full}
 use Rattle.zst_sessions.proofs.ReadEvents.{loses, stays}
 use Rattle.zst_sessions.proofs.SparedBlocks.{read_spares}
 use Rattle.zst_sessions.specs.CheckReports.{TellsCheck}
@@ -63,7 +63,7 @@ pub record SaysOfAny (kept : Kept) (honest : Type 0) (answer : Result Report Poo
 
 -- ---- answers
 
--- a check's answer is E28 or E31 only as that of the pool
+-- a check's answer is E24, E28 or E31 only as that of the pool
 lost_as : (told : Result Report PoolFault) → report_told told ≡ Err refusals.DiskFault → told ≡ Err faults.DiskFault
 lost_as (Ok report) is = absurd (cc is)
 lost_as (Err fault) is = let same : pool_refusal fault ≡ refusals.DiskFault = cc is in ap (λ (f : PoolFault). Err f) (fault_of_disk fault same)
@@ -71,6 +71,10 @@ lost_as (Err fault) is = let same : pool_refusal fault ≡ refusals.DiskFault = 
 failed_as : (told : Result Report PoolFault) → report_told told ≡ Err refusals.Failed → told ≡ Err faults.Failed
 failed_as (Ok report) is = absurd (cc is)
 failed_as (Err fault) is = let same : pool_refusal fault ≡ refusals.Failed = cc is in ap (λ (f : PoolFault). Err f) (fault_of_failed fault same)
+
+full_as : (told : Result Report PoolFault) (need largest : ℕ) → report_told told ≡ Err (refusals.Full need largest) → told ≡ Err (faults.Full need largest)
+full_as (Ok report) need largest is = absurd (cc is)
+full_as (Err fault) need largest is = let same : pool_refusal fault ≡ refusals.Full need largest = cc is in ap (λ (f : PoolFault). Err f) (fault_of_full fault need largest same)
 
 -- whether the disk failed in a check, in both words
 fails_as : (told : Result Report PoolFault) → is_disk_fault told ≡ fails (stop_of told)
@@ -87,7 +91,7 @@ fails_as (Err faults.OutOfMemory) = refl
 -- ---- the pool
 
 module _ {D : Type 0} {g : Ghosts D} (old new : Pool D g) (told : Result Report PoolFault) (answers : OnlyAnswers old new) (settles : Settles old new told)
-    (open_still : old.io.failed ≡ false → ¬ (told ≡ Err faults.Failed)) where
+    (open_still : old.io.failed ≡ false → ¬ (told ≡ Err faults.Failed)) (never_full : (need largest : ℕ) → ¬ (told ≡ Err (faults.Full need largest))) where
   mark_is : new.io.failed ≡ (old.io.failed || fails (stop_of told))
   mark_is = settles.failed ∙ ap (λ (b : Bool). old.io.failed || b) (fails_as told)
 
@@ -106,6 +110,7 @@ module _ {D : Type 0} {g : Ghosts D} (old new : Pool D g) (told : Result Report 
     had_failed = settles.failed_pool;
     open_still = open_still;
     cause = settles.cause.fault;
+    never_full = never_full;
   }
     where
       first : (a b : Bool) → (a || b) ≡ false → a ≡ false
@@ -189,9 +194,7 @@ module _ {D E : Type 0} {g : Ghosts D} {h : Ghosts E} (side : Side) (old new : E
         same_lists (events.Check side) old new world (answer_of (report_told told)) old.sends.items new.sends.items old.receives.items new.receives.items look.sends look.receives
         (check_world world stands kept.failed refl (λ works. tells (at_side side world).pool (honest_on side new honest also) works (rest_on side old world stands works)));
     fits = fits_still side old new told look fits;
-    here_later = look.here_later;
-    there_later = look.there_later;
-    time = look.time;
+    later = look.later;
     cause = λ is. look.cause (lost_as told is);
     open_still = λ works also is. look.open_still (open_on side old works also) (failed_as told is);
     checks = λ of running is.
@@ -200,4 +203,5 @@ module _ {D E : Type 0} {g : Ghosts D} {h : Ghosts E} (side : Side) (old new : E
     works = λ alive. look.works (λ is. alive (ap report_told is));
     here_spares = λ no_reclaim. read_spares (kept_pool old.here) (kept_pool new.here) look.here;
     there_spares = λ no_reclaim. read_spares (kept_pool old.there) (kept_pool new.there) look.there;
+    full = λ need largest is. look.never_full need largest (full_as told need largest is);
   }

@@ -92,15 +92,14 @@ module _ {D E : Type 0} {g : Ghosts D} {h : Ghosts E} (old : Engine D E g h) (id
       };
       room = fits.room;
     };
-    here_later = stays_later old.here;
-    there_later = stays_later old.there;
-    time = refl;
+    later = record { here = stays_later old.here; there = stays_later old.there; time = refl };
     cause = λ is. absurd (cc);
     open_still = λ works also is. absurd (cc);
     checks = λ of running is honest. absurd (cc is);
     works = λ alive. (λ works. works, λ works. works);
     here_spares = λ no_reclaim. none_spares (kept_pool old.here);
     there_spares = λ no_reclaim. none_spares (kept_pool old.there);
+    full = λ need largest is. absurd (cc);
   })
 
   -- no send has the id
@@ -110,4 +109,4 @@ module _ {D E : Type 0} {g : Ghosts D} {h : Ghosts E} (old : Engine D E g h) (id
       (λ world stands.
       let way = missed_close old.now id world (no_send (kept_pool old.here) (kept_pool old.there) old.sends.items world id stands.send_stands none) in
       record { answer = sym (ap (λ (m : Moved). m.answer) way); stays = sym (ap (λ (m : Moved). m.world) way) })
-      (λ is. absurd (cc)) (λ works also is. absurd (cc))
+      (λ is. absurd (cc)) (λ works also is. absurd (cc)) (λ need largest is. absurd (cc))

@@ -210,7 +210,7 @@ module _ {D E : Type 0} {g : Ghosts D} {h : Ghosts E} (old : Engine D E g h) (id
       (none_matched (λ one receive. ReceiveStandsOn true (kept_at receive.side (kept_pool old.here) (kept_pool old.there)) (at_side receive.side world).pool one receive)
       (λ (one : kept_receives.OpenReceive). one.id) (λ (receive : OpenReceive). receive.id) (λ one receive is. is.id) id old.receives.items world.receives stands.receive_stands none) in
       record { answer = sym (ap (λ (m : Moved). m.answer) way); stays = sym (ap (λ (m : Moved). m.world) way) })
-      (λ is. absurd (cc)) (λ works also is. absurd (cc))
+      (λ is. absurd (cc)) (λ works also is. absurd (cc)) (λ need largest is. absurd (cc))
 
   module _ (sends_go : SendsGoOn) (go_on : ReceivesGoOn) (fitting : FittingReceive) (keep : MovesKeepWorlds) (rise : NumbersRise) (new : Engine D E g h) (place : ℕ) (one : kept_receives.OpenReceive)
       (is : position (λ r. r.id == id) old.receives.items ≡ Some place) (is_there : get_or old.receives.items place one ≡ one) (taken : new.receives.items ≡ remove old.receives.items place) where
@@ -228,15 +228,14 @@ module _ {D E : Type 0} {g : Ghosts D} {h : Ghosts E} (old : Engine D E g h) (id
             (cut_fit fitting Here (kept_pool old.here) (kept_pool old.there) (kept_pool new.here) old.sends.items old.receives.items place one below is_there on ends fits.sessions);
         room = fits.room;
       };
-      here_later = same_later old.here new.here io;
-      there_later = stays_later old.there;
-      time = refl;
+      later = record { here = same_later old.here new.here io; there = stays_later old.there; time = refl };
       cause = λ told. absurd (cc);
       open_still = λ works also told. absurd (cc);
       checks = λ of running which honest. absurd (cc which);
       works = λ alive. (λ works. ends.failed ∙ works, λ works. works);
       here_spares = λ no_reclaim. kept_spares (λ target. target ≡ (ask_of one.recv).target) (kept_pool old.here) (kept_pool new.here) ends.keeps;
       there_spares = λ no_reclaim. none_spares (kept_pool old.there);
+      full = λ need largest told. absurd (cc);
     })
 
     pub cut_there : new ≡ record old { there = new.there; receives = new.receives } → one.side ≡ There → EndsReceive (kept_pool old.there) (kept_pool new.there) one.recv → new.there.io ≡ old.there.io
@@ -250,13 +249,12 @@ module _ {D E : Type 0} {g : Ghosts D} {h : Ghosts E} (old : Engine D E g h) (id
             (cut_fit fitting There (kept_pool old.here) (kept_pool old.there) (kept_pool new.there) old.sends.items old.receives.items place one below is_there on ends fits.sessions);
         room = fits.room;
       };
-      here_later = stays_later old.here;
-      there_later = same_later old.there new.there io;
-      time = refl;
+      later = record { here = stays_later old.here; there = same_later old.there new.there io; time = refl };
       cause = λ told. absurd (cc);
       open_still = λ works also told. absurd (cc);
       checks = λ of running which honest. absurd (cc which);
       works = λ alive. (λ works. works, λ works. ends.failed ∙ works);
       here_spares = λ no_reclaim. none_spares (kept_pool old.here);
       there_spares = λ no_reclaim. kept_spares (λ target. target ≡ (ask_of one.recv).target) (kept_pool old.there) (kept_pool new.there) ends.keeps;
+      full = λ need largest told. absurd (cc);
     })

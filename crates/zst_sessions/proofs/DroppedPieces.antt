@@ -112,15 +112,14 @@ module _ {D E : Type 0} {g : Ghosts D} {h : Ghosts E} (old : Engine D E g h) (id
         drop_steps old.now id count world (kept_pool old.here) (kept_pool old.there) (kept_pool new.here) (kept_pool new.there) new.sends.items new.receives.items new.room.items result
         (takes.takes id at world honest also tells told stands);
     fits = takes.fits;
-    here_later = takes.here_later;
-    there_later = takes.there_later;
-    time = takes.time;
+    later = takes.later;
     cause = λ is. takes.cause (dropped_err result refusals.DiskFault is);
     open_still = λ works also is. takes.open_still works also (dropped_err result refusals.Failed is);
     checks = λ of running is honest. absurd (cc is);
     works = λ alive. takes.works (λ is. alive (ap dropped is));
     here_spares = λ no_reclaim. read_spares (kept_pool old.here) (kept_pool new.here) takes.here_read;
     there_spares = λ no_reclaim. read_spares (kept_pool old.there) (kept_pool new.there) takes.there_read;
+    full = λ need largest is. takes.never_full need largest (dropped_err result (refusals.Full need largest) is);
   }
 
   -- no send has the id
@@ -130,4 +129,4 @@ module _ {D E : Type 0} {g : Ghosts D} {h : Ghosts E} (old : Engine D E g h) (id
       (λ world stands.
       let way = missed_drop old.now id count world (no_send (kept_pool old.here) (kept_pool old.there) old.sends.items world id stands.send_stands none) in
       record { answer = sym (ap (λ (m : Moved). m.answer) way); stays = sym (ap (λ (m : Moved). m.world) way) })
-      (λ is. absurd (cc)) (λ works also is. absurd (cc))
+      (λ is. absurd (cc)) (λ works also is. absurd (cc)) (λ need largest is. absurd (cc))

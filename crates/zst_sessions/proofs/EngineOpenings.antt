@@ -37,7 +37,7 @@ use Rattle.zst_sessions.proofs.LookedPools.{Looked, StepsTo, fits_still, honest_
 use Rattle.zst_sessions.proofs.OpenedReceives.{added_receive, awaited, begun_fits, lacks_memory, moves_so, unfed}
 use Rattle.zst_sessions.proofs.OpenedSends.{OpensSend, added_begin, both_stay, refused_begin}
 use Rattle.zst_sessions.proofs.OtherEvents.{IsOther}
-use Rattle.zst_sessions.proofs.PoolRefusals.{fault_of_disk, fault_of_failed}
+use Rattle.zst_sessions.proofs.PoolRefusals.{fault_of_disk, fault_of_failed, fault_of_full}
 use Rattle.zst_sessions.proofs.ReadEvents.{as_defined, or_refused, stays}
 use Rattle.zst_sessions.proofs.ReadPools.{read_none}
 use Rattle.zst_sessions.proofs.SparedBlocks.{none_spares, read_spares}
@@ -62,38 +62,38 @@ use Rattle.zst_sessions.specs.declared.openings.Begun.{Begun}
 
 -- a send is refused for its id or for the count of sends alone
 id_refusal : (id : ℕ) (sends : List kept_sends.OpenSend) (receives : List kept_receives.OpenReceive) (refusal : Refusal) → send_refusal id sends receives ≡ Some refusal
-    → (¬ (refusal ≡ refusals.DiskFault)) × (¬ (refusal ≡ refusals.Failed))
+    → (¬ (refusal ≡ refusals.DiskFault)) × (¬ (refusal ≡ refusals.Failed)) × ((need largest : ℕ) → ¬ (refusal ≡ refusals.Full need largest))
 id_refusal id sends receives refusal = go (is_coded_used id sends receives) (nat_lt (length sends) most_sends)
   where
     go : (used few : Bool) → cond used (Some (busy_session id)) (cond few None (Some (refusals.Limit quantities.Sends most_sends))) ≡ Some refusal
-        → (¬ (refusal ≡ refusals.DiskFault)) × (¬ (refusal ≡ refusals.Failed))
-    go true few is = (λ same. absurd (cc), λ same. absurd (cc))
+        → (¬ (refusal ≡ refusals.DiskFault)) × (¬ (refusal ≡ refusals.Failed)) × ((need largest : ℕ) → ¬ (refusal ≡ refusals.Full need largest))
+    go true few is = (λ same. absurd (cc), λ same. absurd (cc), λ need largest same. absurd (cc))
     go false true is = absurd (cc)
-    go false false is = (λ same. absurd (cc), λ same. absurd (cc))
+    go false false is = (λ same. absurd (cc), λ same. absurd (cc), λ need largest same. absurd (cc))
 
--- so a send that comes behind the others, or doesn't, loses no disk and finds none lost
+-- so a send that comes behind the others, or doesn't, loses no disk, and finds none lost and none full
 added_no_fault : (one : kept_sends.OpenSend) (number : ℕ) (receives : List kept_receives.OpenReceive) (old new : List kept_sends.OpenSend) (result : Result EventReply Refusal) → AddsSend one number receives old new result
-    → (¬ (result ≡ Err refusals.DiskFault)) × (¬ (result ≡ Err refusals.Failed))
+    → (¬ (result ≡ Err refusals.DiskFault)) × (¬ (result ≡ Err refusals.Failed)) × ((need largest : ℕ) → ¬ (result ≡ Err (refusals.Full need largest)))
 added_no_fault one number receives old new result (IsRefused refusal why is same) =
     let no = id_refusal one.id old receives refusal why in
-    (λ fault. no.0 (let e : refusal ≡ refusals.DiskFault = cc in e), λ fault. no.1 (let e : refusal ≡ refusals.Failed = cc in e))
-added_no_fault one number receives old new result (HasNoMemory is same) = (λ fault. absurd (cc), λ fault. absurd (cc))
-added_no_fault one number receives old new result (Adds why is same) = (λ fault. absurd (cc), λ fault. absurd (cc))
+    (λ fault. no.0 (let e : refusal ≡ refusals.DiskFault = cc in e), λ fault. no.1 (let e : refusal ≡ refusals.Failed = cc in e), λ need largest full. no.2 need largest (let e : refusal ≡ refusals.Full need largest = cc in e))
+added_no_fault one number receives old new result (HasNoMemory is same) = (λ fault. absurd (cc), λ fault. absurd (cc), λ need largest full. absurd (cc))
+added_no_fault one number receives old new result (Adds why is same) = (λ fault. absurd (cc), λ fault. absurd (cc), λ need largest full. absurd (cc))
 
 received_no_fault : (one : kept_receives.OpenReceive) (number : ℕ) (old new : List kept_receives.OpenReceive) (result : Result EventReply Refusal) → AddsReceive one number old new result
-    → (¬ (result ≡ Err refusals.DiskFault)) × (¬ (result ≡ Err refusals.Failed))
-received_no_fault one number old new result (LacksMemory is same) = (λ fault. absurd (cc), λ fault. absurd (cc))
-received_no_fault one number old new result (Admits is same) = (λ fault. absurd (cc), λ fault. absurd (cc))
+    → (¬ (result ≡ Err refusals.DiskFault)) × (¬ (result ≡ Err refusals.Failed)) × ((need largest : ℕ) → ¬ (result ≡ Err (refusals.Full need largest)))
+received_no_fault one number old new result (LacksMemory is same) = (λ fault. absurd (cc), λ fault. absurd (cc), λ need largest full. absurd (cc))
+received_no_fault one number old new result (Admits is same) = (λ fault. absurd (cc), λ fault. absurd (cc), λ need largest full. absurd (cc))
 
--- a receive is refused as E31 only where its pool had failed, and never as E28
-way_refusal : (failed : Bool) (way : Option ℕ) (count : ℕ) (refusal : Refusal) → receive_refusal failed way count ≡ Some refusal → (¬ (refusal ≡ refusals.DiskFault)) × (failed ≡ false → ¬ (refusal ≡ refusals.Failed))
-way_refusal true way count refusal is = (λ same. absurd (cc), λ works. absurd (cc))
-way_refusal false (Some other) count refusal is = (λ same. absurd (cc), λ works same. absurd (cc))
+-- a receive is refused as E31 only where its pool had failed, and never as E24 or E28
+way_refusal : (failed : Bool) (way : Option ℕ) (count : ℕ) (refusal : Refusal) → receive_refusal failed way count ≡ Some refusal → (¬ (refusal ≡ refusals.DiskFault)) × (failed ≡ false → ¬ (refusal ≡ refusals.Failed)) × ((need largest : ℕ) → ¬ (refusal ≡ refusals.Full need largest))
+way_refusal true way count refusal is = (λ same. absurd (cc), λ works. absurd (cc), λ need largest same. absurd (cc))
+way_refusal false (Some other) count refusal is = (λ same. absurd (cc), λ works same. absurd (cc), λ need largest same. absurd (cc))
 way_refusal false None count refusal is = go (nat_lt count most_receives) is
   where
-    go : (few : Bool) → cond few None (Some (refusals.Limit quantities.Receives most_receives)) ≡ Some refusal → (¬ (refusal ≡ refusals.DiskFault)) × (false ≡ false → ¬ (refusal ≡ refusals.Failed))
+    go : (few : Bool) → cond few None (Some (refusals.Limit quantities.Receives most_receives)) ≡ Some refusal → (¬ (refusal ≡ refusals.DiskFault)) × (false ≡ false → ¬ (refusal ≡ refusals.Failed)) × ((need largest : ℕ) → ¬ (refusal ≡ refusals.Full need largest))
     go true is = absurd (cc)
-    go false is = (λ same. absurd (cc), λ works same. absurd (cc))
+    go false is = (λ same. absurd (cc), λ works same. absurd (cc), λ need largest same. absurd (cc))
 
 -- a receive that isn't refused finds its pool open
 way_free : (failed : Bool) (way : Option ℕ) (count : ℕ) → receive_refusal failed way count ≡ None → failed ≡ false
@@ -129,21 +129,21 @@ module _ {D E : Type 0} {g : Ghosts D} {h : Ghosts E} where
 
   -- a refusal that leaves all as it was
   pub refuses_all : (event : Event) (old : Engine D E g h) (refusal : Refusal) → IsOther event → EngineFits old → MovesKeepWorlds → ((world : World) → StandsFor old world → moved old.now event world ≡ refuses refusal world)
-      → ¬ (refusal ≡ refusals.DiskFault) → (old.here.io.failed ≡ false → old.there.io.failed ≡ false → ¬ (refusal ≡ refusals.Failed)) → StepsEngine event old old (Err refusal)
-  refuses_all event old refusal other fits keep defined no_fault still = record {
+      → ¬ (refusal ≡ refusals.DiskFault) → (old.here.io.failed ≡ false → old.there.io.failed ≡ false → ¬ (refusal ≡ refusals.Failed))
+      → ((need largest : ℕ) → ¬ (refusal ≡ refusals.Full need largest)) → StepsEngine event old old (Err refusal)
+  refuses_all event old refusal other fits keep defined no_fault still never_full = record {
     steps = λ world honest also tells tells_too stands.
         stays old.now event world (kept_pool old.here) (kept_pool old.there) (kept_pool old.here) (kept_pool old.there) (read_none (kept_pool old.here)) (read_none (kept_pool old.there))
         old.sends.items old.receives.items stands keep (Err refusal) (as_defined old.now event world (refuses refusal world) other (defined world stands)) refl refl;
     fits = fits;
-    here_later = stays_later old.here;
-    there_later = stays_later old.there;
-    time = refl;
+    later = record { here = stays_later old.here; there = stays_later old.there; time = refl };
     cause = λ is. absurd (no_fault (err_is refusal refusals.DiskFault is));
     open_still = λ works also is. still works also (err_is refusal refusals.Failed is);
     checks = λ of running is honest. absurd (other of is);
     works = λ alive. (λ works. works, λ works. works);
     here_spares = λ no_reclaim. none_spares (kept_pool old.here);
     there_spares = λ no_reclaim. none_spares (kept_pool old.there);
+    full = λ need largest is. absurd (never_full need largest (err_is refusal (refusals.Full need largest) is));
   }
 
   -- ---- an event that opens a send
@@ -176,15 +176,14 @@ module _ {D E : Type 0} {g : Ghosts D} {h : Ghosts E} where
               same_lists event old mid world (Err (pool_refusal fault)) old.sends.items mid.sends.items old.receives.items mid.receives.items l.sends l.receives
               (go l world honest also stands (kept_on side old).failed refl);
           fits = fits_still side old mid (Err fault) l fits;
-          here_later = l.here_later;
-          there_later = l.there_later;
-          time = l.time;
+          later = l.later;
           cause = λ is. l.cause (ap err (fault_of_disk fault (err_is (pool_refusal fault) refusals.DiskFault is)));
           open_still = λ works other is. l.open_still (open_on side old works other) (ap err (fault_of_failed fault (err_is (pool_refusal fault) refusals.Failed is)));
           checks = λ of running is honest. absurd (opens.other of is);
           works = λ alive. l.works (λ is. alive (ap told_fault (pool_err_is fault faults.DiskFault is)));
           here_spares = λ no_reclaim. read_spares (kept_pool old.here) (kept_pool mid.here) l.here;
           there_spares = λ no_reclaim. read_spares (kept_pool old.there) (kept_pool mid.there) l.there;
+          full = λ need largest is. absurd (l.never_full need largest (ap err (fault_of_full fault need largest (err_is (pool_refusal fault) (refusals.Full need largest) is))));
         }
       where
         err : PoolFault → Result Begun PoolFault
@@ -254,15 +253,14 @@ module _ {D E : Type 0} {g : Ghosts D} {h : Ghosts E} where
               };
               room = still.room;
             };
-            here_later = l.here_later;
-            there_later = l.there_later;
-            time = l.time;
+            later = record { here = l.later.here; there = l.later.there; time = l.later.time };
             cause = λ is. absurd (no.0 is);
             open_still = λ works also is. no.1 is;
             checks = λ of running is honest. absurd (opens.other of is);
             works = λ alive. l.works (λ is. absurd (cc));
             here_spares = λ no_reclaim. read_spares (kept_pool old.here) (kept_pool mid.here) l.here;
             there_spares = λ no_reclaim. read_spares (kept_pool old.there) (kept_pool mid.there) l.there;
+            full = λ need largest is. absurd (no.2 need largest is);
           } in made)
 
   -- ---- a send by names
@@ -328,7 +326,7 @@ module _ {D E : Type 0} {g : Ghosts D} {h : Ghosts E} where
       pub token_refused : (refusal : Refusal) → TellsToken dataset (kept_on (other_side side) old) (Err refusal) → EngineFits old → MovesKeepWorlds → StepsEngine (events.Resume side id dataset) old old (Err refusal)
       token_refused refusal tells fits keep =
           refuses_all (events.Resume side id dataset) old refusal (λ of is. cc is) fits keep (λ world stands. go world stands (kept_on (other_side side) old).failed refl)
-          (λ is. tells.no_fault (ap err is)) (λ here there is. tells.open_still (open_on (other_side side) old here there) (ap err is))
+          (λ is. tells.no_fault (ap err is)) (λ here there is. tells.open_still (open_on (other_side side) old here there) (ap err is)) (λ need largest is. tells.never_full need largest (ap err is))
         where
           err : Refusal → Result Token Refusal
           err r = Err r
@@ -347,7 +345,7 @@ module _ {D E : Type 0} {g : Ghosts D} {h : Ghosts E} where
     resume_failed fell fits keep =
         refuses_all (events.Resume side id dataset) old refusals.Failed (λ of is. cc is) fits keep
         (λ world stands. resumes_as old.now world true (at_side (other_side side) world).failed (sym (mark_on side old world stands) ∙ fell) refl)
-        (λ is. absurd (cc)) (λ here there is. let alive = open_on side old here there in absurd (cc (alive, fell)))
+        (λ is. absurd (cc)) (λ here there is. let alive = open_on side old here there in absurd (cc (alive, fell))) (λ need largest is. absurd (cc))
 
   -- ---- a receive
 
@@ -375,7 +373,7 @@ module _ {D E : Type 0} {g : Ghosts D} {h : Ghosts E} where
         moves_so old.now side id ask world (kept_pool old.here) (kept_pool old.there) (kept_pool old.here) (kept_pool old.there) (read_none (kept_pool old.here)) (read_none (kept_pool old.there))
         old.sends.items old.receives.items stands keep refl refl
         ∙ ap (λ (o : Option Refusal). or_refused o world (answers (number_line side world) (with_receive (unfed side id ask) world))) (refusal_in world stands ∙ why))
-        no.0 (λ here there. no.1 (open_on side old here there))
+        no.0 (λ here there. no.1 (open_on side old here there)) no.2
 
     module _ (mid : Engine D E g h) (told : Option Refusal) (is_told : told ≡ refusal_of_all) (none : told ≡ None) where
       free : refusal_of_all ≡ None
@@ -394,15 +392,14 @@ module _ {D E : Type 0} {g : Ghosts D} {h : Ghosts E} where
                 same_lists event old mid world (Err refusals.OutOfMemory) old.sends.items mid.sends.items old.receives.items mid.receives.items l.sends l.receives
                 (lacks_memory old.now side id ask world (kept_pool old.here) (kept_pool old.there) (kept_pool mid.here) (kept_pool mid.there) l.here l.there old.sends.items old.receives.items stands keep both.0 both.1);
             fits = fits_still side old mid (Err faults.OutOfMemory) l fits;
-            here_later = l.here_later;
-            there_later = l.there_later;
-            time = l.time;
+            later = l.later;
             cause = λ is. absurd (cc);
             open_still = λ alive too is. absurd (cc);
             checks = λ of running is honest. absurd (cc is);
             works = λ alive. l.works (λ is. absurd (cc));
             here_spares = λ no_reclaim. read_spares (kept_pool old.here) (kept_pool mid.here) l.here;
             there_spares = λ no_reclaim. read_spares (kept_pool old.there) (kept_pool mid.there) l.there;
+            full = λ need largest is. absurd (cc);
           }
 
       pub receive_unbegun : (fault : PoolFault) → ((kept_on side old).failed ≡ false → fault ≡ faults.OutOfMemory) → LooksAtSide {T = Awaited} side old mid (Err fault) → StepsEngine (events.Receive side id ask) old mid (Err (pool_refusal fault))
@@ -474,13 +471,12 @@ module _ {D E : Type 0} {g : Ghosts D} {h : Ghosts E} where
                 };
                 room = still.room;
               };
-              here_later = look.here_later;
-              there_later = look.there_later;
-              time = look.time;
+              later = record { here = look.later.here; there = look.later.there; time = look.later.time };
               cause = λ is. absurd (no.0 is);
               open_still = λ alive too is. no.1 is;
               checks = λ of running is honest. absurd (cc is);
               works = λ alive. look.works (λ is. absurd (cc));
               here_spares = λ no_reclaim. read_spares (kept_pool old.here) (kept_pool mid.here) look.here;
               there_spares = λ no_reclaim. read_spares (kept_pool old.there) (kept_pool mid.there) look.there;
+              full = λ need largest is. absurd (no.2 need largest is);
             } in made)

@@ -20,7 +20,7 @@ use Rattle.zst_pool.specs.declared.pool.Pool.{Pool}
 use Rattle.zst_script.specs.declared.event.Side.TheVariants.{Here, There}
 use Rattle.zst_send.specs.Sends.{SendFits, SendsFrom}
 use Rattle.zst_send.specs.declared.send.Send.{Send}
-use Rattle.zst_sessions.proofs.PoolRefusals.{answer_of_disk, answer_of_failed, refused, refused_gives}
+use Rattle.zst_sessions.proofs.PoolRefusals.{answer_of_disk, answer_of_failed, answer_of_full, refused, refused_gives}
 use Rattle.zst_sessions.proofs.ReadPools.{fit_read, looked_at, looked_later, read_none}
 use Rattle.zst_sessions.proofs.SparedBlocks.{fell_as, still_works}
 use Rattle.zst_sessions.proofs.TakenBytes.{PieceTaken, takes_on}
@@ -83,6 +83,13 @@ module _ {D : Type 0} {g : Ghosts D} where
     pub still_open : old.io.failed ≡ false → ¬ (refused result ≡ Err refusals.Failed)
     still_open works is = took.pool.open_still works (answer_of_failed result is)
 
+    -- and E24 never
+    pub never_filled : (need largest : ℕ) → ¬ (refused result ≡ Err (refusals.Full need largest))
+    never_filled need largest is = took.pool.never_full need largest (ap stopped (answer_of_full result need largest is))
+      where
+        stopped : Result ℕ PoolFault → Option BlockFault
+        stopped r = stop_of r
+
 -- ---- two pools
 
 module _ {D E : Type 0} {g : Ghosts D} {h : Ghosts E} (old : Engine D E g h) (place count : ℕ) (one : kept_sends.OpenSend) (after : Send) (front : List ℕ) (result : Result ℕ PoolFault)
@@ -130,13 +137,12 @@ module _ {D E : Type 0} {g : Ghosts D} {h : Ghosts E} (old : Engine D E g h) (pl
         receives = refl;
         here_read = read;
         there_read = read_none (kept_pool old.there);
-        here_later = looked_later old.here here result took.pool;
-        there_later = stays_later old.there;
-        time = refl;
+        later = record { here = looked_later old.here here result took.pool; there = stays_later old.there; time = refl };
         works = λ alive. (works_still count old.here here one.send after front result took alive, λ works. works);
         marks = go result (mark_stays count old.here here one.send after front result took);
         cause = λ is. inl (disk_rose count old.here here one.send after front result took is);
         open_still = λ works also is. still_open count old.here here one.send after front result took works is;
+        never_full = never_filled count old.here here one.send after front result took;
       }
     where
       go : (r : Result ℕ PoolFault) → OnOk (refused r) (here.io.failed ≡ old.here.io.failed) → OnOk (refused r) ((here.io.failed ≡ old.here.io.failed) × (old.there.io.failed ≡ old.there.io.failed))
@@ -162,13 +168,12 @@ module _ {D E : Type 0} {g : Ghosts D} {h : Ghosts E} (old : Engine D E g h) (pl
         receives = refl;
         here_read = read_none (kept_pool old.here);
         there_read = read;
-        here_later = stays_later old.here;
-        there_later = looked_later old.there there result took.pool;
-        time = refl;
+        later = record { here = stays_later old.here; there = looked_later old.there there result took.pool; time = refl };
         works = λ alive. (λ works. works, works_still count old.there there one.send after front result took alive);
         marks = go result (mark_stays count old.there there one.send after front result took);
         cause = λ is. inr (disk_rose count old.there there one.send after front result took is);
         open_still = λ works also is. still_open count old.there there one.send after front result took also is;
+        never_full = never_filled count old.there there one.send after front result took;
       }
     where
       go : (r : Result ℕ PoolFault) → OnOk (refused r) (there.io.failed ≡ old.there.io.failed) → OnOk (refused r) ((old.here.io.failed ≡ old.here.io.failed) × (there.io.failed ≡ old.there.io.failed))

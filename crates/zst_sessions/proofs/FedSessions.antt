@@ -1,5 +1,5 @@
 -- What is kept of the sessions stays in its ranges where a receive is fed.
-use Rattle.std.proofs.Common.{◌≡◌, ◌≢◌, inl, inr, ◌<◌, ℕ, Bool, true, false, List, length, get_or, Result, refl, sym, ap, ◌∙◌, subst}
+use Rattle.std.proofs.Common.{◌≡◌, ◌≢◌, inl, inr, ◌<◌, ◌++◌, ℕ, Bool, true, false, List, length, get_or, Result, refl, sym, ap, ◌∙◌, subst}
 use Rattle.std.specs.List.{All, remove}
 use Rattle.std.proofs.lemmas.List.Elements.{All-get_or}
 use Rattle.zst_plan.specs.declared.receive.RecvAsk.{RecvAsk}
@@ -15,6 +15,7 @@ use Rattle.zst_sessions.proofs.Beside.{sessions_fit_beside}
 use Rattle.zst_sessions.proofs.ChangedMatches.{All-others, All-remove, All-settled, AllPairs-remove, AllPairs-settled}
 use Rattle.zst_sessions.specs.EngineSteps.{ReceiveFits, SessionsFit, here_with, target_of, there_with}
 use Rattle.zst_sessions.specs.Engines.{Kept, kept_at}
+use Rattle.zst_sessions.specs.FullPools.{WasFed}
 use Rattle.zst_sessions.specs.Pumps.{FeedsKept, settled}
 use Rattle.zst_sessions.specs.declared.open_sessions.OpenReceive.{OpenReceive}
 use Rattle.zst_sessions.specs.declared.open_sessions.OpenSend.{OpenSend}
@@ -25,7 +26,8 @@ own_side Q Here here there new is = is
 own_side Q There here there new is = is
 
 module _ (fitting : FittingReceive) (here there new : Kept) (sends : List OpenSend) (coded : List OpenReceive) (place : ℕ) (one : OpenReceive) (after : Recv) (piece : List ℕ) (fed : Result FeedReport RecvFault)
-    (fits : SessionsFit here there sends coded) (below : place < length coded) (is_there : get_or coded place one ≡ one) (feeds : FeedsKept (kept_at one.side here there) new one.recv after piece fed) where
+    (fits : SessionsFit here there sends coded) (below : place < length coded) (is_there : get_or coded place one ≡ one) (feeds : FeedsKept (kept_at one.side here there) new one.recv after piece fed)
+    (reads : (text : List ℕ) → WasFed one.recv text → goes_on fed ≡ true → WasFed after (text ++ piece)) where
   abbrev Apart : OpenReceive → OpenReceive → Type 0
   Apart a b = a.side ≡ b.side → target_of a ≢ target_of b
 
@@ -62,6 +64,7 @@ module _ (fitting : FittingReceive) (here there new : Kept) (sends : List OpenSe
         live = feeds.receive.live ∙ on;
         fits = feeds.receive.fits;
         row = subst (λ (a : RecvAsk). IsRow new.state.dir a.target (stage_of after)) (sym feeds.receive.ask) (feeds.own on was.row);
+        fed = (was.fed.0 ++ piece, reads was.fed.0 was.fed.1 on);
       })
 
   by_end : (goes : Bool) → goes_on fed ≡ goes → SessionsFit (here_with one.side new here) (there_with one.side new there) sends (settled goes place (record one { recv = after }) coded)

@@ -1,6 +1,21 @@
 -- Sessions that are found by their ids in changed lists.
-use Rattle.std.proofs.Common.{◌≡◌, ℕ, Bool, true, false, List, [], ◌∷◌, ◌++◌, map, find, Option, Some, refl, sym, ap, ◌∙◌, cond, ◌==◌, eqb-true, if◌then◌else◌, arith}
+use Rattle.std.proofs.Common.{◌≡◌, ◌<◌, ℕ, zero, suc, Bool, true, false, List, [], ◌∷◌, ◌++◌, length, get_or, map, find, Option, Some, refl, sym, ap, ◌∙◌, cond, ◌==◌, eqb-true, if◌then◌else◌, arith}
+use Rattle.std.specs.List.{position}
+use Rattle.std.proofs.lemmas.List.Quantifiers.{position-Some}
 use Rattle.zst_sessions.specs.World.{OpenSend}
+
+-- the first one that a test passes is found
+first_there : {A : Type 0} (test : A → Bool) (d : A) (xs : List A) (i : ℕ) → i < length xs → test (get_or xs i d) ≡ true → ((k : ℕ) → k < i → test (get_or xs k d) ≡ false) → find test xs ≡ Some (get_or xs i d)
+first_there test d [] i below here before = absurd (omega (arith, below))
+first_there test d (x ∷ xs) zero below here before = ap (λ (t : Bool). cond t (Some x) (find test xs)) here
+first_there test d (x ∷ xs) (suc i) below here before =
+    ap (λ (t : Bool). cond t (Some x) (find test xs)) (before 0 (omega arith))
+    ∙ first_there test d xs i (omega (arith, below)) here (λ k lt. before (suc k) (omega (arith, lt)))
+
+pub found_there : {A : Type 0} (test : A → Bool) (xs : List A) (place : ℕ) (x : A) → position test xs ≡ Some place → get_or xs place x ≡ x → find test xs ≡ Some x
+found_there test xs place x is at =
+    let first = position-Some test xs place x is in
+    first_there test x xs place first.0 first.1 first.2 ∙ ap (λ (y : _). Some y) at
 
 -- one that is found is found in a longer list too
 pub found_front : {A : Type 0} (test : A → Bool) (xs ys : List A) (x : A) → find test xs ≡ Some x → find test (xs ++ ys) ≡ Some x

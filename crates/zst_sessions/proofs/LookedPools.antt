@@ -1,5 +1,5 @@
 -- Two pools of which one was looked at, by a call that only reads its disk.
-use Rattle.std.proofs.Common.{◌≡◌, ◌||◌, ◌⊎◌, true, false, List, length, Result, Err, inl, inr, sym, ap, ◌∙◌, subst}
+use Rattle.std.proofs.Common.{◌≡◌, ◌||◌, ◌⊎◌, ℕ, true, false, List, length, Result, Err, inl, inr, sym, ap, ◌∙◌, subst}
 use Rattle.zst_outside.specs.Causes.{Rose}
 use Rattle.zst_outside.specs.declared.disk.Disk.{Ghosts}
 use Rattle.zst_block.specs.IoCalls.{fails}
@@ -16,7 +16,7 @@ use Rattle.zst_sessions.proofs.ReadEvents.{stands_at}
 use Rattle.zst_sessions.proofs.ReadPools.{fit_read, looked_at, looked_later, read_none}
 use Rattle.zst_sessions.proofs.SparedBlocks.{fell_as, still_works}
 use Rattle.zst_sessions.proofs.UnmovedEngines.{stays_later}
-use Rattle.zst_sessions.specs.EngineSteps.{EngineFits, IsLaterPool, NoneFailed, SessionsFit, StandsFor, kept_pool}
+use Rattle.zst_sessions.specs.EngineSteps.{EngineFits, IsLaterEngine, IsLaterPool, NoneFailed, SessionsFit, StandsFor, kept_pool}
 use Rattle.zst_sessions.specs.Engines.{Steps}
 use Rattle.zst_sessions.specs.Moves.{Answer}
 use Rattle.zst_sessions.specs.Openings.{LooksAtSide, kept_on}
@@ -35,6 +35,7 @@ module _ {D : Type 0} {g : Ghosts D} where
     pub had_failed : old.io.failed ≡ true → result ≡ Err faults.Failed
     pub open_still : old.io.failed ≡ false → ¬ (result ≡ Err faults.Failed)
     pub cause : result ≡ Err faults.DiskFault → Rose (disk_of old.io).faults (disk_of new.io).faults
+    pub never_full : (need largest : ℕ) → ¬ (result ≡ Err (faults.Full need largest))
 
   -- so it is with a call that leaves all of a pool that had failed
   looks_so : {T : Type 0} (old new : Pool D g) (result : Result T PoolFault) → LooksAtPool old new result → LookedAt old new result
@@ -45,6 +46,7 @@ module _ {D : Type 0} {g : Ghosts D} where
     had_failed = looks.failed_pool;
     open_still = looks.open_still;
     cause = λ lost. looks.cause.fault (ap (λ (r : Result T PoolFault). stop_of r) lost);
+    never_full = λ need largest is. looks.never_full need largest (ap (λ (r : Result T PoolFault). stop_of r) is);
   }
 
 module _ {D E : Type 0} {g : Ghosts D} {h : Ghosts E} where
@@ -52,8 +54,7 @@ module _ {D E : Type 0} {g : Ghosts D} {h : Ghosts E} where
   pub record Looked {T : Type 0} (side : Side) (old new : Engine D E g h) (result : Result T PoolFault) : Type 0 where
     pub here : WasOnlyRead (kept_pool old.here) (kept_pool new.here)
     pub there : WasOnlyRead (kept_pool old.there) (kept_pool new.there)
-    pub here_later : IsLaterPool old.here new.here
-    pub there_later : IsLaterPool old.there new.there
+    pub later : IsLaterEngine old new
     pub own : (kept_on side new).failed ≡ ((kept_on side old).failed || fails (stop_of result))
     pub other : (kept_on (other_side side) new).failed ≡ (kept_on (other_side side) old).failed
     pub had_failed : (kept_on side old).failed ≡ true → result ≡ Err faults.Failed
@@ -62,8 +63,8 @@ module _ {D E : Type 0} {g : Ghosts D} {h : Ghosts E} where
     pub sends : new.sends.items ≡ old.sends.items
     pub receives : new.receives.items ≡ old.receives.items
     pub room : length new.room.items ≡ length old.room.items
-    pub time : new.now ≡ old.now
     pub works : ¬ (result ≡ Err faults.DiskFault) → NoneFailed old new
+    pub never_full : (need largest : ℕ) → ¬ (result ≡ Err (faults.Full need largest))
 
   -- only the pool on a side was looked at, and all else was left as it was
   abbrev pub LookedOn : {T : Type 0} → Side → Engine D E g h → Engine D E g h → Result T PoolFault → Type 0
@@ -77,8 +78,11 @@ module _ {D E : Type 0} {g : Ghosts D} {h : Ghosts E} where
       record {
         here = look.read;
         there = subst (λ (pool : Pool E h). WasOnlyRead (kept_pool old.there) (kept_pool pool)) (sym there_is) (read_none (kept_pool old.there));
-        here_later = look.later;
-        there_later = subst (λ (pool : Pool E h). IsLaterPool old.there pool) (sym there_is) (stays_later old.there);
+        later = record {
+          here = look.later;
+          there = subst (λ (pool : Pool E h). IsLaterPool old.there pool) (sym there_is) (stays_later old.there);
+          time = ap (λ (e : Engine D E g h). e.now) is.0;
+        };
         own = look.own;
         other = ap (λ (pool : Pool E h). pool.io.failed) there_is;
         had_failed = look.had_failed;
@@ -87,7 +91,7 @@ module _ {D E : Type 0} {g : Ghosts D} {h : Ghosts E} where
         sends = ap (λ (e : Engine D E g h). e.sends.items) is.0;
         receives = ap (λ (e : Engine D E g h). e.receives.items) is.0;
         room = ap (λ (e : Engine D E g h). length e.room.items) is.0;
-        time = ap (λ (e : Engine D E g h). e.now) is.0;
+        never_full = look.never_full;
         works = λ alive. (
           still_works old.here.io.failed (fails (stop_of result)) new.here.io.failed look.own (λ fell. alive (fell_as result fell)),
           λ works. ap (λ (pool : Pool E h). pool.io.failed) there_is ∙ works,
@@ -99,8 +103,11 @@ module _ {D E : Type 0} {g : Ghosts D} {h : Ghosts E} where
       record {
         here = subst (λ (pool : Pool D g). WasOnlyRead (kept_pool old.here) (kept_pool pool)) (sym here_is) (read_none (kept_pool old.here));
         there = look.read;
-        here_later = subst (λ (pool : Pool D g). IsLaterPool old.here pool) (sym here_is) (stays_later old.here);
-        there_later = look.later;
+        later = record {
+          here = subst (λ (pool : Pool D g). IsLaterPool old.here pool) (sym here_is) (stays_later old.here);
+          there = look.later;
+          time = ap (λ (e : Engine D E g h). e.now) is.0;
+        };
         own = look.own;
         other = ap (λ (pool : Pool D g). pool.io.failed) here_is;
         had_failed = look.had_failed;
@@ -109,7 +116,7 @@ module _ {D E : Type 0} {g : Ghosts D} {h : Ghosts E} where
         sends = ap (λ (e : Engine D E g h). e.sends.items) is.0;
         receives = ap (λ (e : Engine D E g h). e.receives.items) is.0;
         room = ap (λ (e : Engine D E g h). length e.room.items) is.0;
-        time = ap (λ (e : Engine D E g h). e.now) is.0;
+        never_full = look.never_full;
         works = λ alive. (
           λ works. ap (λ (pool : Pool D g). pool.io.failed) here_is ∙ works,
           still_works old.there.io.failed (fails (stop_of result)) new.there.io.failed look.own (λ fell. alive (fell_as result fell)),

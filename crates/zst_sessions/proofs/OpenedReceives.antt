@@ -11,6 +11,7 @@ use Rattle.zst_model.specs.declared.refusals.refusal.Refusal.TheVariants as refu
 use Rattle.zst_model.specs.pools.Pool.{Pool}
 use Rattle.zst_model.specs.pools.Sessions.{Held, Holds, Claims, busy_session, lesser, session_into}
 use Rattle.zst_plan.specs.declared.receive.RecvAsk.{RecvAsk}
+use Rattle.zst_recv.proofs.RecordOrder.{nothing_read}
 use Rattle.zst_recv.specs.FedReceives.{IsFresh}
 use Rattle.zst_recv.specs.GoingOn.{IsRow}
 use Rattle.zst_recv.specs.ReceiveSteps.{Waits}
@@ -123,7 +124,12 @@ begun_waits side id kept pool ask recv is = record {
 
 -- and is in its ranges
 pub begun_fits : (side : Side) (id : ℕ) (rows : Rows) (ask : RecvAsk) (recv : Recv) → IsFresh rows ask recv → ReceiveFits rows (awaited side id recv)
-begun_fits side id rows ask recv is = record { live = is.live; fits = is.fits; row = waits_for_row rows recv.ask.target recv.stage is.waiting }
+begun_fits side id rows ask recv is = record {
+  live = is.live;
+  fits = is.fits;
+  row = waits_for_row rows recv.ask.target recv.stage is.waiting;
+  fed = ([], ([], record { stands = is.stands; whole = nothing_read }));
+}
 
 -- ---- steps
 

@@ -19,6 +19,7 @@ use Rattle.zst_image.specs.declared.open_fault.OpenFault.{OpenFault}
 use Rattle.zst_image.specs.declared.open_fault.OpenFault.TheVariants as opens
 use Rattle.zst_image.specs.declared.pool_state.PoolState.{PoolState}
 use Rattle.zst_model.specs.declared.refusals.refusal.Refusal.{Refusal}
+use Rattle.zst_model.specs.declared.refusals.refusal.Refusal.TheVariants as refusals
 use Rattle.zst_model.specs.pools.KeptPool.{kept_of}
 use Rattle.zst_model.specs.pools.Pool.{Pool}
 use Rattle.zst_pool.specs.Calls.{IsAtRest}
@@ -48,6 +49,14 @@ still_after failed opens.NoPool alive is = is
 still_after failed (opens.BadVersion version) alive is = is
 still_after failed opens.DiskFault alive is = absurd (alive refl)
 still_after failed opens.OutOfMemory alive is = is
+
+-- an opening is never refused as a full disk
+never_full : (fault : OpenFault) (need largest : ℕ) → ¬ (open_refusal fault ≡ refusals.Full need largest)
+never_full (opens.Damaged sector stated found) need largest is = cc is
+never_full opens.NoPool need largest is = cc is
+never_full (opens.BadVersion version) need largest is = cc is
+never_full opens.DiskFault need largest is = cc is
+never_full opens.OutOfMemory need largest is = cc is
 
 -- the body that an opening read is the one that was kept, where their sectors have the same, and the extents of the one that was kept stand in sectors that it leaves not free
 one_kept : ExtentsAreOne → (disk : DiskState) (old new : Body) (bytes : List ℕ) (rows : Rows) → openings.IsOpened disk bytes new rows → Ready disk old → new.uber ≡ old.uber → HasItsExtents disk old → new ≡ old
@@ -103,6 +112,7 @@ module _ {D : Type 0} {g : Ghosts D} (old mid new : pools.Pool D g)
         → OpensAgain (kept_pool old) (kept_pool new) (told new.kept result)
     opened_again one (Ok done) by again reopens = record {
       reads = only_reads reopens.reads;
+      never_full = λ need largest is. absurd (cc is);
       ready = λ works. reopens.works.ready;
       works = λ alive was. reopens.failed;
       body = λ was honest has.
@@ -118,6 +128,7 @@ module _ {D : Type 0} {g : Ghosts D} (old mid new : pools.Pool D g)
     }
     opened_again one (Err fault) by again reopens = record {
       reads = only_reads reopens.reads;
+      never_full = λ need largest is. never_full fault need largest (let same : open_refusal fault ≡ refusals.Full need largest = cc is in same);
       ready = ready_still fault reopens;
       works = λ alive was. reopens.failed ∙ still_after mid.io.failed fault (λ is. alive (ap told_fault is)) (ap (λ (i : Io D g). i.failed) io ∙ was);
       body = λ was honest has. ap (λ (k : PoolState). k.body) reopens.kept ∙ same_body;

@@ -12,6 +12,7 @@ use Rattle.zst_block.specs.IoStates.{disk_of}
 use Rattle.zst_dir.specs.RowNames.{Match}
 use Rattle.zst_dir.proofs.Matches.{is_some-position, list_any-Match}
 use Rattle.zst_image.specs.Reads.{Reads}
+use Rattle.zst_image.specs.declared.pool_state.PoolState.{PoolState}
 use Rattle.zst_model.specs.declared.refusals.plan_fault.PlanFault.TheVariants as plans
 use Rattle.zst_model.specs.declared.refusals.refusal.Refusal.{Refusal}
 use Rattle.zst_model.specs.declared.refusals.refusal.Refusal.TheVariants as refusals
@@ -21,7 +22,9 @@ use Rattle.zst_pool.specs.Partials.{without_unkept}
 use Rattle.zst_pool.specs.declared.fault.PoolFault.TheVariants as pools
 use Rattle.zst_pool.specs.declared.pool.Pool.{Pool}
 use Rattle.zst_recv.specs.Answers.{goes_on}
-use Rattle.zst_recv.specs.Faults.{stop_of}
+use Rattle.zst_recv.specs.Costs.{PieceIsShort}
+use Rattle.zst_recv.specs.Faults.{recv_refusal, stop_of}
+use Rattle.zst_recv.specs.Feeds.{new_records}
 use Rattle.zst_recv.specs.GoingOn.{FittingReceive, ReceivesGoOn}
 use Rattle.zst_recv.specs.declared.fault.RecvFault.{RecvFault}
 use Rattle.zst_recv.specs.declared.fault.RecvFault.TheVariants as faults
@@ -35,18 +38,21 @@ use Rattle.zst_send.specs.Sends.{SendsGoOn}
 use Rattle.zst_sessions.proofs.ChangedMatches.{found_at}
 use Rattle.zst_sessions.proofs.ChangedSides.{same_pools}
 use Rattle.zst_sessions.proofs.FedSessions.{fed_fit}
+use Rattle.zst_sessions.proofs.FoundSessions.{found_there}
 use Rattle.zst_sessions.proofs.OtherEvents.{IsOther}
 use Rattle.zst_sessions.proofs.PumpedFeeds.{FeedSteps, feed_steps}
+use Rattle.zst_sessions.proofs.PoolRefusals.{recv_full}
 use Rattle.zst_sessions.proofs.RemovedSessions.{none_matched}
 use Rattle.zst_sessions.proofs.SparedBlocks.{read_blocks, read_extents, read_spares, spares, still_works}
 use Rattle.zst_sessions.proofs.UnmovedEngines.{nothing_done, stays_later}
-use Rattle.zst_sessions.specs.EngineSteps.{EngineFits, IsLaterPool, NoneFailed, SessionsFit, SparesBlocks, StandsFor, StepsEngine, StepsWorld, here_with, kept_pool, there_with}
+use Rattle.zst_sessions.specs.EngineSteps.{EngineFits, IsLaterPool, NoneFailed, PumpIsShort, SessionsFit, SparesBlocks, StandsFor, StepsEngine, StepsWorld, here_with, kept_pool, left_on, there_with}
 use Rattle.zst_sessions.specs.Engines.{BeforeOrAfter, Kept, ReceiveStandsOn, SendStandsOn, Stands, Steps, kept_at}
 use Rattle.zst_sessions.specs.EventReplies.{answer_of}
+use Rattle.zst_sessions.specs.FullPools.{WasFed}
 use Rattle.zst_sessions.specs.Lawfulness.{MovesKeepWorlds}
 use Rattle.zst_sessions.specs.Moves.{Moved, if_works, moved, no_session, on_receive, pumped, refuses}
 use Rattle.zst_sessions.specs.Numbers.{NumbersRise}
-use Rattle.zst_sessions.specs.Pumps.{FeedsKept, FeedsSide, SettlesFeed, fed_reply, settled}
+use Rattle.zst_sessions.specs.Pumps.{FeedReads, FeedsKept, FeedsSide, SettlesFeed, fed_reply, settled}
 use Rattle.zst_sessions.specs.Replay.{LosesDisk, Moves, image_of, TakesNoPiece}
 use Rattle.zst_sessions.specs.Takes.{Gives, HadFailed, Loses, TakeEnds, Takes, TakesAt, Starves}
 use Rattle.zst_sessions.specs.World.{OpenPool, OpenReceive, OpenSend, World, at_side, gone_on, next_piece, put_send, receive_with, send_with}
@@ -129,6 +135,14 @@ is_failed taken after (Err (faults.Pool pools.OutOfMemory)) e = absurd cc
 is_failed taken after (Err (faults.Stream fault)) e = absurd cc
 is_failed taken after (Err (faults.CannotApply index fault)) e = absurd cc
 
+-- and one that found no room
+is_full : (taken : ℕ) (after : Recv) (fed : Result FeedReport RecvFault) (need largest : ℕ) → fed_reply taken after fed ≡ Err (refusals.Full need largest) → fed ≡ Err (faults.Pool (pools.Full need largest))
+is_full taken after (Ok report) need largest e = absurd cc
+is_full taken after (Err fault) need largest e = let same : recv_refusal fault ≡ refusals.Full need largest = cc in ap err (recv_full fault need largest same)
+  where
+    err : RecvFault → Result FeedReport RecvFault
+    err f = Err f
+
 -- a feed in which the disk failed answers so
 fell_so : (taken : ℕ) (after : Recv) (fed : Result FeedReport RecvFault) → fails (stop_of fed) ≡ true → fed_reply taken after fed ≡ Err refusals.DiskFault
 fell_so taken after (Ok report) e = absurd cc
@@ -156,10 +170,11 @@ module _ {D : Type 0} {g : Ghosts D} where
 module _ {D E : Type 0} {g : Ghosts D} {h : Ghosts E} where
   -- an event, but for a check, that the definition refuses, and that does nothing
   refuses_so : (event : Event) (engine : Engine D E g h) (refusal : Refusal) → IsOther event → EngineFits engine → ((world : World) → StandsFor engine world → moved engine.now event world ≡ refuses refusal world)
-      → ¬ (refused refusal ≡ Err refusals.DiskFault) → (engine.here.io.failed ≡ false → engine.there.io.failed ≡ false → ¬ (refused refusal ≡ Err refusals.Failed)) → StepsEngine event engine engine (Err refusal)
-  refuses_so event engine refusal other fits is no_fault open_still =
+      → ¬ (refused refusal ≡ Err refusals.DiskFault) → (engine.here.io.failed ≡ false → engine.there.io.failed ≡ false → ¬ (refused refusal ≡ Err refusals.Failed))
+      → ((need largest : ℕ) → ¬ (refused refusal ≡ Err (refusals.Full need largest))) → StepsEngine event engine engine (Err refusal)
+  refuses_so event engine refusal other fits is no_fault open_still never_full =
       nothing_done event engine (Err refusal) other fits
-      (λ world stands. let done = is world stands in record { answer = sym (ap (λ (m : Moved). m.answer) done); stays = sym (ap (λ (m : Moved). m.world) done) }) no_fault open_still
+      (λ world stands. let done = is world stands in record { answer = sym (ap (λ (m : Moved). m.answer) done); stays = sym (ap (λ (m : Moved). m.world) done) }) no_fault open_still never_full
 
   module _ (old : Engine D E g h) (sends receives count : ℕ) (fits : EngineFits old) where
     -- a send that stands for one with this id, and a receive
@@ -185,7 +200,7 @@ module _ {D E : Type 0} {g : Ghosts D} {h : Ghosts E} where
         refuses_so (events.Pump sends receives count) old (no_session sends) (λ of e. cc e) fits
         (λ world stands. no_send old.now world sends receives count
         (none_matched (IsSend world) (λ s. s.id) (λ s. s.id) (λ x y is. is.id) sends old.sends.items world.sends stands.send_stands none))
-        (λ e. absurd (cc e)) (λ a b e. absurd (cc e))
+        (λ e. absurd (cc e)) (λ a b e. absurd (cc e)) (λ need largest e. absurd (cc e))
 
     a_send : (world : World) → StandsFor old world → (place : ℕ) → position (λ s. s.id == sends) old.sends.items ≡ Some place → (send : OpenSend) × (send_with sends world ≡ Some send)
     a_send world stands place at =
@@ -202,7 +217,7 @@ module _ {D E : Type 0} {g : Ghosts D} {h : Ghosts E} where
         refuses_so (events.Pump sends receives count) old (no_session receives) (λ of e. cc e) fits
         (λ world stands. let found = a_send world stands place at in no_receive old.now world sends receives count found.0 found.1
         (none_matched (IsReceive world) (λ r. r.id) (λ r. r.id) (λ x y is. is.id) receives old.receives.items world.receives stands.receive_stands none))
-        (λ e. absurd (cc e)) (λ a b e. absurd (cc e))
+        (λ e. absurd (cc e)) (λ a b e. absurd (cc e)) (λ need largest e. absurd (cc e))
 
     -- the mark of a side
     mark_at : (world : World) → StandsFor old world → (side : Side) → (kept_at side (kept_pool old.here) (kept_pool old.there)).failed ≡ (at_side side world).failed
@@ -225,7 +240,7 @@ module _ {D E : Type 0} {g : Ghosts D} {h : Ghosts E} where
         let found = a_send world stands from at in
         let also = a_receive world stands into to in
         one_failed old.now world sends receives count found.0 also.0 found.1 also.1 (lost world stands found.0 also.0 found.1 also.1))
-        (λ e. absurd (cc e)) (λ here there e. absurd (let both : true ≡ false = sym had ∙ none_failed here there side in cc both))
+        (λ e. absurd (cc e)) (λ here there e. absurd (let both : true ≡ false = sym had ∙ none_failed here there side in cc both)) (λ need largest e. absurd (cc e))
 
     either : (a b : Bool) → b ≡ true → (a || b) ≡ true
     either true b e = refl
@@ -269,15 +284,14 @@ module _ {D E : Type 0} {g : Ghosts D} {h : Ghosts E} where
         pumps_no_piece refusal had = record {
           steps = λ world honest also tells told stands. lost world stands (had.takes sends at world honest also tells told stands);
           fits = had.fits;
-          here_later = had.here_later;
-          there_later = had.there_later;
-          time = had.time;
+          later = had.later;
           cause = λ e. had.cause (ap (λ (r : Refusal). Err r) (same_refusal refusal refusals.DiskFault e));
           open_still = λ here there e. had.open_still here there (ap (λ (r : Refusal). Err r) (same_refusal refusal refusals.Failed e));
           checks = λ of running is honest. absurd (cc is);
           works = λ alive. had.works (λ e. alive (ap (λ (r : Refusal). Err r) (take_refusal refusal refusals.DiskFault e)));
           here_spares = λ no_reclaim. read_spares (kept_pool old.here) (kept_pool mid.here) had.here_read;
           there_spares = λ no_reclaim. read_spares (kept_pool old.there) (kept_pool mid.there) had.there_read;
+          full = λ need largest e. absurd (had.never_full need largest (ap (λ (r : Refusal). Err r) (same_refusal refusal (refusals.Full need largest) e)));
         }
           where
             lost : (world : World) → StandsFor old world → Takes sends count world (kept_pool old.here) (kept_pool old.there) (kept_pool mid.here) (kept_pool mid.there) mid.sends.items mid.receives.items mid.room.items (Err refusal)
@@ -325,6 +339,11 @@ module _ {D E : Type 0} {g : Ghosts D} {h : Ghosts E} where
           feeds_kept : (side : Side) → FedSide side → FeedsKept (mid_at side) (new_at side) its.recv settles.after (take taken mid.room.items) settles.fed
           feeds_kept Here is = is.0
           feeds_kept There is = is.0
+
+          -- and what it read and cost
+          feeds_read : (side : Side) → FedSide side → FeedReads its.recv settles.after (take taken mid.room.items) (mid_at side).state (new_at side).state (left_on side new) settles.fed
+          feeds_read Here is = is.3
+          feeds_read There is = is.3
 
           -- and the other is as it was
           both_kept : (P : Kept → Kept → Type 0) (side : Side) → FedSide side → P (here_with side (new_at side) (kept_pool mid.here)) (there_with side (new_at side) (kept_pool mid.there)) → P (kept_pool new.here) (kept_pool new.there)
@@ -450,11 +469,11 @@ module _ {D E : Type 0} {g : Ghosts D} {h : Ghosts E} where
               (subst (λ (ss : List kept_sends.OpenSend). SessionsFit (kept_pool new.here) (kept_pool new.there) ss (settled (goes_on settles.fed) into (record its { recv = settles.after }) mid.receives.items)) (sym same_sends)
               (both_kept (λ a b. SessionsFit a b mid.sends.items (settled (goes_on settles.fed) into (record its { recv = settles.after }) mid.receives.items)) its.side fed_side
               (fed_fit fitting (kept_pool mid.here) (kept_pool mid.there) (new_at its.side) mid.sends.items mid.receives.items into its settles.after (take taken mid.room.items) settles.fed gave.fits.sessions below from_mid
-              (feeds_kept its.side fed_side))))
+              (feeds_kept its.side fed_side) (feeds_read its.side fed_side).fed)))
 
           rose : (side : Side) → FedSide side → Rose (mid_at side).disk.faults (new_at side).disk.faults → Rose (disk_of old.here.io).faults (disk_of new.here.io).faults ⊎ Rose (disk_of old.there.io).faults (disk_of new.there.io).faults
-          rose Here is more = inl (Rose-earlier (disk_of old.here.io).faults (disk_of mid.here.io).faults (disk_of new.here.io).faults gave.here_later.faults more)
-          rose There is more = inr (Rose-earlier (disk_of old.there.io).faults (disk_of mid.there.io).faults (disk_of new.there.io).faults gave.there_later.faults more)
+          rose Here is more = inl (Rose-earlier (disk_of old.here.io).faults (disk_of mid.here.io).faults (disk_of new.here.io).faults gave.later.here.faults more)
+          rose There is more = inr (Rose-earlier (disk_of old.there.io).faults (disk_of mid.there.io).faults (disk_of new.there.io).faults gave.later.there.faults more)
 
           -- so it does behind the feed, unless its disk failed in that
           fed_works : (side : Side) → FedSide side → ¬ (fails (stop_of settles.fed) ≡ true) → NoneFailed old new
@@ -482,19 +501,51 @@ module _ {D E : Type 0} {g : Ghosts D} {h : Ghosts E} where
           there_spared There is = spares (kept_pool old.there) (kept_pool new.there) (λ works ptr bytes has. is.0.keeps.blocks works ptr bytes (read_blocks (kept_pool old.there) (kept_pool mid.there) gave.there_read ptr bytes has))
               (λ works has. is.0.keeps.extents works (read_extents (kept_pool old.there) (kept_pool mid.there) gave.there_read has))
 
+          -- what is kept of the pool of a side behind the take
+          mid_state : (side : Side) → (mid_at side).state ≡ (kept_at side (kept_pool old.here) (kept_pool old.there)).state
+          mid_state Here = gave.here_read.state
+          mid_state There = gave.there_read.state
+
+          from_old : get_or old.receives.items into its ≡ its
+          from_old = sym (ap (λ v. get_or v.items into its) gave.receives) ∙ from_mid
+
+          -- the receive was open as the event began, and was fed some text
+          was_open : find (λ r. r.id == receives) old.receives.items ≡ Some its
+          was_open = found_there (λ r. r.id == receives) old.receives.items into its to from_old
+
+          was_fed : (text : List ℕ) × WasFed its.recv text
+          was_fed =
+              let below_old = (position-Some (λ r. r.id == receives) old.receives.items into its to).0 in
+              subst (λ (r : kept_receives.OpenReceive). (text : List ℕ) × WasFed r.recv text) from_old (fits.sessions.receives_fit into its below_old).fed
+
+          -- and where it found no room the piece was short
+          fed_full : (need largest : ℕ) → result ≡ Err (refusals.Full need largest) → PumpIsShort receives count old new need largest
+          fed_full need largest e =
+              let fell = is_full taken settles.after settles.fed need largest (sym settles.reply ∙ e) in
+              record {
+                one = its;
+                is_open = was_open;
+                taken = taken;
+                within = gave.within;
+                fed = was_fed;
+                short = λ text has.
+                    let short = ((feeds_read its.side fed_side).costs text has).short need largest fell in
+                    subst (λ (piece : List ℕ). PieceIsShort (new_records text (take taken piece)) (kept_at its.side (kept_pool old.here) (kept_pool old.there)).state (left_on its.side new) need largest) (sym (ap (λ v. v.items) settles.feeds.room))
+                    (subst (λ (state : PoolState). PieceIsShort (new_records text (take taken mid.room.items)) state (left_on its.side new) need largest) (mid_state its.side) short);
+              }
+
           pub pumps_fed : StepsEngine (events.Pump sends receives count) old new result
           pumps_fed =
               let feeds = feeds_kept its.side fed_side in
               record {
                 steps = pumped_world;
                 fits = record { sessions = fed_sessions; room = ap (λ v. length v.items) settles.feeds.room ∙ gave.fits.room };
-                here_later = later_then old.here mid.here new.here gave.here_later (here_later its.side fed_side);
-                there_later = later_then old.there mid.there new.there gave.there_later (there_later its.side fed_side);
-                time = settles.feeds.time ∙ gave.time;
+                later = record { here = later_then old.here mid.here new.here gave.later.here (here_later its.side fed_side); there = later_then old.there mid.there new.there gave.later.there (there_later its.side fed_side); time = settles.feeds.time ∙ gave.later.time };
                 cause = λ e. rose its.side fed_side (feeds.cause.fault (ap (λ (r : Result FeedReport RecvFault). stop_of r) (is_fault taken settles.after settles.fed (sym settles.reply ∙ e))));
                 open_still = λ here there e. feeds.open_still (mid_works here there its.side) (is_failed taken settles.after settles.fed (sym settles.reply ∙ e));
                 checks = λ of running is honest. absurd (cc is);
                 works = λ alive. fed_works its.side fed_side (λ fell. alive (settles.reply ∙ fell_so taken settles.after settles.fed fell));
                 here_spares = λ no_reclaim. here_spared its.side fed_side;
                 there_spares = λ no_reclaim. there_spared its.side fed_side;
+                full = fed_full;
               }

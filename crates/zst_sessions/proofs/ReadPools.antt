@@ -105,6 +105,7 @@ looks_unmoved {T = T} {D = D} {g = g} old new same works = subst (λ (p : pools.
   idle = λ fell. refl;
   open_still = λ alive is. cc is;
   reads = OnlyReads-none (disk_of old.io);
+  never_full = λ need largest is. cc is;
   kept = refl;
   failed = works ∙ ap (λ (b : Bool). b || false) (sym works);
   cause = record { later = omega arith; fault = λ is. absurd (cc is) };

@@ -152,6 +152,13 @@ module _ {D E : Type 0} {g : Ghosts D} {h : Ghosts E} (old new : Engine D E g h)
       go (Ok number) is = absurd (cc)
       go (Err refusal) is = let same : refusal ≡ refusals.Failed = cc in ap (λ (f : Refusal). Err f) same
 
+  full_is : (need largest : ℕ) → opened result ≡ Err (refusals.Full need largest) → result ≡ Err (refusals.Full need largest)
+  full_is need largest = go result
+    where
+      go : (r : Result ℕ Refusal) → opened r ≡ Err (refusals.Full need largest) → r ≡ Err (refusals.Full need largest)
+      go (Ok number) is = absurd (cc)
+      go (Err refusal) is = let same : refusal ≡ refusals.Full need largest = cc in ap (λ (f : Refusal). Err f) same
+
   module _ (time : new.now ≡ old.now) (room : new.room ≡ old.room) (still : ¬ (result ≡ Err refusals.Failed)) where
     pub reopens_here : Ends Here → new.there ≡ old.there → OpensAgain (kept_pool old.here) (kept_pool new.here) result → IsLaterPool old.here new.here
         → (result ≡ Err refusals.DiskFault → Rose (disk_of old.here.io).faults (disk_of new.here.io).faults) → StepsEngine (events.Reopen Here) old new (opened result)
@@ -169,15 +176,14 @@ module _ {D E : Type 0} {g : Ghosts D} {h : Ghosts E} (old new : Engine D E g h)
             (fits_left Here (kept_pool old.here) (kept_pool old.there) (kept_pool new.here) old.sends.items old.receives.items opens.ready fits.sessions)));
         room = ap (λ (r : _). length r.items) room ∙ fits.room;
       };
-      here_later = later;
-      there_later = subst (λ (p : pools.Pool E h). IsLaterPool old.there p) (sym other) (stays_later old.there);
-      time = time;
+      later = record { here = later; there = subst (λ (p : pools.Pool E h). IsLaterPool old.there p) (sym other) (stays_later old.there); time = time };
       cause = λ is. inl (cause (fault_is is));
       open_still = λ works also is. still (failed_is is);
       checks = λ of running is honest. absurd (cc is);
       works = λ alive. (opens.works (λ is. alive (ap opened is)), λ works. ap (λ (p : pools.Pool E h). p.io.failed) other ∙ works);
       here_spares = λ no_reclaim. opens_spares (kept_pool old.here) (kept_pool new.here) refl opens.reads opens.body;
       there_spares = λ no_reclaim. subst (λ (p : pools.Pool E h). SparesBlocks (events.Reopen Here ≡ events.Reopen There) (kept_pool old.there) (kept_pool p)) (sym other) (none_spares (kept_pool old.there));
+      full = λ need largest is. opens.never_full need largest (full_is need largest is);
     }
 
     pub reopens_there : Ends There → new.here ≡ old.here → OpensAgain (kept_pool old.there) (kept_pool new.there) result → IsLaterPool old.there new.there
@@ -196,13 +202,12 @@ module _ {D E : Type 0} {g : Ghosts D} {h : Ghosts E} (old new : Engine D E g h)
             (fits_left There (kept_pool old.here) (kept_pool old.there) (kept_pool new.there) old.sends.items old.receives.items opens.ready fits.sessions)));
         room = ap (λ (r : _). length r.items) room ∙ fits.room;
       };
-      here_later = subst (λ (p : pools.Pool D g). IsLaterPool old.here p) (sym other) (stays_later old.here);
-      there_later = later;
-      time = time;
+      later = record { here = subst (λ (p : pools.Pool D g). IsLaterPool old.here p) (sym other) (stays_later old.here); there = later; time = time };
       cause = λ is. inr (cause (fault_is is));
       open_still = λ works also is. still (failed_is is);
       checks = λ of running is honest. absurd (cc is);
       works = λ alive. (λ works. ap (λ (p : pools.Pool D g). p.io.failed) other ∙ works, opens.works (λ is. alive (ap opened is)));
       here_spares = λ no_reclaim. subst (λ (p : pools.Pool D g). SparesBlocks (events.Reopen There ≡ events.Reopen Here) (kept_pool old.here) (kept_pool p)) (sym other) (none_spares (kept_pool old.here));
       there_spares = λ no_reclaim. opens_spares (kept_pool old.there) (kept_pool new.there) refl opens.reads opens.body;
+      full = λ need largest is. opens.never_full need largest (full_is need largest is);
     }

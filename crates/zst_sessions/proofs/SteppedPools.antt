@@ -25,18 +25,20 @@ use Rattle.zst_model.specs.refusals.Refusal.{refusal_of}
 use Rattle.zst_pool.specs.Calls.{IsAtRest}
 use Rattle.zst_pool.specs.Events.{Settles, StepDid}
 use Rattle.zst_pool.specs.Cost.{Spends, cost_of}
-use Rattle.zst_pool.specs.Faults.{is_disk_fault}
+use Rattle.zst_pool.specs.Faults.{is_disk_fault, pool_refusal}
 use Rattle.zst_pool.specs.PartialRows.{rows_after}
-use Rattle.zst_pool.specs.Reclaims.{HeldStand, Reclaims}
+use Rattle.zst_pool.specs.Reclaims.{FindsAllReached, HeldStand, Reclaims}
 use Rattle.zst_pool.specs.StepAnswers.{BeforeOrAfter, StepAnswer}
 use Rattle.zst_pool.specs.declared.fault.PoolFault.{PoolFault}
 use Rattle.zst_pool.specs.declared.fault.PoolFault.TheVariants as faults
 use Rattle.zst_pool.specs.declared.pool.Pool.{Pool}
 use Rattle.zst_roots.specs.declared.held.HeldBlocks.{HeldBlocks}
+use Rattle.zst_sessions.proofs.PoolRefusals.{fault_of_full}
 use Rattle.zst_sessions.specs.BusySessions.{SessionsComeFirst, busy_for}
 use Rattle.zst_sessions.specs.CommandSteps.{GivesUp, StepEnds, Accepts, Refuses, LacksRoom, LacksMemory, Loses, StepsPool, made_of, pool_after, pool_told}
 use Rattle.zst_sessions.specs.EngineSteps.{KeepsHeld, KeepsSessions, LeavesRows, kept_pool}
 use Rattle.zst_sessions.specs.Engines.{Kept, PoolStands}
+use Rattle.zst_sessions.specs.FullPools.{CommandIsShort, StepIsShort}
 use Rattle.zst_sessions.specs.LostDisks.{ReadsAsOne}
 use Rattle.zst_sessions.specs.Moves.{Answer}
 use Rattle.zst_sessions.specs.World.{OpenPool}
@@ -146,7 +148,40 @@ fell_told (Err faults.DiskFault) fell = refl
 fell_told (Err faults.Failed) fell = absurd (cc)
 fell_told (Err faults.OutOfMemory) fell = absurd (cc)
 
+-- and one that found no room answers so
+full_told : (told : Result (List (List ℕ)) PoolFault) (need largest : ℕ) → pool_told told ≡ Err (refusals.Full need largest) → told ≡ Err (faults.Full need largest)
+full_told (Ok reply) need largest is = absurd (cc)
+full_told (Err fault) need largest is = let same : pool_refusal fault ≡ refusals.Full need largest = cc in ap err (fault_of_full fault need largest same)
+  where
+    err : PoolFault → Result (List (List ℕ)) PoolFault
+    err f = Err f
+
 module _ {D : Type 0} {g : Ghosts D} (old new : Pool D g) where
+  -- what a command that is no reclaim took, where it found no room
+  spent : (command : Command) (answer : Result (List (List ℕ)) PoolFault)
+      → (block : ℕ) × (block ≤ (cost_of command).most) × Spends (cost_of command).cells block (cost_of command).most_list old.kept new.io.space (λ reply. new.kept) answer
+      → (need largest : ℕ) → answer ≡ Err (faults.Full need largest) → CommandIsShort command old.kept new.io.space need largest
+  spent command (Ok reply) spends need largest is = absurd (cc is)
+  spent command (Err fault) spends need largest is = let fell : fault ≡ faults.Full need largest = cc is in record { block = spends.0; most = spends.1; short = spends.2.full need largest fell }
+
+  -- and what a reclaim found
+  starved : (blocks : List HeldBlocks) (answer : Result (List (List ℕ)) PoolFault) → Reclaims blocks (disk_of old.io) (disk_of new.io) old.kept new.kept new.io.space answer
+      → (need largest : ℕ) → answer ≡ Err (faults.Full need largest) → FindsAllReached (disk_of old.io).seen old.kept blocks new.io.space need largest
+  starved blocks (Ok reply) reclaims need largest is = absurd (cc is)
+  starved blocks (Err fault) reclaims need largest is = let fell : fault ≡ faults.Full need largest = cc is in reclaims.full need largest fell
+
+  -- so E24 of a step tells what it found, whatever the image is
+  pub step_full : (now : ℕ) (command : Command) (blocks : List HeldBlocks) (told : Result (List (List ℕ)) PoolFault) → StepDid now command blocks old new told
+      → ((need largest : ℕ) → told ≡ Err (faults.Full need largest) → commits command ≡ true) → old.io.failed ≡ false
+      → (need largest : ℕ) → pool_told told ≡ Err (refusals.Full need largest) → StepIsShort command blocks (kept_pool old) (kept_pool new) new.io.space need largest
+  step_full now command blocks told did room works need largest is =
+      let same = full_told told need largest is in
+      record {
+        commits = room need largest same;
+        runs = λ other. spent command told (did.spends other works) need largest same;
+        reclaims = λ one honest. starved blocks told (did.reclaims one honest works) need largest same;
+      }
+
   -- where the disk works after a step, it worked before, and didn't fail in it
   worked : (told : Result (List (List ℕ)) PoolFault) → new.io.failed ≡ (old.io.failed || is_disk_fault told) → new.io.failed ≡ false → (old.io.failed ≡ false) × (¬ (told ≡ Err faults.DiskFault))
   worked told failed works =
@@ -279,7 +314,7 @@ module _ {D : Type 0} {g : Ghosts D} (old new : Pool D g) where
       subst (λ (definition : Result Stepped Refusal). StepsPool command definition opened (kept_pool old) (kept_pool new) (pool_told told)) (sym beside)
       (by_answer command alone opened works (sym stands.mark ∙ works) settles.ready moments told settles.failed (did.answer true opened.pool honest works rested stand)
       (λ need largest is.
-      (⊎_elim (λ one. starved told (did.reclaims one honest works) need largest is) (λ other. shorter told (did.spends other works) need largest is) (is_reclaim command), room need largest is))
+      (⊎_elim (λ one. (starved blocks told (did.reclaims one honest works) need largest is).full_after.shorter) (λ other. (spent command told (did.spends other works) need largest is).short.shorter) (is_reclaim command), room need largest is))
       (did.open_still works) seen)
     where
       as_one : (opened : OpenPool) (alone : Result Stepped Refusal) → Leaves (disk_of old.io) (disk_of new.io) (BeforeOrAfter true opened.pool alone)
@@ -288,14 +323,3 @@ module _ {D : Type 0} {g : Ghosts D} (old new : Pool D g) where
           Leaves-weaker (disk_of old.io) (disk_of new.io) (BeforeOrAfter true opened.pool alone) (ReadsAsOne true (kept_of opened.pool) (kept_of (pool_after opened.pool alone))) moments
           (λ c is. ⊎_elim (λ before. inl before)
           (λ after. inr (subst (λ (p : Plain). Reads true (kept_of p) c) (sym (ap (λ (d : Result Stepped Refusal). pool_after opened.pool d) after.1)) after.2)) is)
-
-      shorter : (answer : Result (List (List ℕ)) PoolFault)
-          → (block : ℕ) × (block ≤ (cost_of command).most) × Spends (cost_of command).cells block (cost_of command).most_list old.kept new.io.space (λ reply. new.kept) answer
-          → (need largest : ℕ) → answer ≡ Err (faults.Full need largest) → largest < need
-      shorter (Ok reply) spends need largest is = absurd (cc is)
-      shorter (Err fault) spends need largest is = let fell : fault ≡ faults.Full need largest = cc is in let room_is = spends.2.full need largest fell in room_is.shorter
-
-      starved : (answer : Result (List (List ℕ)) PoolFault) → Reclaims blocks (disk_of old.io) (disk_of new.io) old.kept new.kept new.io.space answer
-          → (need largest : ℕ) → answer ≡ Err (faults.Full need largest) → largest < need
-      starved (Ok reply) reclaims need largest is = absurd (cc is)
-      starved (Err fault) reclaims need largest is = let fell : fault ≡ faults.Full need largest = cc is in let room_is = reclaims.full need largest fell in room_is.full_after.shorter

@@ -36,6 +36,7 @@ use Rattle.zst_sessions.specs.BusySessions.{busy_for}
 use Rattle.zst_sessions.specs.CommandSteps.{GivesUp, StepEnds, HadFailed, Accepts, Refuses, LacksRoom, LacksMemory, Loses, IsUnclaimed, StepsPool, made_of, pool_after}
 use Rattle.zst_sessions.specs.EngineSteps.{EngineFits, IsLaterPool, KeepsHeld, KeepsSessions, StepsEngine, coded_claim, coded_held, coded_hold, held_blocks, here_with, kept_pool, target_of, there_with}
 use Rattle.zst_sessions.specs.Engines.{BeforeOrAfter, Kept, PoolStands, ReceiveStandsOn, SendStandsOn, Stands, Steps, kept_at}
+use Rattle.zst_sessions.specs.FullPools.{StepIsShort}
 use Rattle.zst_sessions.specs.EventReplies.{answer_of}
 use Rattle.zst_sessions.specs.Lawfulness.{MovesKeepWorlds}
 use Rattle.zst_sessions.specs.Moves.{Answer, moved, refuses, stepped_to}
@@ -276,9 +277,11 @@ module _ {D E : Type 0} {g : Ghosts D} {h : Ghosts E} (laws : Laws) (old : Engin
       → KeepsHeld (GivesUp holder command old.here.kept.dir) (held_blocks side old.sends.items) first (kept_pool {g = g} pool)
       → (command ≢ commands.Reclaim → KeepsSessions (GivesUp holder command old.here.kept.dir) first (kept_pool {g = g} pool)) → IsLaterPool old.here pool
       → (answer ≡ Err refusals.DiskFault → Rose (disk_of old.here.io).faults (disk_of pool.io).faults) → (old.here.io.failed ≡ false → ¬ (answer ≡ Err refusals.Failed))
-      → (¬ (answer ≡ Err refusals.DiskFault) → old.here.io.failed ≡ false → pool.io.failed ≡ false) → StepsEngine (events.Step side command) old (record old { here = pool }) result
-  step_here There is pool busy claimed steps held keeps later cause open_still still = absurd (cc is)
-  step_here Here is pool busy claimed steps held keeps later cause open_still still =
+      → (¬ (answer ≡ Err refusals.DiskFault) → old.here.io.failed ≡ false → pool.io.failed ≡ false)
+      → ((need largest : ℕ) → answer ≡ Err (refusals.Full need largest) → StepIsShort command (held_blocks side old.sends.items) first (kept_pool {g = g} pool) pool.io.space need largest)
+      → StepsEngine (events.Step side command) old (record old { here = pool }) result
+  step_here There is pool busy claimed steps held keeps later cause open_still still full = absurd (cc is)
+  step_here Here is pool busy claimed steps held keeps later cause open_still still full =
       let new = kept_pool {g = g} pool in
       let own = GivesUp holder command old.here.kept.dir in
       record {
@@ -290,15 +293,14 @@ module _ {D E : Type 0} {g : Ghosts D} {h : Ghosts E} (laws : Laws) (old : Engin
               (others_stay laws Here old.now command holder answer first second new old.sends.items old.receives.items held claimed) fits.sessions;
           room = fits.room;
         };
-        here_later = later;
-        there_later = same_later old.there;
-        time = refl;
+        later = record { here = later; there = same_later old.there; time = refl };
         cause = λ is. inl (cause (sym told ∙ ap answer_of is));
         open_still = λ works also is. open_still works (sym told ∙ ap answer_of is);
         checks = λ of running is honest. absurd (cc is);
         works = λ alive. (still (λ is. alive (lost_as result (told ∙ is))), λ works. works);
         here_spares = λ no_reclaim. kept_spares own first new (keeps (λ one. no_reclaim (ap (λ (other : Command). events.Step Here other) one)));
         there_spares = λ no_reclaim. none_spares second;
+        full = λ need largest is. full need largest (sym told ∙ ap answer_of is);
       }
 
   pub step_there : (side : Side) → side ≡ There → (pool : Pool E h)
@@ -310,9 +312,11 @@ module _ {D E : Type 0} {g : Ghosts D} {h : Ghosts E} (laws : Laws) (old : Engin
       → KeepsHeld (GivesUp holder command old.there.kept.dir) (held_blocks side old.sends.items) second (kept_pool {g = h} pool)
       → (command ≢ commands.Reclaim → KeepsSessions (GivesUp holder command old.there.kept.dir) second (kept_pool {g = h} pool)) → IsLaterPool old.there pool
       → (answer ≡ Err refusals.DiskFault → Rose (disk_of old.there.io).faults (disk_of pool.io).faults) → (old.there.io.failed ≡ false → ¬ (answer ≡ Err refusals.Failed))
-      → (¬ (answer ≡ Err refusals.DiskFault) → old.there.io.failed ≡ false → pool.io.failed ≡ false) → StepsEngine (events.Step side command) old (record old { there = pool }) result
-  step_there Here is pool busy claimed steps held keeps later cause open_still still = absurd (cc is)
-  step_there There is pool busy claimed steps held keeps later cause open_still still =
+      → (¬ (answer ≡ Err refusals.DiskFault) → old.there.io.failed ≡ false → pool.io.failed ≡ false)
+      → ((need largest : ℕ) → answer ≡ Err (refusals.Full need largest) → StepIsShort command (held_blocks side old.sends.items) second (kept_pool {g = h} pool) pool.io.space need largest)
+      → StepsEngine (events.Step side command) old (record old { there = pool }) result
+  step_there Here is pool busy claimed steps held keeps later cause open_still still full = absurd (cc is)
+  step_there There is pool busy claimed steps held keeps later cause open_still still full =
       let new = kept_pool {g = h} pool in
       let own = GivesUp holder command old.there.kept.dir in
       record {
@@ -324,13 +328,12 @@ module _ {D E : Type 0} {g : Ghosts D} {h : Ghosts E} (laws : Laws) (old : Engin
               (others_stay laws There old.now command holder answer first second new old.sends.items old.receives.items held claimed) fits.sessions;
           room = fits.room;
         };
-        here_later = same_later old.here;
-        there_later = later;
-        time = refl;
+        later = record { here = same_later old.here; there = later; time = refl };
         cause = λ is. inr (cause (sym told ∙ ap answer_of is));
         open_still = λ also works is. open_still works (sym told ∙ ap answer_of is);
         checks = λ of running is honest. absurd (cc is);
         works = λ alive. (λ works. works, still (λ is. alive (lost_as result (told ∙ is))));
         here_spares = λ no_reclaim. none_spares first;
         there_spares = λ no_reclaim. kept_spares own second new (keeps (λ one. no_reclaim (ap (λ (other : Command). events.Step There other) one)));
+        full = λ need largest is. full need largest (sym told ∙ ap answer_of is);
       }

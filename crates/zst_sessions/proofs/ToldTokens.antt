@@ -91,8 +91,9 @@ module _ {D E : Type 0} {g : Ghosts D} {h : Ghosts E} (old : Engine D E g h) (si
   -- a token that is told leaves the engine as it was
   pub token_steps : answer_of result ≡ token_answer told → EngineFits old → (kept_there.failed ≡ true → told ≡ Err refusals.Failed)
       → (kept_there.failed ≡ false → (running : Plain) → AreNamed kept_there.state.dir running → told ≡ told_as (token_told dataset running))
-      → (kept_there.failed ≡ false → ¬ (told ≡ Err refusals.Failed)) → ¬ (told ≡ Err refusals.DiskFault) → StepsEngine (events.Token side dataset) old old result
-  token_steps answers fits failed works alive no_fault = record {
+      → (kept_there.failed ≡ false → ¬ (told ≡ Err refusals.Failed)) → ¬ (told ≡ Err refusals.DiskFault) → ((need largest : ℕ) → ¬ (told ≡ Err (refusals.Full need largest)))
+      → StepsEngine (events.Token side dataset) old old result
+  token_steps answers fits failed works alive no_fault never_full = record {
     steps = λ world honest also tells and stands.
         let at = stands_at side (kept_pool {g = g} old.here) (kept_pool {g = h} old.there) world stands.here_stands stands.there_stands in
         idle_steps old.now world (events.Token side dataset) (answer_of result) (kept_pool {g = g} old.here) (kept_pool {g = h} old.there) old.sends.items old.receives.items stands
@@ -103,13 +104,12 @@ module _ {D E : Type 0} {g : Ghosts D} {h : Ghosts E} (old : Engine D E g h) (si
         answers
         ∙ ap (λ (t : Result Token Refusal). token_answer t) (works (at.mark ∙ is) pool (rows_named (Has kept_there.disk.seen (free_by kept_there.state.body)) kept_there.state.dir pool rested.runs_by))));
     fits = fits;
-    here_later = same_later old.here;
-    there_later = same_later old.there;
-    time = refl;
+    later = record { here = same_later old.here; there = same_later old.there; time = refl };
     cause = λ is. absurd (no_fault (only_refusal told refusals.DiskFault (sym answers ∙ ap answer_of is)));
     open_still = λ first second is. alive (works_at side (kept_pool {g = g} old.here) (kept_pool {g = h} old.there) first second) (only_refusal told refusals.Failed (sym answers ∙ ap answer_of is));
     checks = λ of running is honest. absurd (cc is);
     works = λ alive. (λ works. works, λ works. works);
     here_spares = λ no_reclaim. none_spares (kept_pool old.here);
     there_spares = λ no_reclaim. none_spares (kept_pool old.there);
+    full = λ need largest is. absurd (never_full need largest (only_refusal told (refusals.Full need largest) (sym answers ∙ ap answer_of is)));
   }

@@ -32,8 +32,9 @@ pub record DoesNothing (now : ℕ) (event : Event) (world : World) (result : Res
 module _ {D E : Type 0} {g : Ghosts D} {h : Ghosts E} (event : Event) (old : Engine D E g h) (result : Result EventReply Refusal) where
   -- so the engine answers one that is no check where it does nothing, and no disk was asked
   pub nothing_done : IsOther event → EngineFits old → ((world : World) → StandsFor old world → DoesNothing old.now event world result) → ¬ (result ≡ Err refusals.DiskFault)
-      → (old.here.io.failed ≡ false → old.there.io.failed ≡ false → ¬ (result ≡ Err refusals.Failed)) → StepsEngine event old old result
-  nothing_done other fits says no_fault open_still = record {
+      → (old.here.io.failed ≡ false → old.there.io.failed ≡ false → ¬ (result ≡ Err refusals.Failed))
+      → ((need largest : ℕ) → ¬ (result ≡ Err (refusals.Full need largest))) → StepsEngine event old old result
+  nothing_done other fits says no_fault open_still never_full = record {
     steps = λ world honest also tells told stands.
         let is = says world stands in
         record {
@@ -44,13 +45,12 @@ module _ {D E : Type 0} {g : Ghosts D} {h : Ghosts E} (event : Event) (old : Eng
           there_moments = Leaves-none (disk_of old.there.io) (MayLeave true There event (kept_pool old.there) world (moved old.now event world).world);
         };
     fits = fits;
-    here_later = stays_later old.here;
-    there_later = stays_later old.there;
-    time = refl;
+    later = record { here = stays_later old.here; there = stays_later old.there; time = refl };
     cause = λ is. absurd (no_fault is);
     open_still = open_still;
     checks = λ of running is honest. absurd (other of is);
     works = λ alive. (λ works. works, λ works. works);
     here_spares = λ no_reclaim. none_spares (kept_pool old.here);
     there_spares = λ no_reclaim. none_spares (kept_pool old.there);
+    full = λ need largest is. absurd (never_full need largest is);
   }

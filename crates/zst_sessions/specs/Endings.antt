@@ -35,6 +35,7 @@ pub data OpeningEnds (old new : Kept) (pool : Pool) (result : Result ℕ Refusal
 -- A pool was opened again, once what isn't kept of it was dropped: its disk was only read, and where that reads as what is kept of a pool, as whose the pool at rest is, it ends so.
 pub record OpensAgain (old new : Kept) (result : Result ℕ Refusal) : Type 0 where
   pub reads : OnlyReads old.disk new.disk
+  pub never_full : (need largest : ℕ) → ¬ (result ≡ Err (refusals.Full need largest))
   pub ready : new.failed ≡ false → Ready new.disk new.state.body
   pub works : ¬ (result ≡ Err refusals.DiskFault) → old.failed ≡ false → new.failed ≡ false
   -- unless its disk had failed, or a read gave other bytes, its body is the one that was kept, where the extents of that stood in sectors that it left not free

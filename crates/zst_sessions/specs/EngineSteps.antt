@@ -1,7 +1,8 @@
 -- What the engine keeps, whatever the images are, and what an event does to it.
-use Rattle.std.specs.Prelude.{◌≡◌, ◌≢◌, ◌⊎◌, ◌≤◌, IsTrue, ℕ, true, false, List, [], length, find, filter, map, ◌++◌, All, AllPairs, Result, Err, IfOk}
+use Rattle.std.specs.Prelude.{◌≡◌, ◌≢◌, ◌⊎◌, ◌==◌, ◌≤◌, IsTrue, ℕ, true, false, List, [], length, take, find, filter, map, ◌++◌, All, AllPairs, Some, Result, Err, IfOk}
 use Rattle.zst_outside.specs.Causes.{Rose}
 use Rattle.zst_outside.specs.declared.disk.Disk.{Ghosts}
+use Rattle.zst_space.specs.FreeSectors.{FreeSectors}
 use Rattle.zst_block.specs.Blocks.{KeepsBlocks}
 use Rattle.zst_block.specs.IoStates.{disk_of}
 use Rattle.zst_dir.specs.RowNames.{Match}
@@ -15,6 +16,8 @@ use Rattle.zst_model.specs.pools.Pool.{Pool as Plain}
 use Rattle.zst_model.specs.pools.Sessions.{Held, Holds, Claims}
 use Rattle.zst_pool.specs.Reclaims.{SparesReached}
 use Rattle.zst_pool.specs.declared.pool.Pool.{Pool}
+use Rattle.zst_recv.specs.Costs.{PieceIsShort}
+use Rattle.zst_recv.specs.Feeds.{new_records}
 use Rattle.zst_recv.specs.GoingOn.{IsRow}
 use Rattle.zst_recv.specs.Stages.{RecvFits, ask_of, is_live, stage_of}
 use Rattle.zst_script.specs.declared.event.Event.{Event}
@@ -27,6 +30,7 @@ use Rattle.zst_send.specs.Sends.{SendFits}
 use Rattle.zst_sessions.specs.CheckReports.{TellsCheck}
 use Rattle.zst_sessions.specs.Engines.{Kept, ReceiveStandsOn, SendStandsOn, Stands, Steps, kept_at}
 use Rattle.zst_sessions.specs.EventReplies.{answer_of}
+use Rattle.zst_sessions.specs.FullPools.{StepIsShort, WasFed}
 use Rattle.zst_sessions.specs.World.{OpenReceive, OpenSend, World, at_side, is_side}
 use Rattle.zst_sessions.specs.declared.engine.Engine.{Engine}
 use Rattle.zst_sessions.specs.declared.engine.Room.{Room}
@@ -57,11 +61,12 @@ there_with There new there = new
 
 -- ---- what is kept of sessions, whatever the images are
 
--- what is kept of a receive is in its ranges beside these rows: it goes on, and its partial state is the row of its target
+-- what is kept of a receive is in its ranges beside these rows: it goes on, its partial state is the row of its target, and it was fed some text
 pub record ReceiveFits (rows : Rows) (coded : kept_receives.OpenReceive) : Type 0 where
   pub live : is_live (stage_of coded.recv) ≡ true
   pub fits : RecvFits rows coded.recv
   pub row : IsRow rows (ask_of coded.recv).target (stage_of coded.recv)
+  pub fed : (text : List ℕ) × WasFed coded.recv text
 
 -- the target of a receive that is open
 abbrev pub target_of : kept_receives.OpenReceive → List ℕ
@@ -184,6 +189,12 @@ module _ {D E : Type 0} {g : Ghosts D} {h : Ghosts E} where
     pub sends : engine.sends.items ≡ []
     pub receives : engine.receives.items ≡ []
 
+  -- the same engine at a later moment: so it is with both of its pools, and its time is the same
+  pub record IsLaterEngine (old new : Engine D E g h) : Type 0 where
+    pub here : IsLaterPool old.here new.here
+    pub there : IsLaterPool old.there new.there
+    pub time : new.now ≡ old.now
+
   -- what the engine keeps is in its ranges, and it has room for a piece
   pub record EngineFits (engine : Engine D E g h) : Type 0 where
     pub sessions : SessionsFit (kept_pool engine.here) (kept_pool engine.there) engine.sends.items engine.receives.items
@@ -203,13 +214,33 @@ module _ {D E : Type 0} {g : Ghosts D} {h : Ghosts E} where
       (world : World) → (disk_of new.here.io).honest → (disk_of new.there.io).honest → IsTrue g.tells_images → IsTrue h.tells_images → StandsFor old world
       → Steps true old.now world event (kept_pool old.here) (kept_pool old.there) (kept_pool new.here) (kept_pool new.there) new.sends.items new.receives.items (answer_of result)
 
+  -- the sectors that are left of the pool of a side
+  abbrev pub left_on : Side → Engine D E g h → FreeSectors
+  left_on Here engine = engine.here.io.space
+  left_on There engine = engine.there.io.space
+
+  -- E24 of a pump: what was taken for the receive with this id, which stands in front of the room, found no room in its pool, behind each text that the receive was fed, and there is one
+  pub record PumpIsShort (id count : ℕ) (old new : Engine D E g h) (need largest : ℕ) : Type 0 where
+    pub one : kept_receives.OpenReceive
+    pub is_open : find (λ r. r.id == id) old.receives.items ≡ Some one
+    pub taken : ℕ
+    pub within : taken ≤ count
+    pub fed : (text : List ℕ) × WasFed one.recv text
+    pub short : (text : List ℕ) → WasFed one.recv text
+        → PieceIsShort (new_records text (take taken new.room.items)) (kept_at one.side (kept_pool old.here) (kept_pool old.there)).state (left_on one.side new) need largest
+
+  -- E24 comes of a command or of a pump alone, and tells what it found of the free sectors of its pool
+  abbrev pub EventIsShort : Event → (old new : Engine D E g h) → (need largest : ℕ) → Type 0
+  EventIsShort (events.Step side command) old new need largest =
+      StepIsShort command (held_blocks side old.sends.items) (kept_at side (kept_pool old.here) (kept_pool old.there)) (kept_at side (kept_pool new.here) (kept_pool new.there)) (left_on side new) need largest
+  EventIsShort (events.Pump send receive count) old new need largest = PumpIsShort receive count old new need largest
+  EventIsShort event old new need largest = ⊥
+
   -- an event of the engine: what it makes of a world, and what holds whatever the images are
   pub record StepsEngine (event : Event) (old new : Engine D E g h) (result : Result EventReply Refusal) : Type 0 where
     pub steps : StepsWorld event old new result
     pub fits : EngineFits new
-    pub here_later : IsLaterPool old.here new.here
-    pub there_later : IsLaterPool old.there new.there
-    pub time : new.now ≡ old.now
+    pub later : IsLaterEngine old new
     -- E28 comes only where the count of faults of a disk rose in this event, and E31 only where a disk had failed before
     pub cause : result ≡ Err refusals.DiskFault → Rose (disk_of old.here.io).faults (disk_of new.here.io).faults ⊎ Rose (disk_of old.there.io).faults (disk_of new.there.io).faults
     pub open_still : old.here.io.failed ≡ false → old.there.io.failed ≡ false → ¬ (result ≡ Err refusals.Failed)
@@ -219,3 +250,5 @@ module _ {D E : Type 0} {g : Ghosts D} {h : Ghosts E} where
     pub works : ¬ (result ≡ Err refusals.DiskFault) → NoneFailed old new
     pub here_spares : event ≢ events.Step Here commands.Reclaim → SparesBlocks (event ≡ events.Reopen Here) (kept_pool old.here) (kept_pool new.here)
     pub there_spares : event ≢ events.Step There commands.Reclaim → SparesBlocks (event ≡ events.Reopen There) (kept_pool old.there) (kept_pool new.there)
+    -- E24 tells what was found
+    pub full : (need largest : ℕ) → result ≡ Err (refusals.Full need largest) → EventIsShort event old new need largest

@@ -66,6 +66,7 @@ pub record TellsToken (dataset : List ℕ) (kept : Kept) (result : Result Token 
   pub told : kept.failed ≡ false → (running : Plain) → AreNamed kept.state.dir running → result ≡ told_as (token_told dataset running)
   pub open_still : kept.failed ≡ false → ¬ (result ≡ Err refusals.Failed)
   pub no_fault : ¬ (result ≡ Err refusals.DiskFault)
+  pub never_full : (need largest : ℕ) → ¬ (result ≡ Err (refusals.Full need largest))
 
 -- ---- why no session is opened
 

@@ -1,13 +1,15 @@
 -- What a feed makes of what the engine keeps, whatever the images are.
-use Rattle.std.specs.Prelude.{◌≡◌, ◌||◌, ◌<◌, ◌+◌, IsTrue, ℕ, Bool, true, false, List, length, take, set, get_or, Result, Ok, Err, if◌then◌else◌}
+use Rattle.std.specs.Prelude.{◌≡◌, ◌||◌, ◌<◌, ◌+◌, ◌++◌, IsTrue, ℕ, Bool, true, false, List, length, take, set, get_or, Result, Ok, Err, if◌then◌else◌}
 use Rattle.std.specs.List.{remove}
 use Rattle.std.specs.Option.{option_map_or}
 use Rattle.zst_outside.specs.Images.{Leaves}
 use Rattle.zst_outside.specs.declared.disk.Disk.{Ghosts}
+use Rattle.zst_space.specs.FreeSectors.{FreeSectors}
 use Rattle.zst_block.specs.Blocks.{Has}
 use Rattle.zst_block.specs.IoCalls.{HasCause, fails}
 use Rattle.zst_image.specs.Bodies.{free_by}
 use Rattle.zst_image.specs.Reads.{Reads, bound_of}
+use Rattle.zst_image.specs.declared.pool_state.PoolState.{PoolState}
 use Rattle.zst_model.specs.declared.refusals.faults.Quantity.TheVariants.{Stream}
 use Rattle.zst_model.specs.declared.refusals.plan_fault.PlanFault.TheVariants.{Limit}
 use Rattle.zst_model.specs.declared.refusals.refusal.Refusal.{Refusal}
@@ -16,8 +18,10 @@ use Rattle.zst_pool.specs.Calls.{IsAtRest}
 use Rattle.zst_pool.specs.declared.fault.PoolFault.TheVariants as pools
 use Rattle.zst_reader.specs.InputReads.{stream_limit}
 use Rattle.zst_recv.specs.Answers.{Feeds, goes_on}
+use Rattle.zst_recv.specs.Costs.{CostsPiece}
 use Rattle.zst_recv.specs.Faults.{recv_refusal, stop_of}
 use Rattle.zst_recv.specs.FedReceives.{LeavesReceive}
+use Rattle.zst_recv.specs.Feeds.{new_records}
 use Rattle.zst_recv.specs.GoingOn.{IsRow}
 use Rattle.zst_recv.specs.ReceiveSteps.{Stage}
 use Rattle.zst_recv.specs.Stages.{Receives, ask_of, fed_of, received_by, stage_of}
@@ -29,6 +33,7 @@ use Rattle.zst_script.specs.declared.event.Side.{Side}
 use Rattle.zst_script.specs.declared.event.Side.TheVariants.{Here, There}
 use Rattle.zst_sessions.specs.Engines.{Kept}
 use Rattle.zst_sessions.specs.EngineSteps.{IsLaterPool, KeepsSessions, kept_pool}
+use Rattle.zst_sessions.specs.FullPools.{WasFed}
 use Rattle.zst_sessions.specs.LostDisks.{ReadsAsOne}
 use Rattle.zst_sessions.specs.declared.engine.Engine.{Engine}
 use Rattle.zst_sessions.specs.declared.event_reply.EventReply.{EventReply}
@@ -83,11 +88,20 @@ pub record FeedsKept (old new : Kept) (before after : Recv) (piece : List ℕ) (
   pub own : goes_on result ≡ true → IsRow old.state.dir (ask_of before).target (stage_of before) → IsRow new.state.dir (ask_of before).target (stage_of after)
   pub receive : LeavesReceive new.state.dir piece before after result
 
+-- What a feed of a piece reads and costs behind each text that the receive was fed, whatever the image is: E24 comes only where the piece is short of sectors; and where it goes on it was fed the piece too.
+pub record FeedReads (before after : Recv) (piece : List ℕ) (old new : PoolState) (left : FreeSectors) (result : Result FeedReport RecvFault) : Type 0 where
+  pub costs : (text : List ℕ) → WasFed before text → CostsPiece (new_records text piece) old new left result
+  pub fed : (text : List ℕ) → WasFed before text → goes_on result ≡ true → WasFed after (text ++ piece)
+
 module _ {D E : Type 0} {g : Ghosts D} {h : Ghosts E} where
   -- a receive of one of the engine's pools was fed a piece, and the other pool is as it was
   abbrev pub FeedsSide : Side → Engine D E g h → Engine D E g h → Recv → Recv → List ℕ → Result FeedReport RecvFault → Type 0
-  FeedsSide Here old new before after piece result = FeedsKept (kept_pool old.here) (kept_pool new.here) before after piece result × IsLaterPool old.here new.here × (new.there ≡ old.there)
-  FeedsSide There old new before after piece result = FeedsKept (kept_pool old.there) (kept_pool new.there) before after piece result × IsLaterPool old.there new.there × (new.here ≡ old.here)
+  FeedsSide Here old new before after piece result =
+      FeedsKept (kept_pool old.here) (kept_pool new.here) before after piece result × IsLaterPool old.here new.here × (new.there ≡ old.there)
+      × FeedReads before after piece old.here.kept new.here.kept new.here.io.space result
+  FeedsSide There old new before after piece result =
+      FeedsKept (kept_pool old.there) (kept_pool new.there) before after piece result × IsLaterPool old.there new.there × (new.here ≡ old.here)
+      × FeedReads before after piece old.there.kept new.there.kept new.there.io.space result
 
   -- The receive at a place was fed the first bytes of the room, and it and its pool alone have changed.
   pub record FeedsOne (place count : ℕ) (old new : Engine D E g h) (one : OpenReceive) (after : Recv) (result : Result FeedReport RecvFault) : Type 0 where

@@ -6,6 +6,7 @@ use Rattle.zst_outside.specs.Images.{Leaves, OnlyReads}
 use Rattle.zst_outside.specs.declared.disk.Disk.{Ghosts}
 use Rattle.zst_block.specs.IoCalls.{HasCause, fails}
 use Rattle.zst_block.specs.IoStates.{disk_of}
+use Rattle.zst_block.specs.declared.fault.BlockFault.TheVariants.{Full}
 use Rattle.zst_image.specs.Reads.{Reads}
 use Rattle.zst_model.specs.declared.refusals.refusal.Refusal.{Refusal}
 use Rattle.zst_model.specs.declared.refusals.refusal.Refusal.TheVariants as refusals
@@ -19,7 +20,7 @@ use Rattle.zst_script.specs.declared.event.Side.TheVariants.{Here, There}
 use Rattle.zst_send.specs.Sends.{TakesFrom}
 use Rattle.zst_send.specs.declared.send.Send.{Send}
 use Rattle.zst_tree.specs.Indices.{Blocks}
-use Rattle.zst_sessions.specs.EngineSteps.{EngineFits, IsLaterPool, NoneFailed, StandsFor, kept_pool}
+use Rattle.zst_sessions.specs.EngineSteps.{EngineFits, IsLaterEngine, NoneFailed, StandsFor, kept_pool}
 use Rattle.zst_sessions.specs.Engines.{Kept, Stands}
 use Rattle.zst_sessions.specs.Replay.{Fails, image_of}
 use Rattle.zst_sessions.specs.World.{OpenSend, World, at_side, gone_on, next_piece, put_send, send_with}
@@ -38,12 +39,13 @@ pub record WasOnlyRead (old new : Kept) : Type 0 where
   pub mark : new.failed ≡ false → old.failed ≡ false
 
 module _ {D : Type 0} {g : Ghosts D} where
-  -- A call only looked at a pool: what is kept of it stays; a pool that has failed answers nothing else than that, and E28 comes only where its disk failed in this call.
+  -- A call only looked at a pool: what is kept of it stays; a pool that has failed answers nothing else than that, E28 comes only where its disk failed in this call, and E24 never.
   pub record LooksAtPool {T : Type 0} (old new : Pool D g) (result : Result T PoolFault) : Type 0 where
     pub failed_pool : old.io.failed ≡ true → result ≡ Err faults.Failed
     pub idle : old.io.failed ≡ true → new ≡ old
     pub open_still : old.io.failed ≡ false → ¬ (result ≡ Err faults.Failed)
     pub reads : OnlyReads (disk_of old.io) (disk_of new.io)
+    pub never_full : (need largest : ℕ) → ¬ (stop_of result ≡ Some (Full need largest))
     pub kept : new.kept ≡ old.kept
     pub failed : new.io.failed ≡ (old.io.failed || fails (stop_of result))
     pub cause : HasCause (disk_of old.io).faults (disk_of new.io).faults (stop_of result)
@@ -89,11 +91,10 @@ module _ {D E : Type 0} {g : Ghosts D} {h : Ghosts E} where
     pub receives : new.receives ≡ old.receives
     pub here_read : WasOnlyRead (kept_pool old.here) (kept_pool new.here)
     pub there_read : WasOnlyRead (kept_pool old.there) (kept_pool new.there)
-    pub here_later : IsLaterPool old.here new.here
-    pub there_later : IsLaterPool old.there new.there
-    pub time : new.now ≡ old.now
+    pub later : IsLaterEngine old new
     -- no disk fails unless it answers so, nor where bytes are given
     pub works : ¬ (result ≡ Err refusals.DiskFault) → NoneFailed old new
     pub marks : OnOk result ((new.here.io.failed ≡ old.here.io.failed) × (new.there.io.failed ≡ old.there.io.failed))
     pub cause : result ≡ Err refusals.DiskFault → Rose (disk_of old.here.io).faults (disk_of new.here.io).faults ⊎ Rose (disk_of old.there.io).faults (disk_of new.there.io).faults
     pub open_still : old.here.io.failed ≡ false → old.there.io.failed ≡ false → ¬ (result ≡ Err refusals.Failed)
+    pub never_full : (need largest : ℕ) → ¬ (result ≡ Err (refusals.Full need largest))

@@ -1,5 +1,5 @@
 // The events that run a command of a pool or tell a token.
-ghost use Rattle.std.specs.Prelude.{◌≡◌, ◌≢◌, List, IsTrue, Err, None, false, true};
+ghost use Rattle.std.specs.Prelude.{◌≡◌, ◌≢◌, ℕ, List, IsTrue, Err, None, false, true};
 ghost use Rattle.zst_outside.specs.Causes.{Rose};
 ghost use Rattle.zst_block.specs.IoStates.{IsHonest, disk_of};
 ghost use Rattle.zst_dir.specs.RowNames.{AreNamed};
@@ -15,6 +15,7 @@ ghost use Rattle.zst_sessions.specs.CommandSteps.{GivesUp, IsUnclaimed, StepsPoo
 ghost use Rattle.zst_sessions.specs.EngineSteps.{EngineFits, IsLaterPool, KeepsHeld, KeepsSessions, StepsEngine, coded_held, held_blocks, kept_pool};
 ghost use Rattle.zst_sessions.specs.Engines.{PoolStands, kept_at};
 ghost use Rattle.zst_sessions.specs.EventReplies.{answer_of};
+ghost use Rattle.zst_sessions.specs.FullPools.{StepIsShort};
 ghost use Rattle.zst_sessions.specs.World.{OpenPool};
 
 use crate::engine::Engine;
@@ -96,6 +97,7 @@ fn step_unless_busy<D: Disk>(
     ensures cause { result ≡ Err Refusal.DiskFault → Rose (disk_of pool.old.io).faults (disk_of pool.new.io).faults }
     ensures open_still { pool.old.io.failed ≡ false → ¬ (result ≡ Err Refusal.Failed) }
     ensures works { ¬ (result ≡ Err Refusal.DiskFault) → pool.old.io.failed ≡ false → pool.new.io.failed ≡ false }
+    ensures full { (need largest : ℕ) → result ≡ Err (Refusal.Full need largest) → StepIsShort command (held_blocks side sends.now) (kept_pool pool.old) (kept_pool pool.new) pool.new.io.space need largest }
 {
     lost_disks_read::<D>();
     sessions_come_first();
@@ -120,6 +122,7 @@ pub(crate) fn token_of<D: Disk>(pool: &Pool<'_, D>, dataset: &DatasetName) -> Re
     ensures told { pool.now.io.failed ≡ false → (running : Plain) → AreNamed pool.now.kept.dir running → result ≡ told_as (token_told dataset.now running) }
     ensures open_still { pool.now.io.failed ≡ false → ¬ (result ≡ Err Refusal.Failed) }
     ensures no_fault { ¬ (result ≡ Err Refusal.DiskFault) }
+    ensures never_full { (need largest : ℕ) → ¬ (result ≡ Err (Refusal.Full need largest)) }
 {
     if pool.io.failed {
         return Err(Refusal::Failed);

@@ -6,7 +6,7 @@ ghost use Rattle.zst_image.specs.Commits.{Ready};
 ghost use Rattle.zst_recv.specs.Stages.{RecvFits, is_live, stage_of};
 ghost use Rattle.zst_script.specs.declared.event.Event.TheVariants as events;
 ghost use Rattle.zst_sessions.specs.EngineSteps.{EngineFits, IsLaterPool, StepsEngine, kept_pool, piece_limit};
-ghost use Rattle.zst_sessions.specs.Pumps.{FeedsAt, FeedsKept, SettlesFeed, guid_of, standing_of};
+ghost use Rattle.zst_sessions.specs.Pumps.{FeedReads, FeedsAt, FeedsKept, SettlesFeed, guid_of, standing_of};
 
 use crate::engine::Engine;
 use crate::event_reply::{EventReply, Standing};
@@ -54,6 +54,7 @@ fn feed_into<D: Disk>(
     requires ready { pool.old.io.failed ≡ false → Ready (disk_of pool.old.io) pool.old.kept.body }
     ensures fed { FeedsKept (kept_pool pool.old) (kept_pool pool.new) recv.old recv.new piece.now result }
     ensures later { IsLaterPool pool.old pool.new }
+    ensures reads { FeedReads recv.old recv.new piece.now pool.old.kept pool.new.kept pool.new.io.space result }
 {
     lost_disks_read::<D>();
     tight_sets_tell_dates();

@@ -23,4 +23,4 @@ returns g c =
     opened c.args.now c.args.steps (g.D.Disk.state c.args.here.now) (g.D.Disk.state c.new-pool.result.io.disk.now) (g.D.Disk.state c.make_all-result.new.pool.io.disk.now)
     c.in_ok-kept.kept c.make_all-result.result (rw (sym n.disk) at e.there) (rw (sym n.disk) at e.answer) (rw (sym n.disk) at e.reads.reads) (rw (sym n.disk) at e.rests)
     (λ tight rows pool rests same. c.opened_is_at_rest.ensures.rests tight c.new-pool.result.io.disk.now c.in_ok-kept.kept rows pool rests same) (rw (sym n.disk) at e.reads.cause.later)
-    r.later.honest (rw (n.kept) at r.says) (rw (n.kept) at r.stood) r.why (g.met.D.Disk.only_now c.args.here.now) (g.met.D.Disk.counts_now c.make_all-result.new.pool.io.disk.now) r.later.faults)
+    r.later.honest (rw (n.kept) at r.says) (rw (n.kept) at r.stood) (rw (n.kept) at r.full) r.why (g.met.D.Disk.only_now c.args.here.now) (g.met.D.Disk.counts_now c.make_all-result.new.pool.io.disk.now) r.later.faults)

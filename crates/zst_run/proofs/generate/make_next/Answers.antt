@@ -13,4 +13,4 @@ returns-in_err-step g c =
 pub returns : goal.returns
 returns g c =
     let e = c.in_ok-step.ensures in
-    step_done c.args.now c.args.steps c.args.number c.in-Some.next (sym c.in_ok-made.ensures.command ∙ c.in-Some.is) c.requires.number c.args.pool.now c.step.new.self c.requires.works c.in_ok-step.field-0 e.did e.settles
+    step_done c.args.now c.args.steps c.args.number c.in-Some.next (sym c.in_ok-made.ensures.command ∙ c.in-Some.is) c.requires.number c.args.pool.now c.step.new.self c.requires.works c.in_ok-step.field-0 e.did e.settles e.partials

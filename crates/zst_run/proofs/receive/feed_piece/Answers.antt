@@ -162,12 +162,10 @@ pub returns-in-Err-clause-leaves : goal.returns-in-Err-clause-leaves
 returns-in-Err-clause-leaves g c =
     let e = c.in-Err.ensures in
     let can = c.requires.can_feed in
-    let has = can.fits.reads in
     record {
       ends =
           rw c.from.ensures
-          (feed_refused (g.D.Disk.state c.args.pool.now.io.disk.now) (g.D.Disk.state c.feed.new.pool.io.disk.now) c.in-Err.fault (e.leaves.pool.known can.works) e.leaves.pool.cause
-          (λ need largest is. ((e.costs has.text has.handed has.stands).short need largest (ap (λ (f : RecvFault). Err f) is)).shorter));
+          (feed_refused (g.D.Disk.state c.args.pool.now.io.disk.now) (g.D.Disk.state c.feed.new.pool.io.disk.now) c.in-Err.fault (e.leaves.pool.known can.works) e.leaves.pool.cause);
       within = e.leaves.receive.within;
       ask = e.leaves.receive.ask;
       fits = e.leaves.receive.fits;

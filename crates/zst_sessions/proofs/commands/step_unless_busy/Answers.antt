@@ -6,9 +6,10 @@ use Rattle.zst_pool.specs.Events.{StepDid}
 use Rattle.zst_pool.specs.Faults.{is_disk_fault}
 use Rattle.zst_roots.specs.declared.held.HeldBlocks.{HeldBlocks}
 use Rattle.zst_sessions.proofs.SparedBlocks.{still_works}
-use Rattle.zst_sessions.proofs.SteppedPools.{busy_stepped, fell_told, stays_held, step_held, step_keeps, step_stepped}
+use Rattle.zst_sessions.proofs.SteppedPools.{busy_stepped, fell_told, stays_held, step_full, step_held, step_keeps, step_stepped}
 use Rattle.zst_sessions.specs.CommandSteps.{StepsPool}
 use Rattle.zst_sessions.specs.EngineSteps.{held_blocks, kept_pool}
+use Rattle.zst_sessions.specs.FullPools.{StepIsShort}
 use Rattle.zst_sessions.specs.Moves.{Answer}
 use Rattle.zst_sessions.proofs.commands.step_unless_busy.Goals as goal
 
@@ -54,3 +55,10 @@ pub returns-clause-works : goal.returns-clause-works
 returns-clause-works g c = λ alive works.
     let told = c.step-answer.result in
     still_works c.args.pool.now.io.failed (is_disk_fault told) c.step-answer.new.self.io.failed c.step-answer.ensures.settles.failed (λ fell. alive (c.told.ensures ∙ fell_told told fell)) works
+
+pub returns-clause-full : goal.returns-clause-full
+returns-clause-full g c = λ need largest is.
+    let did = c.step-answer.ensures in
+    let new = c.step-answer.new.self in
+    subst (λ (blocks : List HeldBlocks). StepIsShort c.args.command blocks (kept_pool {g = g.D.Disk} c.args.pool.now) (kept_pool {g = g.D.Disk} new) new.io.space need largest) (c.as_slice.ensures.value ∙ c.in-Ok.ensures)
+    (step_full c.args.pool.now new c.args.now c.args.command c.as_slice.result.now c.step-answer.result did.did did.room c.if-pool.false need largest (sym c.told.ensures ∙ is))

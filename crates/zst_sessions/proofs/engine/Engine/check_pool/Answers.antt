@@ -18,7 +18,7 @@ returns-in-Here g c =
     let did = c.check.ensures in
     subst (λ (side : Side). StepsEngine {g = g.D.Disk} {h = g.E.Disk} (events.Check side) old new c.checked.result) (sym c.in-Here.is)
     (subst (λ (result : Result EventReply Refusal). StepsEngine {g = g.D.Disk} {h = g.E.Disk} (events.Check Here) old new result) (sym c.checked.ensures)
-    (check_steps {g = g.D.Disk} {h = g.E.Disk} Here old new told (looked_on Here old new told (refl, check_looks old.here pool told did.only_answers did.settles did.open_still)) c.moves_keep_worlds.ensures
+    (check_steps {g = g.D.Disk} {h = g.E.Disk} Here old new told (looked_on Here old new told (refl, check_looks old.here pool told did.only_answers did.settles did.open_still did.never_full)) c.moves_keep_worlds.ensures
     c.requires.fits (did.told true) (record { sound = did.sound; named = did.named; damaged = did.damaged })))
 
 pub returns-in-There : goal.returns-in-There
@@ -30,5 +30,5 @@ returns-in-There g c =
     let did = c.check-in-There.ensures in
     subst (λ (side : Side). StepsEngine {g = g.D.Disk} {h = g.E.Disk} (events.Check side) old new c.checked-in-There.result) (sym c.in-There.is)
     (subst (λ (result : Result EventReply Refusal). StepsEngine {g = g.D.Disk} {h = g.E.Disk} (events.Check There) old new result) (sym c.checked-in-There.ensures)
-    (check_steps {g = g.D.Disk} {h = g.E.Disk} There old new told (looked_on There old new told (refl, check_looks old.there pool told did.only_answers did.settles did.open_still)) c.moves_keep_worlds.ensures
+    (check_steps {g = g.D.Disk} {h = g.E.Disk} There old new told (looked_on There old new told (refl, check_looks old.there pool told did.only_answers did.settles did.open_still did.never_full)) c.moves_keep_worlds.ensures
     c.requires.fits (did.told true) (record { sound = did.sound; named = did.named; damaged = did.damaged })))

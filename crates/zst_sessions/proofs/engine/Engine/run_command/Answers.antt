@@ -4,6 +4,7 @@ use Rattle.zst_pool.specs.Reclaims.{HeldStand}
 use Rattle.zst_sessions.proofs.SteppedWorlds.{Laws, step_here, step_there}
 use Rattle.zst_sessions.specs.CommandSteps.{GivesUp}
 use Rattle.zst_sessions.specs.EngineSteps.{KeepsHeld, held_blocks, kept_pool}
+use Rattle.zst_sessions.specs.FullPools.{StepIsShort}
 use Rattle.zst_sessions.specs.declared.open_sessions.OpenSend.{OpenSend}
 use Rattle.zst_sessions.proofs.engine.Engine.run_command.Goals as goal
 
@@ -32,6 +33,9 @@ returns-in-Here g c =
     (subst (λ (all : List OpenSend). KeepsHeld (GivesUp c.holder_of-holder.result c.args.command old.here.kept.dir) (held_blocks c.args.side all) (kept_pool {g = g.D.Disk} old.here) (kept_pool {g = g.D.Disk} did.new.pool))
     same did.ensures.held)
     did.ensures.keeps did.ensures.later did.ensures.cause did.ensures.open_still did.ensures.works
+    (λ need largest is.
+    subst (λ (all : List OpenSend). StepIsShort c.args.command (held_blocks c.args.side all) (kept_pool {g = g.D.Disk} old.here) (kept_pool {g = g.D.Disk} did.new.pool) did.new.pool.io.space need largest)
+    same (did.ensures.full need largest is))
 
 pub returns-in-There : goal.returns-in-There
 returns-in-There g c =
@@ -58,3 +62,6 @@ returns-in-There g c =
     (subst (λ (all : List OpenSend). KeepsHeld (GivesUp c.holder_of-holder.result c.args.command old.there.kept.dir) (held_blocks c.args.side all) (kept_pool {g = g.E.Disk} old.there) (kept_pool {g = g.E.Disk} did.new.pool))
     same did.ensures.held)
     did.ensures.keeps did.ensures.later did.ensures.cause did.ensures.open_still did.ensures.works
+    (λ need largest is.
+    subst (λ (all : List OpenSend). StepIsShort c.args.command (held_blocks c.args.side all) (kept_pool {g = g.E.Disk} old.there) (kept_pool {g = g.E.Disk} did.new.pool) did.new.pool.io.space need largest)
+    same (did.ensures.full need largest is))
