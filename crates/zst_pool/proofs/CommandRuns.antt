@@ -147,7 +147,11 @@ module _ (definition : Pool → Result Stepped Refusal) (cost : Cost) (kept : Po
       spends : (r : Result PoolState CommitFault) → IfOk r (CommittedDir kept.body dir mid new) → TakesForDir dir mid.space new.space r
           → (block list : ℕ) → TakesSo cost.cells block list (rested old.disk old.failed old.checksum_errors old.reference kept) mid None → Spends cost.cells block list kept new.space as_kept (of_committed r)
       spends (Ok next) done takes block list works =
-          record { full = tt; grows = spends_grows kept cost.cells block list dir works takes.takes grows next (sym done.space) }
+          record {
+            full = tt;
+            grows = spends_grows kept cost.cells block list dir works takes.takes grows next (sym done.space);
+            directory = subst (λ (rows : Rows). length (dir_bytes rows) ≤ length (dir_bytes kept.dir) + 1024) (sym done.dir) grows;
+          }
       spends (Err (commits.Full need largest)) done takes block list works =
           let told = spends_full kept cost.cells block list dir works takes.takes grows need largest (takes.full need largest refl) in
           record {
@@ -156,9 +160,10 @@ module _ (definition : Pool → Result Stepped Refusal) (cost : Cost) (kept : Po
                 let left : largest ≡ l = cc in
                 subst (λ (m : ℕ). HasNoRoom cost.cells block list kept.body kept.dir new.space m l) needed (subst (λ (m : ℕ). HasNoRoom cost.cells block list kept.body kept.dir new.space need m) left told);
             grows = tt;
+            directory = tt;
           }
-      spends (Err commits.DiskFault) done takes block list works = record { full = λ n l same. absurd (cc); grows = tt }
-      spends (Err commits.OutOfMemory) done takes block list works = record { full = λ n l same. absurd (cc); grows = tt }
+      spends (Err commits.DiskFault) done takes block list works = record { full = λ n l same. absurd (cc); grows = tt; directory = tt }
+      spends (Err commits.OutOfMemory) done takes block list works = record { full = λ n l same. absurd (cc); grows = tt; directory = tt }
 
       finds_less : (r : Result PoolState CommitFault) → TakesForDir dir mid.space new.space r → (running : Pool) → MakesNamed (definition running) dir
           → TakesSo cost.cells (cost.block running) (cost.list running) (rested old.disk old.failed old.checksum_errors old.reference kept) mid None → IfErr (of_committed r) (FindsLess cost.cells (cost.block running) (cost.list running) kept.body (definition running))

@@ -1,6 +1,6 @@
 -- A command that only answers leaves a pool as it was.
 use Rattle.std.specs.Prelude.{Some, Result, Ok, Err, IfErr, OnErr, OnOk}
-use Rattle.std.proofs.Common.{◌≡◌, inl, ℕ, List, refl, ap, Bool}
+use Rattle.std.proofs.Common.{◌≡◌, inl, ℕ, List, refl, ap, Bool, arith}
 use Rattle.zst_outside.specs.Images.{DiskState, Leaves, Leaves-weaker, OnlyReads}
 use Rattle.zst_space.specs.FreeSectors.{FreeSectors}
 use Rattle.zst_block.specs.Blocks.{FillsFree, SparesTaken}
@@ -70,8 +70,8 @@ on_ok (Err fault) is = tt
 -- it takes no sectors
 pub spends_none : (cells block list : ℕ) (kept : PoolState) (left : FreeSectors) (result : Result (List (List ℕ)) PoolFault) → ((need largest : ℕ) → ¬ (stop_of result ≡ Some (blocks.Full need largest)))
     → Spends cells block list kept left (λ reply. kept) result
-spends_none cells block list kept left (Ok reply) never = record { full = tt; grows = takes_none (free_by kept.body) }
-spends_none cells block list kept left (Err fault) never = record { full = λ need largest is. absurd (never need largest (ap (λ (f : PoolFault). stop_of {T = List (List ℕ)} (Err f)) is)); grows = tt }
+spends_none cells block list kept left (Ok reply) never = record { full = tt; grows = takes_none (free_by kept.body); directory = omega arith }
+spends_none cells block list kept left (Err fault) never = record { full = λ need largest is. absurd (never need largest (ap (λ (f : PoolFault). stop_of {T = List (List ℕ)} (Err f)) is)); grows = tt; directory = tt }
 
 -- and finds room for all that it takes
 pub finds_none : (cells block list : ℕ) (body : Body) (definition : Result Stepped Refusal) (result : Result (List (List ℕ)) PoolFault) → ((need largest : ℕ) → ¬ (stop_of result ≡ Some (blocks.Full need largest)))

@@ -66,6 +66,7 @@ module _ (kept : PoolState) (cells block list : ℕ) {disk : DiskState} {failed 
         let taken_more = takes_more (block + list + 640 * cells) (most_sectors cells block list kept.dir (length kept.body.free)) (free_by kept.body) new.space more works.takes in
         record { taken = taken_more; shorter = full.shorter; needed = full.needed; is_longest = full.is_longest; was_free = omega (arith, full.is_longest, was); room = omega (arith, full.before, more) };
     grows = tt;
+    directory = tt;
   }
 
   -- what a command spends that came to its commit

@@ -17,18 +17,18 @@ use Rattle.zst_image.specs.declared.pool_state.PoolState.{PoolState}
 module _ {T : Type 0} (cells block list : ℕ) (kept : PoolState) (left : FreeSectors) where
   -- a step that went well
   pub spends_ok : (next : PoolState) (reply : T) → Spends cells block list kept left as_kept (Ok next) → Spends cells block list kept left (λ value. next) (Ok reply)
-  spends_ok next reply spends = record { full = tt; grows = spends.grows }
+  spends_ok next reply spends = record { full = tt; grows = spends.grows; directory = spends.directory }
 
   -- one that fell as its run did
   pub spends_err : (next : PoolState) (fault : PoolFault) (r : Result T PoolFault) → r ≡ Err fault → Spends cells block list kept left as_kept (Err fault) → Spends cells block list kept left (λ value. next) r
   spends_err next fault r same spends =
-      let fell : Spends {T = T} cells block list kept left (λ value. next) (Err fault) = record { full = spends.full; grows = tt } in
+      let fell : Spends {T = T} cells block list kept left (λ value. next) (Err fault) = record { full = spends.full; grows = tt; directory = tt } in
       subst (Spends cells block list kept left (λ value. next)) (sym same) fell
 
   -- one that fell apart from E24
   pub spends_apart : (next : PoolState) (fault : PoolFault) (r : Result T PoolFault) → r ≡ Err fault → ((need largest : ℕ) → ¬ (fault ≡ Full need largest)) → Spends cells block list kept left (λ value. next) r
   spends_apart next fault r same apart =
-      let fell : Spends {T = T} cells block list kept left (λ value. next) (Err fault) = record { full = λ need largest is. absurd (apart need largest is); grows = tt } in
+      let fell : Spends {T = T} cells block list kept left (λ value. next) (Err fault) = record { full = λ need largest is. absurd (apart need largest is); grows = tt; directory = tt } in
       subst (Spends cells block list kept left (λ value. next)) (sym same) fell
 
 -- what holds unless the disk failed does so of each answer with that fault

@@ -131,7 +131,8 @@ FindsLess cells block list body definition fault = (need largest : ℕ) → faul
 abbrev pub Grows : (most block : ℕ) → (before after : Body) → Type 0
 Grows most block before after = TakesAtMost most (IsBlockLength block) (free_by before) (free_by after)
 
--- what an event takes of the sectors, at Ok and where it finds no room
+-- what an event takes of the sectors, at Ok and where it finds no room; and at Ok the directory has at most 1,024 bytes more
 pub record Spends {T : Type 0} (cells block list : ℕ) (kept : PoolState) (left : FreeSectors) (after : T → PoolState) (result : Result T PoolFault) : Type 0 where
   pub full : IfErr result (FindsNoRoom cells block list kept left)
   pub grows : IfOk result (λ value. let next = after value in Grows (most_sectors cells block list kept.dir (length kept.body.free)) block kept.body next.body)
+  pub directory : IfOk result (λ value. let next = after value in length (dir_bytes next.dir) ≤ length (dir_bytes kept.dir) + 1024)

@@ -197,7 +197,7 @@ module _ {D : Type 0} {g : Ghosts D} (now steps number : ℕ) (command : Command
         spends = record {
           grew =
               let spent = did.spends (is_other steps number command at) works in
-              (command, at, record { block = spent.0; most = spent.1; grows = spent.2.grows; partials = partials });
+              (command, at, record { block = spent.0; most = spent.1; grows = spent.2.grows; directory = spent.2.directory; partials = partials });
           short = λ need largest is. absurd (cc is);
         };
         why = tt;

@@ -14,6 +14,7 @@ use Rattle.zst_model.specs.pools.Step.{stepped}
 use Rattle.zst_model.specs.states.AppliedItems.{◌>>=◌}
 use Rattle.zst_gen.specs.Generated.{generated}
 use Rattle.zst_dir.specs.Rows.{Rows}
+use Rattle.zst_dir.specs.Spelling.{dir_bytes}
 use Rattle.zst_image.specs.Commits.{Ready}
 use Rattle.zst_image.specs.Reads.{Reads}
 use Rattle.zst_image.specs.declared.pool_state.PoolState.{PoolState}
@@ -83,11 +84,12 @@ GenEnds tight now steps pool here' (Err refusals.NoPool) = ⊥
 GenEnds tight now steps pool here' (Err (refusals.BadVersion number)) = ⊥
 GenEnds tight now steps pool here' (Err refusal) = (stop : StoppedAt tight now steps pool here') × (first_made now steps (stop.count + 1) pool ≡ Err refusal)
 
--- What a command that was done makes of what a pool keeps, whatever the image is: with data of so many sectors, no more than it may write whatever is there, it takes no more than it costs at most.
+-- What a command that was done makes of what a pool keeps, whatever the image is: with data of so many sectors, no more than it may write whatever is there, it takes no more than it costs at most; and the directory has at most 1,024 bytes more.
 pub record CommandGrew (command : Command) (before after : PoolState) : Type 0 where
   pub block : ℕ
   pub most : block ≤ (cost_of command).most
   pub grows : Grows (most_sectors (cost_of command).cells block (cost_of command).most_list before.dir (length before.body.free)) block before.body after.body
+  pub directory : length (dir_bytes after.dir) ≤ length (dir_bytes before.dir) + 1024
   pub partials : after.dir.partials ≡ rows_after command before.dir.partials
 
 -- so it grows from what is kept at first to what is kept then, as these commands are done one after another
