@@ -81,7 +81,7 @@ later_is (heads.Redact object offset size to) later = refl
 -- ---- batches
 
 -- a batch that is as it was
-gathers_none : (rows : Rows) (target : List ℕ) (batch : batches.Batch) → Gathers rows target batch batch
+pub gathers_none : (rows : Rows) (target : List ℕ) (batch : batches.Batch) → Gathers rows target batch batch
 gathers_none rows target batch = record { fits = λ fits. fits; idle = λ none. refl; waits = λ waits. refl }
 
 module _ {A : Type 0} (rows : Rows) (target : List ℕ) where

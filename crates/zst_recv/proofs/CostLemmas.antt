@@ -39,7 +39,7 @@ needed_behind : (need : ℕ) (records more : List Covered) → IsNeeded need mor
 needed_behind need [] more is = is
 needed_behind need (c ∷ records) more is = inr (needed_behind need records more is)
 
-needed_none : (need : ℕ) (records : List Covered) → need ≡ 16 → IsNeeded need records
+pub needed_none : (need : ℕ) (records : List Covered) → need ≡ 16 → IsNeeded need records
 needed_none need [] is = is
 needed_none need (c ∷ records) is = inr (needed_none need records is)
 
@@ -82,7 +82,7 @@ spends_then records more old mid new stop first second =
     }
 
 -- and no more by all records of which they are the front
-spends_front : (records more : List Covered) (old new : FreeSectors) (stop : Option BlockFault) → Spends records old new stop → Spends (records ++ more) old new stop
+pub spends_front : (records more : List Covered) (old new : FreeSectors) (stop : Option BlockFault) → Spends records old new stop → Spends (records ++ more) old new stop
 spends_front records more old new stop spends =
     let all = sum_by-append (λ (c : Covered). record_cost c.head) records more in
     record {
@@ -102,17 +102,7 @@ spends_whole reader whole read rest handed records old new stop is stands spends
     let behind : records_behind handed whole ≡ records ++ f.0 = ap (λ (cs : List Covered). drop (length handed) cs) covered ∙ drop-append_seam handed (records ++ f.0) in
     subst (λ (cs : List Covered). Spends cs old new stop) (sym behind) (spends_front records f.0 old new stop spends)
 
--- one record more was handed out
-pub spent_more : (before reader : Reader) (text : List ℕ) (handed : List Covered) (c : Covered) (old mid new : FreeSectors) (stop : Option BlockFault)
-    → (records : List Covered) × StandsFor before text (handed ++ records) × Spends records old mid None → ((all : List Covered) → StandsFor before text all → StandsFor reader text (all ++ c ∷ []))
-    → Spends (c ∷ []) mid new stop → (records : List Covered) × StandsFor reader text (handed ++ records) × Spends records old new stop
-spent_more before reader text handed c old mid new stop spent hands one = (
-  spent.0 ++ c ∷ [],
-  subst (StandsFor reader text) (append_assoc handed spent.0 (c ∷ [])) (hands (handed ++ spent.0) spent.1),
-  spends_then spent.0 (c ∷ []) old mid new stop spent.2 one,
-)
-
--- and more of them
+-- more of them were handed out
 pub spent_then : (reader : Reader) (text : List ℕ) (handed records : List Covered) (old mid new : FreeSectors) (stop : Option BlockFault) → Spends records old mid None
     → (more : List Covered) × StandsFor reader text ((handed ++ records) ++ more) × Spends more mid new stop → (all : List Covered) × StandsFor reader text (handed ++ all) × Spends all old new stop
 spent_then reader text handed records old mid new stop first spent = (

@@ -38,7 +38,7 @@ told_record Is T index (sets.Block (blocks.Damaged at says finds)) sector stated
 told_record Is T index (sets.Block blocks.DiskFault) sector stated found told is = absurd cc
 
 -- the fault that was answered
-abbrev refused : (T : Type 0) → RecvFault → Result T RecvFault
+abbrev pub refused : (T : Type 0) → RecvFault → Result T RecvFault
 refused T fault = Err fault
 
 pub err_told : (T : Type 0) (fault other : RecvFault) → refused T fault ≡ refused T other → fault ≡ other

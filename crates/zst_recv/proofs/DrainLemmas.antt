@@ -1,4 +1,4 @@
--- What is drained of a text: the covered records that are there are taken, one after another.
+-- What records leave of the disk, that they passed their checks, and that they are taken one after another.
 use Rattle.std.proofs.Common.{◌≡◌, ℕ, ◌≤◌, ◌^◌, ◌||◌, Bool, true, false, List, [], ◌∷◌, ◌++◌, length, refl, sym, ap, ◌∙◌, subst, arith, append_assoc}
 use Rattle.std.specs.Prelude.{Option, Some, None, Result, Ok, Err}
 use Rattle.std.specs.List.{All}
@@ -17,18 +17,16 @@ use Rattle.zst_model.specs.pools.Pool.{Pool}
 use Rattle.zst_model.specs.states.State.{AreBytes}
 use Rattle.zst_plan.specs.declared.receive.RecvAsk.{RecvAsk}
 use Rattle.zst_pool.specs.Calls.{IsUnderWay}
-use Rattle.zst_reader.specs.StandsFor.{StandsFor, HandsOut, handed_of}
+use Rattle.zst_reader.specs.StandsFor.{StandsFor, handed_of}
 use Rattle.zst_reader.specs.declared.reader.Reader.{Reader}
 use Rattle.zst_record.specs.Decoding.{features_in}
 use Rattle.zst_record.specs.Heads.{Covered}
 use Rattle.zst_stream.specs.PassedRecords.{HasPassed}
-use Rattle.zst_stream.specs.Reading.{Outcome, reading}
+use Rattle.zst_stream.specs.Reading.{reading}
 use Rattle.zst_stream.proofs.PassedRecords.{passed}
 use Rattle.zst_recv.specs.Faults.{Fills}
 use Rattle.zst_recv.specs.ReceiveSteps.{Batch, EndedBatch, batch_of, batch_by, taken}
-use Rattle.zst_recv.specs.TakenRecords.{AreTaken, Drained, Drains, IsRead, Takes}
-use Rattle.zst_recv.specs.declared.fault.RecvFault.{RecvFault}
-use Rattle.zst_recv.specs.declared.fault.RecvFault.TheVariants as faults
+use Rattle.zst_recv.specs.TakenRecords.{AreTaken, IsRead}
 use Rattle.zst_recv.proofs.RecordCounts.{few_records}
 
 -- ---- what is written
@@ -98,57 +96,3 @@ module _ (ask : RecvAsk) (pool : Pool) (ys : List Covered) where
   unfolding batch_of
   batch_then [] plain after is = ap (λ (b : EndedBatch). batch_of ask pool ys b.batch) is
   batch_then (c ∷ xs) plain after is = then_by xs plain after (λ w. batch_then xs w after) (taken ask pool c plain) is
-
--- ---- draining
-
--- These records were handed out behind the others, and taken.
-pub record Draining (ask : RecvAsk) (pool : Pool) (reader : Reader) (text : List ℕ) (handed : List Covered) (Is : Batch → Type 0) (plain : Batch) : Type 0 where
-  pub records : List Covered
-  pub after : Batch
-  pub stands : StandsFor reader text (handed ++ records)
-  pub were_taken : AreTaken ask pool records plain after
-  pub is : Is after
-
-module _ (ask : RecvAsk) (pool : Pool) (text : List ℕ) (handed : List Covered) (plain : Batch) where
-  pub drain_begins : (reader : Reader) (Is : Batch → Type 0) → StandsFor reader text handed → Is plain → Draining ask pool reader text handed Is plain
-  unfolding batch_of
-  drain_begins reader Is stands is = record {
-    records = [];
-    after = plain;
-    stands = subst (StandsFor reader text) (sym (append-nil handed)) stands;
-    were_taken = refl;
-    is = is;
-  }
-
-  module _ (old new : Reader) (Was Is : Batch → Type 0) (d : Draining ask pool old text handed Was plain) where
-    taken_more : (c : Covered) (after : Batch) → taken ask pool c d.after ≡ Ok after → AreTaken ask pool (d.records ++ c ∷ []) plain after
-    unfolding batch_of
-    taken_more c after is = batch_then ask pool (c ∷ []) d.records plain d.after d.were_taken ∙ ap (λ (r : Result Batch Refusal). batch_by r d.after (batch_of ask pool [])) is
-
-    pub drain_goes_on : (c : Covered) → StandsFor new text ((handed ++ d.records) ++ c ∷ []) → Takes Is d.after (taken ask pool c d.after) (Ok tt)
-        → Draining ask pool new text handed Is plain
-    drain_goes_on c stands takes = record {
-      records = d.records ++ c ∷ [];
-      after = takes.0;
-      stands = subst (StandsFor new text) (append_assoc handed d.records (c ∷ [])) stands;
-      were_taken = taken_more c takes.0 takes.1;
-      is = takes.2;
-    }
-
-    pub drain_ends : (outcome : Outcome) → HandsOut new text (handed ++ d.records) outcome → Is d.after
-        → (after : Batch) × Drained ask pool new text handed plain after outcome × Is after
-    drain_ends outcome hands is = (d.after, record { records = d.records; reads = hands; were_taken = d.were_taken }, is)
-
-    pub drain_refused : (c : Covered) (fault : RecvFault) → StandsFor new text ((handed ++ d.records) ++ c ∷ []) → Takes Is d.after (taken ask pool c d.after) (Err fault)
-        → Drains ask pool new text handed Is plain (Err fault)
-    drain_refused c (faults.Stream fault) stands takes = absurd takes.0
-    drain_refused c (faults.Pool fault) stands takes = (
-      d.after,
-      record { records = d.records; next = c; reads = subst (StandsFor new text) (append_assoc handed d.records (c ∷ [])) stands; were_taken = d.were_taken; refused = takes.0 },
-      takes.1,
-    )
-    drain_refused c (faults.CannotApply index fault) stands takes = (
-      d.after,
-      record { records = d.records; next = c; reads = subst (StandsFor new text) (append_assoc handed d.records (c ∷ [])) stands; were_taken = d.were_taken; refused = takes.0 },
-      takes.1,
-    )

@@ -27,3 +27,9 @@ mod KeptPartials
 mod OutlastedReclaims
 mod LeftRows
 mod PlannedSets
+mod WriteRuns
+mod PassedRuns
+mod RunWrites
+mod RunSettles
+mod Gatherings
+mod DrainedRuns

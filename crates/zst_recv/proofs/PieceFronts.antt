@@ -17,6 +17,7 @@ use Rattle.zst_reader.specs.declared.reader.Reader.{Reader}
 use Rattle.zst_record.specs.Heads.{Covered}
 use Rattle.zst_stream.specs.Reading.{FrontOf, Outcome, Reading, waiting, faulty, complete, reading}
 use Rattle.zst_stream.proofs.Growth.{front}
+use Rattle.zst_recv.specs.Faults.{stop_at}
 use Rattle.zst_recv.specs.Feeds.{fault_of, new_records}
 use Rattle.zst_recv.specs.ReceiveSteps.{Batch, EndedBatch, batch_of, batch_by, first_fault, taken}
 use Rattle.zst_recv.specs.TakenRecords.{AreTaken, Drains, Reads, Refused, TakeFault, TakesAll, fault_in, taken_of}
@@ -232,9 +233,12 @@ module _ (ask : RecvAsk) (pool : Pool) (text : List ℕ) (handed : List Covered)
       piece_ends true all d =
           takes_complete new (m.records ++ d.1.records) d.0 Is (are_all d.1.records d.0 d.1.were_taken) d.2 read rest whole_is (hands_all d.1.records complete d.1.reads)
 
-      by_record : (fault : RecvFault) (after : Batch) → Refused ask pool new read (handed ++ m.records) m.after after fault → Is after → Reads ask pool new text piece Is plain (Err fault)
+      by_record : (fault : RecvFault) (after : Batch) → Refused ask pool new read (handed ++ m.records) m.after after fault → (stop_at fault ≡ None → Is after) → Reads ask pool new text piece Is plain (Err fault)
+      by_record (faults.Pool (pools.Full need largest)) after r is = (tt, λ e. absurd (own_fault ask pool text piece plain (refusals.Full need largest) e))
+      by_record (faults.Pool (pools.Damaged sector stated found)) after r is = absurd r.refused
+      by_record (faults.Pool pools.DiskFault) after r is = (tt, λ e. absurd (own_fault ask pool text piece plain refusals.DiskFault e))
       by_record fault after r is =
-          refused_record new (m.records ++ r.records) after Is (are_all r.records after r.were_taken) is read rest whole_is r.next
+          refused_record new (m.records ++ r.records) after Is (are_all r.records after r.were_taken) (is refl) read rest whole_is r.next
           (subst (StandsFor new read) (append_assoc handed m.records (r.records ++ r.next ∷ []) ∙ ap (λ (cs : List Covered). handed ++ cs) (sym (append_assoc m.records r.records (r.next ∷ [])))) r.reads)
           fault r.refused
 

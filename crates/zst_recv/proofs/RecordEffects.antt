@@ -158,7 +158,7 @@ module _ (number index : ℕ) (item : Item) (rest : List Item) (snap after : Dat
   item_dated (Err fault) applied is = absurd cc
 
 -- nor do the items of a record
-dated_by : (number index : ℕ) (items : List Item) (snap after : DatedState) → received_all number index items snap ≡ Ok after → DatedUpTo number snap → DatedUpTo number after
+pub dated_by : (number index : ℕ) (items : List Item) (snap after : DatedState) → received_all number index items snap ≡ Ok after → DatedUpTo number snap → DatedUpTo number after
 dated_by number index [] snap after is dated = let same : snap ≡ after = cc in subst (DatedUpTo number) same dated
 dated_by number index (item ∷ rest) snap after is dated =
     item_dated number index item rest snap after dated (λ made gave more. dated_by number index rest made after gave more) (apply_dated number item snap) refl is

@@ -1,5 +1,5 @@
 -- What records make of a batch, and of the disk.
-use Rattle.std.specs.Prelude.{◌≡◌, ℕ, Bool, true, false, List, Result, Err, IfErr, OnErr, OnOk}
+use Rattle.std.specs.Prelude.{◌≡◌, ◌<◌, ℕ, Bool, true, false, List, Result, Err, IfErr, OnErr, OnOk}
 use Rattle.zst_block.specs.IoStates.{IoState}
 use Rattle.zst_dir.specs.RowNames.{AreNamed}
 use Rattle.zst_dir.specs.Rows.{Rows}
@@ -32,6 +32,23 @@ pub record Moves {A : Type 0} (rows : Rows) (target : List ℕ) (head : Head) (o
   pub begins : OnOk result (is_begin head ≡ true → waits_at new.stage ≡ false)
   pub lives : has_partial new.stage ≡ true → is_live old.stage ≡ true
   pub ends : is_end head ≡ true → has_partial new.stage ≡ false
+  pub over : is_live old.stage ≡ true → is_live new.stage ≡ false → is_end head ≡ true
+
+-- So many records that were put off were applied or refused, whatever the image is: the partial state is under way as before, and where there are none the batch is as it was.
+pub record MovesRun {A : Type 0} (rows : Rows) (target : List ℕ) (count : ℕ) (old new : batches.Batch) (result : Result A RecvFault) : Type 0 where
+  pub gathers : Gathers rows target old new
+  pub stays : OnErr result (new ≡ old)
+  pub none : count ≡ 0 → new ≡ old
+  pub some : OnErr result (0 < count)
+  pub lives : 0 < count → has_partial new.stage ≡ true
+
+-- A record with this head was passed, behind others that were put off, whatever the image is: as it is taken, but that those may have been applied where it is refused.
+pub record MovesOn {A : Type 0} (rows : Rows) (target : List ℕ) (head : Head) (old new : batches.Batch) (result : Result A RecvFault) : Type 0 where
+  pub gathers : Gathers rows target old new
+  pub waited : waits_at old.stage ≡ true → OnErr result (new ≡ old)
+  pub begins : OnOk result (is_begin head ≡ true → waits_at new.stage ≡ false)
+  pub lives : has_partial new.stage ≡ true → is_live old.stage ≡ true
+  pub ends : OnOk result (is_end head ≡ true → has_partial new.stage ≡ false)
   pub over : is_live old.stage ≡ true → is_live new.stage ≡ false → is_end head ≡ true
 
 -- Whether BEGIN is taken where a receive waits for it is for its plan over the rows alone to say, whatever the image is, and nothing else asks a plan.

@@ -15,7 +15,7 @@ use Rattle.zst_record.specs.declared.head.Head.{Head}
 use Rattle.zst_record.specs.declared.head.Head.TheVariants as heads
 use Rattle.zst_stream.specs.PassedRecords.{StatesHeader, bare_head}
 use Rattle.zst_stream.specs.Reading.{Outcome, waiting, faulty, complete, reading}
-use Rattle.zst_recv.specs.Faults.{recv_refusal}
+use Rattle.zst_recv.specs.Faults.{recv_refusal, stop_at}
 use Rattle.zst_recv.specs.Feeds.{fault_of, new_records}
 use Rattle.zst_recv.specs.ReceiveSteps.{EndedBatch, Batch, batch_of, first_fault, taken}
 use Rattle.zst_recv.specs.Stages.{StandsBehind, is_live}
@@ -75,7 +75,7 @@ pub record Drained (ask : RecvAsk) (pool : Pool) (reader : Reader) (text : List 
   pub reads : HandsOut reader text (handed ++ records) outcome
   pub were_taken : AreTaken ask pool records batch after
 
--- they were, and the next one that the text covers isn't
+-- these are taken by the definition, and the next one that the text covers isn't; or the disk is full or failed
 pub record Refused (ask : RecvAsk) (pool : Pool) (reader : Reader) (text : List ℕ) (handed : List Covered) (batch after : Batch) (fault : RecvFault) : Type 0 where
   pub records : List Covered
   pub next : Covered
@@ -83,14 +83,14 @@ pub record Refused (ask : RecvAsk) (pool : Pool) (reader : Reader) (text : List 
   pub were_taken : AreTaken ask pool records batch after
   pub refused : TakeFault (taken ask pool next after) fault
 
--- all that a text covers was taken, and whether END was covered; or the first fault, of the stream or of a record
+-- all that a text covers was taken, and whether END was covered; or the first fault, of the stream or of a record, before which the others were taken unless a block stopped it
 abbrev pub Drains : RecvAsk → Pool → Reader → List ℕ → List Covered → (Batch → Type 0) → Batch → Result Bool RecvFault → Type 0
 Drains ask pool reader text handed Is batch (Ok ended) =
     (after : Batch) × Drained ask pool reader text handed batch after (if ended then complete else waiting) × Is after
 Drains ask pool reader text handed Is batch (Err (faults.Stream fault)) =
     (after : Batch) × Drained ask pool reader text handed batch after (faulty fault) × Is after
 Drains ask pool reader text handed Is batch (Err fault) =
-    (after : Batch) × Refused ask pool reader text handed batch after fault × Is after
+    (after : Batch) × Refused ask pool reader text handed batch after fault × (stop_at fault ≡ None → Is after)
 
 -- whatever the image, the reader has handed out more of its text, and the stage stands behind it: it doesn't go on behind END
 pub record HandedOn (reader : Reader) (text : List ℕ) (stage : coded.Stage) (ended : Bool) : Type 0 where

@@ -2,9 +2,11 @@
 #![tactic(auto)]
 
 mod batch;
+mod block_run;
 mod commits;
 mod fault;
 mod first_partial;
+mod gathering;
 mod laws;
 mod pieces;
 mod point;

@@ -16,17 +16,19 @@ ghost use Rattle.zst_recv.specs.Stages.{HasRead, IsBatch, StageFits, StandsBehin
 ghost use Rattle.zst_recv.specs.TakenRecords.{Drains, HandedOn, Reads};
 
 use crate::batch::Batch;
+use crate::block_run::BlockRun;
 use crate::fault::RecvFault;
+use crate::gathering::gather;
 use zst_block::Io;
 use zst_image::PoolState;
 use zst_outside::Disk;
 use zst_plan::RecvAsk;
-use zst_reader::{Reader, Step};
-use zst_stream::faults_are_found;
+use zst_reader::Reader;
 
-// Takes the covered records that are there, and answers whether END was one.
+// Takes the covered records that are there, and answers whether END was one: none is put off then.
 fn drain<D: Disk>(
     reader: &mut Reader,
+    run: &mut BlockRun,
     io: &mut Io<'_, D>,
     kept: &PoolState,
     ask: &RecvAsk,
@@ -49,20 +51,19 @@ fn drain<D: Disk>(
     ensures spends { (text : List ℕ) (handed : List Covered) → StandsFor reader.old text handed
         → (records : List Covered) × StandsFor reader.new text (handed ++ records) × Spends records io.old.space io.new.space (stop_of result) }
 {
-    faults_are_found();
-    'records: loop {
-        match reader.next() {
-            Ok(Step::Record(record)) => batch.take(io, kept, ask, &record)?,
-            Ok(Step::NeedMore) => return Ok(false),
-            Ok(Step::End) => return Ok(true),
-            Err(fault) => return Err(RecvFault::Stream(fault)),
-        }
+    run.clear();
+    let outcome = gather(reader, run, io, kept, ask, batch);
+    if run.is_empty() {
+        return outcome;
     }
+    run.settle(io, batch, kept.body.uber().number.saturating_add(1))?;
+    outcome
 }
 
 /// Reads a piece up to its end or to END: the records that it covers are taken, up to the first fault.
 pub(crate) fn read<D: Disk>(
     reader: &mut Reader,
+    run: &mut BlockRun,
     io: &mut Io<'_, D>,
     kept: &PoolState,
     ask: &RecvAsk,
@@ -88,7 +89,7 @@ pub(crate) fn read<D: Disk>(
     'pushes: while !rest.is_empty() {
         let count = reader.push(rest);
         rest = &rest[count..];
-        if drain(reader, io, kept, ask, batch)? {
+        if drain(reader, run, io, kept, ask, batch)? {
             return Ok(());
         }
     }

@@ -2,6 +2,7 @@ ghost use Rattle.std.specs.Prelude.{◌≡◌};
 ghost use Rattle.zst_reader.specs.InputReads.{stream_limit};
 
 use crate::batch::Batch;
+use crate::block_run::BlockRun;
 use crate::commits::{keeps_before, put};
 use crate::fault::RecvFault;
 use crate::pieces::read;
@@ -34,6 +35,7 @@ pub struct FeedReport {
 pub struct Recv {
     ask: RecvAsk,
     reader: Reader,
+    run: BlockRun,
     stage: Stage,
 }
 
@@ -81,6 +83,7 @@ impl Recv {
         Ok(Recv {
             ask,
             reader: Reader::open(alloc)?,
+            run: BlockRun::new(alloc)?,
             stage: Stage::Waits,
         })
     }
@@ -156,7 +159,8 @@ impl Recv {
         }
         let mut batch = Batch::new(mem::replace(&mut self.stage, Stage::Over));
         let (io, kept) = (&mut pool.io, &pool.kept);
-        match read(&mut self.reader, io, kept, &self.ask, &mut batch, piece) {
+        let (reader, run) = (&mut self.reader, &mut self.run);
+        match read(reader, run, io, kept, &self.ask, &mut batch, piece) {
             Ok(()) => match put(pool, alloc, &batch) {
                 Ok(()) => Ok(self.go_on(batch, started, piece.len())),
                 Err(fault) => Err(self.give_up(pool, held, RecvFault::Pool(fault))),

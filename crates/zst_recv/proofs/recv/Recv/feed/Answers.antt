@@ -211,7 +211,7 @@ returns-in-Ok-put-2-clause-feeds g c = λ tight running text stage told alive re
     let due = due_some recv.ask text piece stage running fault read.taken.0 keeps.0 keeps.1 in
     let taken = (taken_of recv.ask running text piece (at_stage stage)).batch in
     let puts = c.in-Ok-put-2.ensures.puts tight c.args.pool.now.io.disk.now running taken told read.way (read.taken.1 due.0) in
-    stopped tight (g.D.Disk.state c.args.pool.now.io.disk.now) (g.D.Disk.state c.put-in-Err.new.pool.io.disk.now) c.put-in-Err.new.pool.kept (record recv { reader = c.read.new.reader; stage = c.replace.new.dest }) text piece stage running fault read.taken.0 keeps.0 keeps.1 puts
+    stopped tight (g.D.Disk.state c.args.pool.now.io.disk.now) (g.D.Disk.state c.put-in-Err.new.pool.io.disk.now) c.put-in-Err.new.pool.kept (record recv { reader = c.read.new.reader; run = c.read.new.run; stage = c.replace.new.dest }) text piece stage running fault read.taken.0 keeps.0 keeps.1 puts
 
 pub returns-in-Ok-put-clause-feeds : goal.returns-in-Ok-put-clause-feeds
 returns-in-Ok-put-clause-feeds g c = λ tight running text stage told alive rested tells is.
@@ -704,7 +704,7 @@ returns-in-Ok-put-2-clause-leaves g c =
     let pool = c.args.pool.now in
     let put = c.put-in-Err.new.pool in
     let recv = c.args.self.now in
-    let after : Recv = record recv { reader = c.read.new.reader; stage = c.replace.new.dest } in
+    let after : Recv = record recv { reader = c.read.new.reader; run = c.read.new.run; stage = c.replace.new.dest } in
     let fault = c.in-Err.fault in
     let e = c.in-Ok-put-2.ensures.commits in
     let keeps = sym c.keeps_before.ensures ∙ c.if-keeps_before.true in

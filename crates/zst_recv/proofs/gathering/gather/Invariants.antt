@@ -1,4 +1,4 @@
-use Rattle.std.proofs.Common.{◌≡◌, ◌+◌, ◌-◌, Bool, ◌^◌, List, ℕ, false, true, ◌++◌, []}
+use Rattle.std.proofs.Common.{◌≡◌, ◌+◌, ◌-◌, ◌<◌, Bool, ◌^◌, List, ℕ, false, true, []}
 use Rattle.std.specs.Prelude.{None}
 use Rattle.zst_block.specs.IoStates.{IsHonest, IsSparedBy, blocks_of, disk_of, io_of}
 use Rattle.zst_image.specs.Reads.{bound_of}
@@ -8,23 +8,23 @@ use Rattle.zst_pool.specs.Calls.{IsUnderWay}
 use Rattle.zst_reader.specs.StandsFor.{StandsFor, handed_of, pushed_of}
 use Rattle.zst_record.specs.Heads.{Covered}
 use Rattle.zst_stream.specs.Reading.{complete, reading}
-use Rattle.zst_recv.specs.Costs.{Spends}
 use Rattle.zst_recv.specs.Damage.{ComesFrom}
 use Rattle.zst_recv.specs.Faults.{Fills}
 use Rattle.zst_recv.specs.Plans.{RefusesOne}
+use Rattle.zst_recv.specs.PutOffWrites.{SpendsGathered, count_of}
 use Rattle.zst_recv.specs.ReceiveSteps.{Batch}
-use Rattle.zst_recv.specs.Stages.{IsBatch, StageFits, StandsBehind, TellsBefore, is_live, waits_at}
-use Rattle.zst_recv.proofs.DrainLemmas.{Draining}
-use Rattle.zst_recv.proofs.pieces.drain.Given as goal
+use Rattle.zst_recv.specs.Stages.{IsBatch, StageFits, StandsBehind, TellsBefore, has_partial, is_live, waits_at}
+use Rattle.zst_recv.proofs.Gatherings.{Gathering}
+use Rattle.zst_recv.proofs.gathering.gather.Given as goal
 
--- what was handed out so far was taken
+-- what was handed out so far was taken, but for the last records, which are put off
 abbrev pub invariant-records : goal.invariant-records
 invariant-records g l =
     record {
-      drained : (tight : Bool) (start : g.row.D.Denot) (running : Pool) (plain : Batch) (text : List ℕ) (handed : List Covered) → IsHonest l.io
+      gathered : (tight : Bool) (start : g.row.D.Denot) (running : Pool) (plain : Batch) (text : List ℕ) (handed : List Covered) → IsHonest l.io
           → IsUnderWay tight (g.D.Disk.state start) (disk_of l.fn.io) l.fn.io.space l.kept running → TellsBefore l.ask plain.stage l.kept.dir running
           → StandsFor l.fn.reader text handed → IsBatch (bound_of tight (running.number + 1)) (blocks_of l.fn.io) l.fn.batch plain
-          → Draining l.ask running l.reader text handed (IsBatch (bound_of tight (running.number + 1)) (blocks_of l.io) l.batch) plain;
+          → Gathering l.ask running l.run l.reader text handed (IsBatch (bound_of tight (running.number + 1)) (blocks_of l.io) l.batch) plain;
       stage : StageFits l.kept.dir l.ask.target l.batch.stage;
       idle : l.batch.taken ≡ false → l.batch ≡ l.fn.batch;
       waits : waits_at l.batch.stage ≡ true → l.batch ≡ l.fn.batch;
@@ -36,7 +36,8 @@ invariant-records g l =
       pushed : pushed_of l.reader ≡ pushed_of l.fn.reader;
       fills : Fills (io_of l.fn.io) (io_of l.io) None;
       comes : (text : List ℕ) (handed : List Covered) → StandsFor l.fn.reader text handed → IsHonest l.io → ComesFrom l.kept.dir l.ask text (IsSparedBy l.fn.io) (disk_of l.fn.io).size l.fn.batch.stage (IsSparedBy l.io) l.batch.stage;
-      spent : (text : List ℕ) (handed : List Covered) → StandsFor l.fn.reader text handed → (records : List Covered) × StandsFor l.reader text (handed ++ records) × Spends records l.fn.io.space l.io.space None;
+      spent : (text : List ℕ) (handed : List Covered) → StandsFor l.fn.reader text handed → SpendsGathered l.run l.reader text handed l.fn.io.space l.io.space None;
+      lives : 0 < count_of l.run → has_partial l.batch.stage ≡ true;
     }
 
 -- a stream has at most so many records
