@@ -1,9 +1,15 @@
 -- WRITE records of neighbouring blocks make what writes of the blocks make.
-use Rattle.std.proofs.Common.{◌≡◌, ℕ, ◌+◌, ◌*◌, ◌<◌, nat_lt, Bool, true, max, List, [], ◌∷◌, length, take, drop, refl, sym, ◌∙◌, ap, subst, arith, Option, Some, Result, Ok, Err}
+use Rattle.std.proofs.Common.{◌≡◌, ℕ, ◌+◌, ◌*◌, ◌/◌, ◌^◌, ◌<◌, ◌≤◌, nat_lt, Bool, true, max, List, [], ◌∷◌, length, take, drop, refl, sym, ◌∙◌, ap, subst, arith, Option, Some, Result, Ok, Err}
+use Rattle.std.proofs.lemmas.Bool.Decides.{nat_tests}
 use Rattle.std.proofs.lemmas.List.{take_all}
+use Rattle.std.proofs.lemmas.Nat.{mul-le}
 use Rattle.std.specs.Prelude.{None}
 use Rattle.zst_block.specs.declared.ptr.Ptr.{Ptr}
+use Rattle.zst_block.specs.IoCalls.{Works}
+use Rattle.zst_block.specs.IoStates.{IoState}
+use Rattle.zst_block.specs.declared.fault.BlockFault.{BlockFault}
 use Rattle.zst_block.specs.declared.fault.BlockFault.TheVariants as blocks
+use Rattle.zst_block.proofs.IoCallLemmas.{Works-more}
 use Rattle.zst_dnode.specs.declared.dnode.Dnode.{Dnode}
 use Rattle.zst_laws.specs.Dates.{AppliedIsState}
 use Rattle.zst_model.specs.declared.refusals.apply_fault.ApplyFault.{ApplyFault}
@@ -15,7 +21,7 @@ use Rattle.zst_model.specs.declared.states.item.Item.TheVariants.{At}
 use Rattle.zst_model.specs.sends.ReceivedRecords.{received}
 use Rattle.zst_model.specs.states.AppliedItems.{◌>>=◌, unless}
 use Rattle.zst_model.specs.states.DatedState.{DatedState, apply_dated, size_at}
-use Rattle.zst_model.specs.states.State.{Block, Data, Hole, Redacted, IsState, Object, end_of, index_bound, is_number}
+use Rattle.zst_model.specs.states.State.{Block, Data, Hole, Redacted, IsState, Object, end_of, index_bound, is_block_size, is_number, largest_block}
 use Rattle.zst_model.specs.pools.Step.{of_applying}
 use Rattle.zst_tree.specs.Indices.{Map}
 use Rattle.zst_tree.specs.Leaves.{with_leaf}
@@ -154,3 +160,50 @@ applies_both Holds definition other now is same (Err (faults.Block blocks.DiskFa
 
 pub so_many : (number k size i count : ℕ) (records : List (ℕ × ℕ)) (bytes : List ℕ) (snap now : DatedState) → length records ≡ count → blocks_written number k size (length records) i bytes snap ≡ Ok now → blocks_written number k size count i bytes snap ≡ Ok now
 so_many number k size i count records bytes snap now long is = subst (λ (n : ℕ). blocks_written number k size n i bytes snap ≡ Ok now) long is
+
+-- ---- a run of one record
+
+-- what one record makes, and no other behind it
+pub one_is : (number k size offset : ℕ) (one : ℕ × ℕ) (bytes : List ℕ) (snap now : DatedState) → length bytes ≡ 1 * size → run_received number k size offset (one ∷ []) bytes snap ≡ Ok now
+    → received number one.0 (At k (Write offset one.1 bytes)) snap ≡ Ok now
+unfolding run_received
+one_is number k size offset one bytes snap now long is =
+    let whole : take size bytes ≡ bytes = take_all size bytes (omega (arith, long)) in
+    by_answer (received number one.0 (At k (Write offset one.1 bytes)) snap) (subst (λ (b : List ℕ). (received number one.0 (At k (Write offset one.1 b)) snap >>= λ s. Ok s) ≡ Ok now) whole is)
+  where
+    by_answer : (r : Result DatedState Refusal) → (r >>= λ s. Ok s) ≡ Ok now → r ≡ Ok now
+    by_answer (Ok made) same = same
+    by_answer (Err refusal) same = absurd (cc same)
+
+-- a record that the definition takes is applied alike whatever its index is
+pub applies_alike : (index : ℕ) (Holds : DatedState → Type 0) (definition other : Result DatedState Refusal) (now : DatedState) → definition ≡ Ok now → other ≡ Ok now → (result : Result (Unit {0}) ObjFault) → Applies index Holds definition result → Applies 0 Holds other result
+applies_alike index Holds definition other now is same (Ok done) made = (made.0, same ∙ (sym is ∙ made.1), made.2)
+applies_alike index Holds definition other now is same (Err (faults.CannotApply fault)) refused = absurd (cc)
+applies_alike index Holds definition other now is same (Err (faults.Redacted object block)) refused = absurd refused
+applies_alike index Holds definition other now is same (Err (faults.Limit which limit)) refused = absurd (cc)
+applies_alike index Holds definition other now is same (Err (faults.Block (blocks.Full need largest))) made = (made.0, same ∙ (sym is ∙ made.1))
+applies_alike index Holds definition other now is same (Err (faults.Block (blocks.Damaged sector stated found))) never = never
+applies_alike index Holds definition other now is same (Err (faults.Block blocks.DiskFault)) fails = tt
+
+-- so a run of one is applied as its record is
+pub applies_one : (number k size i : ℕ) (records : List (ℕ × ℕ)) (bytes : List ℕ) (snap now : DatedState) (Holds : DatedState → Type 0) (result : Result (Unit {0}) ObjFault) → length records ≡ 1 → length bytes ≡ 1 * size
+    → run_received number k size (i * size) records bytes snap ≡ Ok now → ((one : ℕ × ℕ) → Applies one.0 Holds (received number one.0 (At k (Write (i * size) one.1 bytes)) snap) result)
+    → Applies 0 Holds (run_received number k size (i * size) records bytes snap) result
+applies_one number k size i [] bytes snap now Holds result few long is did = absurd (omega (arith, few))
+applies_one number k size i (one ∷ []) bytes snap now Holds result few long is did =
+    applies_alike one.0 Holds (received number one.0 (At k (Write (i * size) one.1 bytes)) snap) (run_received number k size (i * size) (one ∷ []) bytes snap) now (one_is number k size (i * size) one bytes snap now long is) is result (did one)
+applies_one number k size i (one ∷ (more ∷ rest)) bytes snap now Holds result few long is did = absurd (omega (arith, few))
+
+-- the place of a block of an object can be told
+pub place_fits : (size i : ℕ) → is_block_size size ≡ true → i < 2 ^ 43 → i * size < 2 ^ 64
+unfolding is_block_size largest_block
+place_fits size i is inside =
+    let small : size ≤ 131072 = grind (arith, nat_tests) in
+    omega (arith, mul-le i size (2 ^ 43) 131072 (omega (arith, inside)) small)
+
+-- and it takes no more than a run may
+pub one_works : {old new : IoState} {stop : Option BlockFault} (size count long : ℕ) → count ≡ 1 → long ≡ size → Works (640 + long / 512) (long / 512) old new stop → Works (count * (size / 512) + 640) (size / 512) old new stop
+one_works {old} {new} {stop} size count long alone whole works =
+    let own = subst (λ (n : ℕ). Works (640 + n / 512) (n / 512) old new stop) whole works in
+    let more : Works (1 * (size / 512) + 640) (size / 512) old new stop = Works-more (omega arith) own in
+    subst (λ (n : ℕ). Works (n * (size / 512) + 640) (size / 512) old new stop) (sym alone) more

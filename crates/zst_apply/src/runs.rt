@@ -14,13 +14,15 @@ ghost use Rattle.zst_apply.specs.AppliedRecords.{Applies, LimitOfIndex};
 ghost use Rattle.zst_apply.specs.AppliedRuns.{run_received};
 ghost use Rattle.zst_apply.specs.Damage.{apply_damage};
 
+use crate::blocks::write_block;
 use zst_block::Io;
 use zst_laws::applied_is_state;
 use zst_objset::{ObjFault, write_blocks};
 use zst_outside::Disk;
 use zst_tree::ObjSet;
 
-/// Applies WRITE records of neighbouring whole blocks, all below one node of the object's tree.
+/// Applies WRITE records of neighbouring whole blocks, all below one node of the object's tree. One alone is written as `apply`
+/// writes it, since the only block of an object needs no node.
 pub fn write_run<D: Disk>(
     io: &mut Io<'_, D>,
     set: &mut ObjSet,
@@ -42,11 +44,14 @@ pub fn write_run<D: Disk>(
     ensures tight { (records : List (ℕ × ℕ)) (thing : Object) (state : DatedState) → IsHonest io.new → SetIsTight (blocks_of io.old) set.old state → DatedUpTo number state
         → state.state object ≡ Some thing → thing.attr.block_size ≡ size → length records ≡ count
         → Applies 0 (SetIsTight (blocks_of io.new) set.new) (run_received number object size (index * size) records bytes.now state) result }
-    ensures keeps { KeepsSet LimitOfIndex (apply_damage (IsSparedBy io.old) (disk_of io.old).size set.old) (count * (size / 512) + 464) (size / 512)
+    ensures keeps { KeepsSet LimitOfIndex (apply_damage (IsSparedBy io.old) (disk_of io.old).size set.old) (count * (size / 512) + 640) (size / 512)
         (io_of io.old) (io_of io.new) set.old set.new result }
     ensures trees { IsHonest io.new → OnOk result (AreTreesWithin (IsSparedBy io.old) (disk_of io.old).size set.old (IsSparedBy io.new) set.new) }
     ensures levels { SetFits set.old → SetFits set.new }
 {
     applied_is_state();
+    if count == 1 {
+        return write_block(io, set, object, index * u64::from(size), bytes, number);
+    }
     write_blocks(set, io, object, index, size, count, bytes, number)
 }

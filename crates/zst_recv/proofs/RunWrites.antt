@@ -130,15 +130,15 @@ writes_needed need object size i bytes (c ∷ records) some writes (inl is) = in
 writes_needed need object size i bytes (c ∷ records) some writes (inr is) = inl (is ∙ sym (ap record_block writes.0.head_is))
 
 pub spends_run : (object size i count : ℕ) (bytes : List ℕ) (records : List Covered) {old new : IoState} {stop : Option BlockFault} → 0 < count → length records ≡ count → AreBlockWrites object size i bytes records
-    → Works (count * (size / 512) + 464) (size / 512) old new stop → Spends records old.space new.space stop
+    → Works (count * (size / 512) + 640) (size / 512) old new stop → Spends records old.space new.space stop
 spends_run object size i count bytes records {old} {new} some counts writes works =
     let cost = writes_cost object size i bytes records writes in
     let total : records_cost records ≡ count * (size / 512 + 640) = cost ∙ ap (λ (n : ℕ). n * (size / 512 + 640)) counts in
     let spread : count * (size / 512 + 640) ≡ count * (size / 512) + count * 640 = omega arith in
-    let less : count * (size / 512) + 464 ≤ records_cost records = omega (arith, total, spread, some) in
+    let less : count * (size / 512) + 640 ≤ records_cost records = omega (arith, total, spread, some) in
     let there : 0 < length records = omega (arith, counts, some) in
     record {
-      takes = takes_more (count * (size / 512) + 464) (records_cost records) old.space new.space less (takes_wider old.space new.space (λ need is. writes_needed need object size i bytes records there writes is) works.takes);
+      takes = takes_more (count * (size / 512) + 640) (records_cost records) old.space new.space less (takes_wider old.space new.space (λ need is. writes_needed need object size i bytes records there writes is) works.takes);
       before = λ need largest is. let full = works.full need largest is in omega (arith, full.before, less);
       needed = λ need largest is. writes_needed need object size i bytes records there writes (let full = works.full need largest is in full.needed);
     }
