@@ -1,5 +1,5 @@
 -- What the engine keeps, whatever the images are, and what an event does to it.
-use Rattle.std.specs.Prelude.{◌≡◌, ◌≢◌, ◌⊎◌, ◌==◌, ◌≤◌, IsTrue, ℕ, true, false, List, [], length, take, find, filter, map, ◌++◌, All, AllPairs, Some, Result, Err, IfOk}
+use Rattle.std.specs.Prelude.{◌≡◌, ◌≢◌, ◌⊎◌, ◌==◌, ◌≤◌, IsTrue, ℕ, true, false, List, [], length, take, find, filter, map, ◌++◌, All, AllPairs, Some, Result, Err}
 use Rattle.zst_outside.specs.Causes.{Rose}
 use Rattle.zst_outside.specs.declared.disk.Disk.{Ghosts}
 use Rattle.zst_space.specs.FreeSectors.{FreeSectors}
