@@ -4,9 +4,10 @@
 ghost use Rattle.std.specs.Prelude.{◌≡◌, []};
 ghost use Rattle.zst_file.specs.FileDisk.{history_of};
 
-use std::env;
+use std::env::{self, Env};
 use std::io::{self, Stderr, Stdin, Stdout, Write};
 use std::process::ExitCode;
+use std::str;
 use std::time::{SystemTime, UNIX_EPOCH};
 use zst_file::{FileDisk, Input, Output, Start, UnknownStart};
 use zst_outside::SureDisk;
@@ -17,6 +18,12 @@ const CANNOT_OPEN: u8 = 11;
 
 /// The status where no memory is left (E32).
 const NO_MEMORY: u8 = 10;
+
+/// The status where a word is none (E1).
+const NO_WORD: u8 = 2;
+
+/// No word that the system hands on is longer, in bytes (MAX_ARG_STRLEN of linux/binfmts.h).
+const LONGEST_WORD: usize = 131_072;
 
 /// The words of the command line, the time, and the standard streams, of which nothing was read or written yet: all that a
 /// run takes before its images are opened, so that want of memory for it leaves no image changed or made.
@@ -141,9 +148,33 @@ fn run_over_two(
     }
 }
 
+/// The place of the first word that isn't UTF-8, as E1 counts words: the program's name isn't one.
+fn place_of_no_text(rt: &HostRuntime) -> io::Result<usize> {
+    let mut bytes = vec![in rt.alloc(); 0; LONGEST_WORD]?;
+    for place in 0..LONGEST_WORD {
+        match rt.arg(place + 1, &mut bytes) {
+            Ok(count) if str::from_utf8(&bytes[..count]).is_err() => return Ok(place),
+            Ok(_) => {}
+            Err(_) => return Ok(place),
+        }
+    }
+    Ok(LONGEST_WORD)
+}
+
+/// Notes that a word isn't UTF-8, and so is none of a line (E1).
+fn no_text(rt: &HostRuntime) -> io::Result<ExitCode> {
+    let place = place_of_no_text(rt)?;
+    eprintln!(rt; "zst: E1 usage: {place}")?;
+    Ok(ExitCode::from(NO_WORD))
+}
+
 /// Runs the words of the command line.
 fn run_words(rt: &HostRuntime) -> io::Result<ExitCode> {
-    let mut asked = Invocation::new(rt)?;
+    let mut asked = match Invocation::new(rt) {
+        Ok(asked) => asked,
+        Err(error) if error.kind() == io::ErrorKind::InvalidData => return no_text(rt),
+        Err(error) => return Err(error),
+    };
     match opening_of(rt.alloc(), &asked.words)? {
         None => Ok(run_over_none(rt, &mut asked)),
         Some(Opening::One(path, mode)) => run_over_one(rt, &mut asked, path.as_str(), mode),
